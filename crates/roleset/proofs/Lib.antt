@@ -1,0 +1,3 @@
+pub mod BoundedLaws
+pub mod Laws
+mod Machine

@@ -1,0 +1,9 @@
+use Rattle.roleset.proofs.Machine.{zero-empty}
+use Rattle.roleset.proofs.is_empty.Statement.{statement}
+use Rattle.roleset.proofs.is_empty.Tie as tie
+
+returns : tie.Need-returns
+returns c = zero-empty (c .args .s) (c .fits .s .fits)
+
+pub is-empty-spec : {M : Type 1} → statement M
+is-empty-spec = tie.close (tie.spec returns)

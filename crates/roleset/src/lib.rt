@@ -1,0 +1,79 @@
+// A set of roles 0 to 63 in one `u64`: role r is a member where bit r is 1. A number beyond 63 is a member of no set, and adding or removing it changes nothing.
+ghost use mathlib.Core.Bool.{Bool, true, false, _&&_, _||_, not};
+ghost use mathlib.Core.Path.{_≡_};
+ghost use Prim.Native.Nat.{ℕ, _<_, _≤_};
+ghost use lib.Dec.{eqb, ltb};
+ghost use Rattle.roleset.specs.Roles.{has, with, without, union, both, minus, subset, isEmpty, count};
+ghost use Rattle.roleset.specs.Promises.{Made, Answers, Lowest};
+
+pub const ROLES: u16 = 64;
+
+// Is role r in s?
+pub fn has(s: u64, r: u16) -> bool
+    ensures { λ yes. ⌜ yes ≡ has s r ⌝ }
+{
+    if r < 64 { (s >> r) % 2 == 1 } else { false }
+}
+
+// s and the role r.
+pub fn with(s: u64, r: u16) -> u64
+    ensures { λ t. ⌜ Made t (with s r) (λ k. has s k || (eqb k r && ltb k 64)) ⌝ }
+{
+    if r < 64 { s | (1u64 << r) } else { s }
+}
+
+// s without the role r.
+pub fn without(s: u64, r: u16) -> u64
+    ensures { λ t. ⌜ Made t (without s r) (λ k. has s k && not (eqb k r)) ⌝ }
+{
+    if r < 64 { s ^ (s & (1u64 << r)) } else { s }
+}
+
+// The roles in a or in b.
+pub fn union(a: u64, b: u64) -> u64
+    ensures { λ t. ⌜ Made t (union a b) (λ k. has a k || has b k) ⌝ }
+{
+    a | b
+}
+
+// The roles in a and in b.
+pub fn both(a: u64, b: u64) -> u64
+    ensures { λ t. ⌜ Made t (both a b) (λ k. has a k && has b k) ⌝ }
+{
+    a & b
+}
+
+// The roles in a and not in b.
+pub fn minus(a: u64, b: u64) -> u64
+    ensures { λ t. ⌜ Made t (minus a b) (λ k. has a k && not (has b k)) ⌝ }
+{
+    a ^ (a & b)
+}
+
+// Is every role of a in b?
+pub fn subset(a: u64, b: u64) -> bool
+    ensures { λ yes. ⌜ Answers yes (subset a b) ((k : ℕ) → has a k ≡ true → has b k ≡ true) ⌝ }
+{
+    a & b == a
+}
+
+// Is no role in s?
+pub fn is_empty(s: u64) -> bool
+    ensures { λ yes. ⌜ Answers yes (isEmpty s) ((k : ℕ) → has s k ≡ false) ⌝ }
+{
+    s == 0
+}
+
+// How many roles are in s. Every count of roles goes through this function.
+pub fn count(s: u64) -> u16
+    ensures { λ n. ⌜ (n ≡ count s) × (n ≤ 64) ⌝ }
+{
+    u64::count_ones(s) as u16
+}
+
+// The lowest role of s, which has one.
+pub fn lowest(s: u64) -> u16
+    ensures { λ r. ⌜ (r ≤ 64) × ((isEmpty s ≡ false → Lowest s r) × (isEmpty s ≡ true → r ≡ 64)) ⌝ }
+{
+    u64::trailing_zeros(s) as u16
+}
