@@ -6,8 +6,6 @@ ghost use lib.Dec.{eqb, ltb};
 ghost use Rattle.roleset.specs.Roles.{has, with, without, union, both, minus, subset, isEmpty, count};
 ghost use Rattle.roleset.specs.Promises.{Made, Answers, Lowest};
 
-pub const ROLES: u16 = 64;
-
 // Is role r in s?
 pub fn has(s: u64, r: u16) -> bool
     ensures { λ yes. ⌜ yes ≡ has s r ⌝ }

@@ -1,0 +1,74 @@
+-- What the engine is about: users, roles, lines, assignments, grants, separation sets and sessions. Everything a promise says is said of this record.
+-- Assumes nothing.
+use mathlib.Core.Bool.{Bool, true, false}
+use Prim.Native.Nat.{ℕ}
+use lib.Dec.{eqb}
+
+-- an SSD or DSD set: "roles and a cardinality n". One that is not there has no roles and the cardinality 0
+pub record RoleSet : Type 0 where
+  pub there : Bool
+  pub card : ℕ
+  pub roles : ℕ
+
+-- a session: its owner and its active roles. One that is not live has the owner 0 and no roles
+pub record Session : Type 0 where
+  pub live : Bool
+  pub owner : ℕ
+  pub active : ℕ
+
+-- The policy and the sessions. A set of roles is a number, as in `roleset`.
+pub record Model : Type 0 where
+  -- the users and the roles that exist
+  pub users : ℕ → Bool
+  pub roles : ℕ
+  -- for each role, the roles directly below it
+  pub juniors : ℕ → ℕ
+  -- for each user, the roles assigned to it
+  pub assigned : ℕ → ℕ
+  -- for each permission, the roles that hold it
+  pub holders : ℕ → ℕ
+  -- the separation sets, by name
+  pub ssd : ℕ → RoleSet
+  pub dsd : ℕ → RoleSet
+  -- the sessions, by number
+  pub sessions : ℕ → Session
+
+abbrev pub noSet : RoleSet
+noSet = record { there = false; card = 0; roles = 0 }
+
+abbrev pub noSession : Session
+noSession = record { live = false; owner = 0; active = 0 }
+
+-- "starting empty"
+unfoldable pub empty : Model
+empty = record { users = λ u. false; roles = 0; juniors = λ s. 0; assigned = λ u. 0; holders = λ p. 0; ssd = λ n. noSet; dsd = λ n. noSet; sessions = λ s. noSession }
+
+-- ---- a table with one place changed, and a model with one part changed
+
+-- the value at place i is v, and every other place is as it was
+unfoldable pub put {ℓ} : {A : Type ℓ} → (ℕ → A) → ℕ → A → ℕ → A
+put table i v k = elim (eqb k i) [ true ↦ v | false ↦ table k ]
+
+abbrev pub withUsers : Model → (ℕ → Bool) → Model
+withUsers m x = record { users = x; roles = m .roles; juniors = m .juniors; assigned = m .assigned; holders = m .holders; ssd = m .ssd; dsd = m .dsd; sessions = m .sessions }
+
+abbrev pub withRoles : Model → ℕ → Model
+withRoles m x = record { users = m .users; roles = x; juniors = m .juniors; assigned = m .assigned; holders = m .holders; ssd = m .ssd; dsd = m .dsd; sessions = m .sessions }
+
+abbrev pub withJuniors : Model → (ℕ → ℕ) → Model
+withJuniors m x = record { users = m .users; roles = m .roles; juniors = x; assigned = m .assigned; holders = m .holders; ssd = m .ssd; dsd = m .dsd; sessions = m .sessions }
+
+abbrev pub withAssigned : Model → (ℕ → ℕ) → Model
+withAssigned m x = record { users = m .users; roles = m .roles; juniors = m .juniors; assigned = x; holders = m .holders; ssd = m .ssd; dsd = m .dsd; sessions = m .sessions }
+
+abbrev pub withHolders : Model → (ℕ → ℕ) → Model
+withHolders m x = record { users = m .users; roles = m .roles; juniors = m .juniors; assigned = m .assigned; holders = x; ssd = m .ssd; dsd = m .dsd; sessions = m .sessions }
+
+abbrev pub withSsd : Model → (ℕ → RoleSet) → Model
+withSsd m x = record { users = m .users; roles = m .roles; juniors = m .juniors; assigned = m .assigned; holders = m .holders; ssd = x; dsd = m .dsd; sessions = m .sessions }
+
+abbrev pub withDsd : Model → (ℕ → RoleSet) → Model
+withDsd m x = record { users = m .users; roles = m .roles; juniors = m .juniors; assigned = m .assigned; holders = m .holders; ssd = m .ssd; dsd = x; sessions = m .sessions }
+
+abbrev pub withSessions : Model → (ℕ → Session) → Model
+withSessions m x = record { users = m .users; roles = m .roles; juniors = m .juniors; assigned = m .assigned; holders = m .holders; ssd = m .ssd; dsd = m .dsd; sessions = x }

@@ -1,0 +1,57 @@
+-- `inherit`, `disinherit`. Assumes nothing.
+use mathlib.Core.Bool.{Bool, true, false, not, _||_}
+use mathlib.Core.List.{List, [], _∷_}
+use Prim.Native.Nat.{ℕ}
+use lib.Dec.{leb}
+use Rattle.roleset.specs.Bounded.{some}
+use Rattle.roleset.specs.Roles.{has, with, without, none}
+use Rattle.numbers.specs.Ranges.{mostLines}
+use Rattle.model.specs.Model.{Model, put, withJuniors}
+use Rattle.model.specs.Sheet.{Told, _when_, settle}
+use Rattle.model.specs.Words.{reached, staticBroken, shed, shedCut, linesStanding}
+use Rattle.model.specs.commands.Naming.{noRole, roleMissing}
+
+-- the line (senior, junior) stands; it no longer does
+unfoldable pub lined : Model → ℕ → ℕ → Model
+lined m senior junior = withJuniors m (put (m .juniors) senior (with (m .juniors senior) junior))
+
+unfoldable pub unlined : Model → ℕ → ℕ → Model
+unlined m senior junior = withJuniors m (put (m .juniors) senior (without (m .juniors senior) junior))
+
+-- the senior is the junior, or the junior inherits the senior
+abbrev pub wouldCircle : Model → ℕ → ℕ → Bool
+wouldCircle m senior junior = has (reached m (with none junior) .roles) senior
+
+-- a chain of more than 64 roles is met below some user's roles
+unfoldable pub usersCut : Model → Bool
+usersCut m = some 256 (λ u. reached m (m .assigned u) .cut)
+
+-- "`inherit senior junior`: 1, 2, 4 (this direct line stands), 6 (equal, or the junior inherits the senior), 10, 12. A line that a longer
+-- chain already implies is recorded all the same." The static rule is asked of every user
+unfoldable pub inherit : Model → ℕ → ℕ → Told
+inherit m senior junior =
+    settle
+    (1 when (noRole senior || noRole junior)
+    ∷ 2 when (roleMissing m senior || roleMissing m junior)
+    ∷ 4 when has (m .juniors senior) junior
+    ∷ 6 when wouldCircle m senior junior
+    ∷ 10 when some 256 (staticBroken (lined m senior junior))
+    ∷ 12 when leb mostLines (linesStanding m)
+    ∷ 13 when (reached m (with none junior) .cut || usersCut (lined m senior junior))
+    ∷ [])
+    m
+    []
+    (lined m senior junior)
+
+-- "`disinherit senior junior`: 1, 2, 5, then sheds."
+unfoldable pub disinherit : Model → ℕ → ℕ → Told
+disinherit m senior junior =
+    settle
+    (1 when (noRole senior || noRole junior)
+    ∷ 2 when (roleMissing m senior || roleMissing m junior)
+    ∷ 5 when not (has (m .juniors senior) junior)
+    ∷ 13 when shedCut (unlined m senior junior)
+    ∷ [])
+    m
+    []
+    (shed (unlined m senior junior))

@@ -1,0 +1,45 @@
+-- `user`, `role`, `nouser`, `norole`. Assumes nothing.
+use mathlib.Core.Bool.{Bool, true, false, not, _&&_, _||_}
+use mathlib.Core.List.{List, [], _∷_}
+use Prim.Native.Nat.{ℕ}
+use lib.Dec.{eqb}
+use Rattle.roleset.specs.Bounded.{some}
+use Rattle.roleset.specs.Roles.{has, with, without, none}
+use Rattle.model.specs.Model.{Model, RoleSet, Session, put, withUsers, withRoles, withAssigned, withSessions}
+use Rattle.model.specs.Model as model
+use Rattle.model.specs.Sheet.{Told, _when_, settle}
+use Rattle.model.specs.Words.{shed, shedCut}
+use Rattle.model.specs.commands.Naming.{noUser, noRole, userMissing, roleMissing}
+
+-- "`user u`, `role r` add; 1, 4."
+unfoldable pub user : Model → ℕ → Told
+user m u = settle (1 when noUser u ∷ 4 when m .users u ∷ []) m [] (withUsers m (put (m .users) u true))
+
+unfoldable pub role : Model → ℕ → Told
+role m r = settle (1 when noRole r ∷ 4 when has (m .roles) r ∷ []) m [] (withRoles m (with (m .roles) r))
+
+-- the session of the user u ends; another's stays
+unfoldable pub endedOf : ℕ → Session → Session
+endedOf u s = elim (s .live && eqb (s .owner) u) [ true ↦ model.noSession | false ↦ s ]
+
+-- "`nouser u`: ends the user's sessions, removes assignments; 1, 2."
+unfoldable pub allEnded : Model → ℕ → Model
+allEnded m u = withSessions m (λ k. endedOf u (m .sessions k))
+
+unfoldable pub withoutUser : Model → ℕ → Model
+withoutUser m u = withUsers (withAssigned (allEnded m u) (put (m .assigned) u none)) (put (m .users) u false)
+
+unfoldable pub nouser : Model → ℕ → Told
+nouser m u = settle (1 when noUser u ∷ 2 when userMissing m u ∷ []) m [] (withoutUser m u)
+
+-- "the role to be deleted stands in an SSD or DSD set"
+unfoldable pub inSet : (ℕ → RoleSet) → ℕ → Bool
+inSet sets r = some 16 (λ n. has (sets n .roles) r)
+
+-- the role's "assignments, grants and direct lines at either end" are gone, and the role itself
+unfoldable pub withoutRole : Model → ℕ → Model
+withoutRole m r = record { users = m .users; roles = without (m .roles) r; juniors = put (λ s. without (m .juniors s) r) r none; assigned = λ u. without (m .assigned u) r; holders = λ p. without (m .holders p) r; ssd = m .ssd; dsd = m .dsd; sessions = m .sessions }
+
+-- "`norole r`: removes its assignments, grants and direct lines at either end, then sheds; 1, 2, 8. Roles above and below it are not joined up."
+unfoldable pub norole : Model → ℕ → Told
+norole m r = settle (1 when noRole r ∷ 2 when roleMissing m r ∷ 8 when (inSet (m .ssd) r || inSet (m .dsd) r) ∷ 13 when shedCut (withoutRole m r) ∷ []) m [] (shed (withoutRole m r))

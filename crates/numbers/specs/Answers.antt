@@ -1,0 +1,67 @@
+-- The answer sheet: the paper's number of each answer, with the paper's sentence beside it, and the answer of each number.
+-- Assumes nothing.
+use mathlib.Core.List.{List, [], _∷_}
+use Prim.Native.Nat.{ℕ}
+use lib.ListN.{getD}
+use Rattle.numbers.specs.declared.Answer.{Answer}
+use Rattle.numbers.specs.declared.Answer.the-variants.{
+  Done,
+  BeyondRange,
+  Missing,
+  OtherOwner,
+  AlreadyThere,
+  NotThere,
+  InheritsItself,
+  BadCardinality,
+  StandsInSet,
+  NotAuthorised,
+  BreaksStatic,
+  BreaksDynamic,
+  TableFull,
+  ChainTooLong,
+  NotOfForm,
+  BufferShort,
+}
+
+abbrev pub numberOf : Answer → ℕ
+numberOf Done = 0  -- done
+numberOf BeyondRange = 1  -- a number is beyond its range (a cardinality never is)
+numberOf Missing = 2  -- a named user, role, session or set does not exist
+numberOf OtherOwner = 3  -- the session belongs to another user
+numberOf AlreadyThere = 4  -- the thing to be added is there already
+numberOf NotThere = 5  -- the line, assignment, grant, active role or member to be removed is not there
+numberOf InheritsItself = 6  -- a role would inherit itself
+numberOf BadCardinality = 7  -- a cardinality would be below 2 or above its set's size
+numberOf StandsInSet = 8  -- the role to be deleted stands in an SSD or DSD set
+numberOf NotAuthorised = 9  -- the owner is not authorised for an asked role
+numberOf BreaksStatic = 10  -- an SSD rule would be broken for some user
+numberOf BreaksDynamic = 11  -- a DSD rule would be broken in some session
+numberOf TableFull = 12  -- the table that would grow is full
+numberOf ChainTooLong = 13  -- a chain of inheritance of more than 64 roles is met
+numberOf NotOfForm = 14  -- the text, list or file is not of the form
+numberOf BufferShort = 15  -- the lent output buffer is shorter than the whole result
+
+-- the answers in the order of their numbers
+abbrev pub sheet : List Answer
+sheet =
+    Done ∷
+    BeyondRange ∷
+    Missing ∷
+    OtherOwner ∷
+    AlreadyThere ∷
+    NotThere ∷
+    InheritsItself ∷
+    BadCardinality ∷
+    StandsInSet ∷
+    NotAuthorised ∷
+    BreaksStatic ∷
+    BreaksDynamic ∷
+    TableFull ∷
+    ChainTooLong ∷
+    NotOfForm ∷
+    BufferShort ∷
+    []
+
+-- the answer with this number; a number that is not on the sheet is not of the form
+abbrev pub answerOf : ℕ → Answer
+answerOf n = getD sheet n NotOfForm
