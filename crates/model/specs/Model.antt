@@ -4,17 +4,13 @@ use mathlib.Core.Bool.{Bool, true, false}
 use Prim.Native.Nat.{ℕ}
 use lib.Dec.{eqb}
 
--- an SSD or DSD set: "roles and a cardinality n". One that is not there has no roles and the cardinality 0
-pub record RoleSet : Type 0 where
-  pub there : Bool
-  pub card : ℕ
-  pub roles : ℕ
+-- an SSD or DSD set: "roles and a cardinality n", and whether it is there
+abbrev pub RoleSet : Type 0
+RoleSet = Rattle.model.specs.declared.RoleSet.RoleSet
 
--- a session: its owner and its active roles. One that is not live has the owner 0 and no roles
-pub record Session : Type 0 where
-  pub live : Bool
-  pub owner : ℕ
-  pub active : ℕ
+-- a session: whether it is live, its owner and its active roles
+abbrev pub Session : Type 0
+Session = Rattle.model.specs.declared.SessionRecord.SessionRecord
 
 -- The policy and the sessions. A set of roles is a number, as in `roleset`.
 pub record Model : Type 0 where
@@ -33,6 +29,7 @@ pub record Model : Type 0 where
   -- the sessions, by number
   pub sessions : ℕ → Session
 
+-- a set that is not there, and a session that is not live
 abbrev pub noSet : RoleSet
 noSet = record { there = false; card = 0; roles = 0 }
 

@@ -5,6 +5,7 @@ use mathlib.Core.Path.{_≡_, refl, sym, ap, ap₂, _∙_, subst}
 use Prim.Native.Nat.{ℕ, zero, suc, _+_, _*_, _≤_, _<_}
 use native.Mathlib.Omega.{arith}
 use native.Mathlib.Decide.{decLt}
+use native.Mathlib.Numerals.{add-one}
 use Rattle.roleset.specs.Bounded.{bit, some, every, tally, total}
 
 -- ---- yes and no
@@ -208,3 +209,40 @@ pub total-le : (n c : ℕ) (f : ℕ → ℕ) → ((k : ℕ) → k < n → f k �
 unfolding total
 total-le zero c f h = omega arith
 total-le (suc n) c f h = omega (arith, h n (omega arith), total-le n c f (λ k l. h k (omega arith)))
+
+-- ---- a loop that counts up: what is known of the k below n, and of n, gives what is known of those below n + 1
+
+pub some-more : (n : ℕ) (f : ℕ → Bool) → some n f ≡ false → f n ≡ false → some (n + 1) f ≡ false
+unfolding some
+some-more n f p q = rw (add-one n, q) p
+
+pub some-step : (n : ℕ) (f : ℕ → Bool) → some (n + 1) f ≡ (f n || some n f)
+unfolding some
+some-step n f = rw (add-one n)
+
+pub tally-step : (n : ℕ) (f : ℕ → Bool) → tally (n + 1) f ≡ bit (f n) + tally n f
+unfolding tally
+tally-step n f = rw (add-one n)
+
+pub total-step : (n : ℕ) (f : ℕ → ℕ) → total (n + 1) f ≡ f n + total n f
+unfolding total
+total-step n f = rw (add-one n)
+
+-- before the first turn
+pub some-start : (f : ℕ → Bool) → some 0 f ≡ false
+unfolding some
+some-start f = refl
+
+pub total-start : (f : ℕ → ℕ) → total 0 f ≡ 0
+unfolding total
+total-start f = refl
+
+-- a sum so far is at most the whole
+pub total-part : (n k : ℕ) (f : ℕ → ℕ) → k ≤ n → total k f ≤ total n f
+unfolding total
+total-part zero k f h = let e : k ≡ 0 = omega arith in rw e (omega arith)
+total-part (suc n) k f h = go (decLt k (suc n)) (total-part n k f)
+  where
+    go : Dec (k < suc n) → (k ≤ n → total k f ≤ total n f) → total k f ≤ f n + total n f
+    go (yes p) ih = omega (arith, ih (omega arith))
+    go (no p) ih = let e : k ≡ suc n = omega arith in rw e (omega arith)

@@ -1,0 +1,48 @@
+use borrow.Author.Needs.{needs}
+use mathlib.Core.Bool.{false}
+use mathlib.Core.Path.{_≡_, sym, _∙_}
+use Prim.Native.Nat.{_≤_, _-_}
+use native.Mathlib.Omega.{arith}
+use lib.ListN.{length}
+use Rattle.roleset.specs.Bounded.{some}
+use Rattle.roleset.proofs.BoundedLaws.{some-start, some-more, some-intro}
+use Rattle.hierarchy.specs.Lines.{tableOf}
+use Rattle.model.specs.Words.{breaks}
+use Rattle.separation.proofs.some_breaks.Statement.{statement}
+use Rattle.separation.proofs.some_breaks.Tie as tie
+
+abbrev Inv-loop : tie.InvT-loop
+Inv-loop set table k₀ k = (k ≤ length table) × (some k (λ j. breaks set (tableOf table j)) ≡ false)
+
+abbrev μ-loop : tie.MeasureT-loop
+μ-loop set table k₀ k = length table - k
+
+loop-holds : tie.Need-loop-holds Inv-loop μ-loop
+loop-holds c = (search needs, some-start _)
+
+mul : tie.Need-mul-breaks Inv-loop μ-loop
+mul c = search needs
+
+read : tie.Need-shared-slice-read-breaks Inv-loop μ-loop
+read c = search needs
+
+requires : tie.Need-breaks-requires Inv-loop μ-loop
+requires c κs = search needs
+
+returns : tie.Need-returns Inv-loop μ-loop
+returns c = sym (some-intro _ _ (c .before .before .before .before .loop .k) (c .before .before .before .loop-test .taken) (sym (c .before .breaks .ensures) ∙ c .if1 .taken))
+
+add-k : tie.Need-add-k Inv-loop μ-loop
+add-k c = search needs
+
+loop-less : tie.Need-loop-less Inv-loop μ-loop
+loop-less c = search needs
+
+loop-again : tie.Need-loop-again Inv-loop μ-loop
+loop-again c = (search needs, some-more _ _ (c .before .before .before .before .loop .inv .1) (sym (c .before .breaks .ensures) ∙ c .if1 .left))
+
+returns-2 : tie.Need-returns-2 Inv-loop μ-loop
+returns-2 c = let whole : c .before .loop .k ≡ length (c .before .before .before .args .table .now) = omega arith in sym (rw whole at (c .before .loop .inv .1))
+
+pub some-breaks-spec : {M : Type 1} → statement M
+some-breaks-spec = tie.close (tie.spec Inv-loop μ-loop loop-holds mul read requires returns add-k loop-less loop-again returns-2)
