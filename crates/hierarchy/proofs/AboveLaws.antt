@@ -1,0 +1,90 @@
+-- The lines turned round, and the roles at or above one. Assumes nothing.
+use mathlib.Core.Bool.{true, false, not}
+use mathlib.Core.Logic.{inl, inr}
+use mathlib.Core.Path.{_≡_, sym, _∙_}
+use Prim.Native.Nat.{ℕ, _<_}
+use Rattle.roleset.specs.Roles.{has, none, with, both, isEmpty}
+use Rattle.roleset.proofs.BoundedLaws.{and-left, and-right, and-both, not-yes, yes-not, agree}
+use Rattle.roleset.proofs.Laws.{has-those, those-member, has-both, isEmpty-false}
+use Rattle.hierarchy.specs.Lines.{line, Inherits, Acyclic, Small, AtOrAbove}
+use Rattle.hierarchy.specs.Lines.Inherits.{one, more}
+use Rattle.hierarchy.specs.Walks.{reach, turned, atOrAbove}
+use Rattle.hierarchy.proofs.InheritsLaws.{trans}
+use Rattle.hierarchy.proofs.WalkLaws.{not-empty, reach-sound, reach-complete, under-one, one-under}
+use Rattle.hierarchy.proofs.CircleLaws.{never-cut}
+
+-- A line is turned round to the line from its junior to its senior.
+pub line-turned : (lines : ℕ → ℕ) (s j : ℕ) → s < 64 → line (turned lines) j s ≡ line lines s j
+unfolding turned
+line-turned lines s j l = has-those (λ s. line lines s j) s l
+
+-- there is no other among the turned lines
+turned-line : (lines : ℕ → ℕ) (s j : ℕ) → line (turned lines) j s ≡ true → line lines s j ≡ true
+unfolding turned
+turned-line lines s j h = those-member (λ s. line lines s j) s h .1
+
+module _ (lines : ℕ → ℕ) (small : Small lines) where
+  line-turns : (s j : ℕ) → line lines s j ≡ true → line (turned lines) j s ≡ true
+  line-turns s j h = line-turned lines s j (small .within s j h .0) ∙ h
+
+  -- The turned lines join roles 0 to 63 too.
+  pub turned-within : Small (turned lines)
+  turned-within = record { within = λ j s h. let l = small .within s j (turned-line lines s j h) in (l .1, l .0) }
+
+  -- Over the turned lines a role inherits what inherits it over the lines.
+  pub turn-inherits : {s j : ℕ} → Inherits lines s j → Inherits (turned lines) j s
+  turn-inherits {s} {j} (one p) = one (line-turns s j p)
+  turn-inherits {s} (more {k = k} p i) = trans (turn-inherits i) (one (line-turns s k p))
+
+  -- It inherits nothing else there,
+  pub turned-inherits : {s j : ℕ} → Inherits (turned lines) j s → Inherits lines s j
+  turned-inherits {s} {j} (one p) = one (turned-line lines s j p)
+  turned-inherits {s} {j} (more {k = k} p i) = trans (turned-inherits i) (one (turned-line lines k j p))
+
+  -- so turning makes no circle.
+  pub turned-acyclic : Acyclic lines → Acyclic (turned lines)
+  turned-acyclic a = record { never = λ r c. a .never r (turned-inherits c) }
+
+  turn-at : {s j : ℕ} → AtOrAbove lines s j → AtOrAbove (turned lines) j s
+  turn-at (inl e) = inl (sym e)
+  turn-at (inr i) = inr (turn-inherits i)
+
+  turned-at : {s j : ℕ} → AtOrAbove (turned lines) j s → AtOrAbove lines s j
+  turned-at (inl e) = inl (sym e)
+  turned-at (inr i) = inr (turned-inherits i)
+
+  -- The roles at or above r are r itself and roles that inherit it; also where the walk is cut off.
+  pub above-sound : (r s : ℕ) → has (atOrAbove lines r .roles) s ≡ true → AtOrAbove lines s r
+  unfolding atOrAbove
+  above-sound r s h = turned-at (under-one r s (reach-sound (turned lines) (with none r) s h))
+
+  -- Unless it is cut off, they are all of these.
+  pub above-complete : (r s : ℕ) → r < 64 → atOrAbove lines r .cut ≡ false → AtOrAbove lines s r → has (atOrAbove lines r .roles) s ≡ true
+  unfolding atOrAbove
+  above-complete r s l e a = reach-complete (turned lines) (with none r) turned-within e s (one-under r s l (turn-at a))
+
+  -- Where no role inherits itself, it never is.
+  pub above-never-cut : Acyclic lines → (r : ℕ) → atOrAbove lines r .cut ≡ false
+  unfolding atOrAbove
+  above-never-cut a r = never-cut (turned lines) (turned-acyclic a) (with none r)
+
+  -- A walk from a set meets r exactly where the set and the roles at or above r have a role in common.
+  pub reach-above : (from r : ℕ) → r < 64 → reach lines from .cut ≡ false → atOrAbove lines r .cut ≡ false → has (reach lines from .roles) r ≡ not (isEmpty (both from (atOrAbove lines r .roles)))
+  reach-above from r l down-whole up-whole = agree (has (reach lines from .roles) r) (not (isEmpty common)) to back
+    where
+      above : ℕ
+      above = atOrAbove lines r .roles
+
+      common : ℕ
+      common = both from above
+
+      to : has (reach lines from .roles) r ≡ true → not (isEmpty common) ≡ true
+      to h =
+          let u = reach-sound lines from r h in
+          not-yes (isEmpty common) (not-empty common (u .role) (u .small) (has-both from above (u .role) (u .small) ∙ and-both (has from (u .role)) (has above (u .role)) (u .member) (above-complete r (u .role) l up-whole (u .down))))
+
+      back : not (isEmpty common) ≡ true → has (reach lines from .roles) r ≡ true
+      back h =
+          let m = isEmpty-false common (yes-not (isEmpty common) h) in
+          let p = sym (has-both from above (m .0) (m .1)) ∙ m .2 in
+          reach-complete lines from small down-whole r (record { role = m .0; small = m .1; member = and-left (has from (m .0)) (has above (m .0)) p; down = above-sound r (m .0) (and-right (has from (m .0)) (has above (m .0)) p) })
