@@ -5,7 +5,8 @@ use Prim.Native.Nat.{ℕ}
 use lib.ListN.{getD}
 use Rattle.hierarchy.specs.Lines.{tableOf}
 use Rattle.numbers.specs.Answers.{numberOf}
-use Rattle.model.specs.Model.{Model, RoleSet, Session, noSet, noSession}
+use Rattle.model.specs.Model.{Model, Session, noSession}
+use Rattle.separation.specs.Tables.{setsIn}
 use Rattle.model.specs.Sheet.{Told}
 use Rattle.policy.specs.declared.State.{State}
 use Rattle.policy.specs.declared.Outcome.{Outcome}
@@ -13,9 +14,6 @@ use Rattle.policy.specs.declared.Outcome.{Outcome}
 -- the tables that arrays hold; past an array's end there is nothing
 abbrev pub flags : List Bool → ℕ → Bool
 flags l k = getD l k false
-
-abbrev pub setsIn : List RoleSet → ℕ → RoleSet
-setsIn l n = getD l n noSet
 
 abbrev pub sessionsIn : List Session → ℕ → Session
 sessionsIn l s = getD l s noSession

@@ -1,11 +1,17 @@
 // The engine's state: arrays of numbers, by value. What a state means is the model `view` (specs/View).
 ghost use mathlib.Core.Path.{_≡_};
+ghost use lib.Dec.{leb};
+ghost use lib.ListN.{length};
+ghost use Rattle.roleset.specs.Bounded.{total};
+ghost use Rattle.roleset.specs.Roles.{count};
+ghost use Rattle.hierarchy.specs.Lines.{tableOf};
 ghost use Rattle.model.specs.Model.{empty};
-ghost use Rattle.model.specs.Sheet.{settle};
-ghost use Rattle.policy.specs.View.{view, seen};
+ghost use Rattle.policy.specs.View.{view};
 use model::RoleSet;
 use model::SessionRecord;
 use numbers::Answer;
+
+pub mod naming;
 
 pub struct State {
     // the users and the roles that exist
@@ -54,4 +60,20 @@ pub fn empty() -> State
         dsd: [none; 16],
         sessions: [closed; 64],
     }
+}
+
+// Do as many members as `most`, or more, stand in the sets of a table?
+pub fn full(table: &[u64], most: u16) -> bool
+    ensures { λ b. ⌜ b ≡ leb most (total (length (now (table .entry))) (λ k. count (tableOf (now (table .entry)) k))) ⌝ }
+{
+    let mut n: u32 = 0;
+    let mut k: usize = 0;
+    while k < table.len() {
+        if most as u32 <= n {
+            return true;
+        }
+        n += roleset::count(table[k]) as u32;
+        k += 1;
+    }
+    most as u32 <= n
 }

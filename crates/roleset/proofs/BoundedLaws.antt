@@ -246,3 +246,11 @@ total-part (suc n) k f h = go (decLt k (suc n)) (total-part n k f)
     go : Dec (k < suc n) → (k ≤ n → total k f ≤ total n f) → total k f ≤ f n + total n f
     go (yes p) ih = omega (arith, ih (omega arith))
     go (no p) ih = let e : k ≡ suc n = omega arith in rw e (omega arith)
+
+pub total-more : (k n x : ℕ) (f : ℕ → ℕ) → n ≡ total k f → x ≡ f k → n + x ≡ total (k + 1) f
+total-more k n x f p q = omega (arith, total-step k f)
+
+-- where neither of two holds
+pub or-clear : (a b : Bool) → (a || b) ≡ false → (a ≡ false) × (b ≡ false)
+or-clear true b h = clash true refl h
+or-clear false b h = (refl, h)

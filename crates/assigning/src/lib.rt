@@ -1,0 +1,42 @@
+// The commands `assign`, `deassign`, `grant` and `revoke`.
+ghost use mathlib.Core.Path.{_≡_};
+ghost use Rattle.model.specs.commands.Assigning.{assign, deassign, grant, revoke};
+ghost use Rattle.policy.specs.View.{view, seen};
+use numbers::Answer;
+use numbers::Role;
+use numbers::User;
+use policy::Outcome;
+use policy::State;
+
+// The role is assigned to the user; 1, 2, 4, 10, 12.
+pub fn assign(s: State, u: User, r: Role) -> Outcome
+    ensures { λ o. ⌜ seen o ≡ assign (view s) (u .number) (r .number) ⌝ }
+{
+    if policy::naming::either(numbers::user_beyond(u), numbers::role_beyond(r)) {
+        return Outcome { answer: Answer::BeyondRange, state: s };
+    }
+    let users = s.users;
+    if policy::naming::either(!policy::naming::has_user(users, u), !roleset::has(s.roles, r.number)) {
+        return Outcome { answer: Answer::Missing, state: s };
+    }
+    let at = u.number as usize;
+    let old = s.assigned[at];
+    if roleset::has(old, r.number) {
+        return Outcome { answer: Answer::AlreadyThere, state: s };
+    }
+    let new = roleset::with(old, r.number);
+    let walk = hierarchy::reach(&s.juniors, new);
+    let ssd = s.ssd;
+    if separation::breaks_some(ssd, walk.roles) {
+        return Outcome { answer: Answer::BreaksStatic, state: s };
+    }
+    if policy::full(&s.assigned, 2048) {
+        return Outcome { answer: Answer::TableFull, state: s };
+    }
+    if walk.cut {
+        return Outcome { answer: Answer::ChainTooLong, state: s };
+    }
+    let mut after = s;
+    after.assigned[at] = new;
+    Outcome { answer: Answer::Done, state: after }
+}

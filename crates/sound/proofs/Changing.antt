@@ -1,0 +1,170 @@
+-- One part of a sound model changed: what has to be known of the new part for the model to stay sound. Assumes nothing.
+use mathlib.Core.Bool.{Bool, true, false, not, _&&_, _||_}
+use mathlib.Core.Path.{_≡_, refl, sym, ap, subst, _∙_}
+use Prim.Native.Nat.{ℕ, zero, suc, _+_, _^_, _≤_, _<_}
+use native.Mathlib.Omega.{arith}
+use Rattle.roleset.specs.Bounded.{total}
+use Rattle.roleset.specs.Roles.{has, with, count}
+use Rattle.roleset.proofs.BoundedLaws.{clash, total-le, some-none}
+use Rattle.roleset.proofs.Laws.{has-none, count-none, with-small}
+use Rattle.hierarchy.specs.Lines.{line, Acyclic, Inherits}
+use Rattle.hierarchy.specs.Lines.Inherits.{one, more}
+use Rattle.hierarchy.specs.Walks.{reach}
+use Rattle.hierarchy.proofs.InheritsLaws.{remove-acyclic}
+use Rattle.hierarchy.proofs.WalkLaws.{reach-grows}
+use Rattle.model.specs.Model.{Model, RoleSet, Session, empty, noSet, noSession, withUsers, withRoles, withJuniors, withAssigned, withHolders, withSsd, withDsd, withSessions}
+use Rattle.model.specs.Words.{authorised, breaks, breaksSome, counted, staticBroken, dynamicBroken, assignments, grants, linesStanding}
+use Rattle.model.specs.Sound.{Existing, SetShape, SessionShape, Shape, Limits, Rules, Sound}
+use Rattle.model.specs.commands.Sets.{setsOf, withSets}
+use Rattle.model.specs.declared.Kind.{Kind}
+use Rattle.model.specs.declared.Kind.the-variants.{Static, Dynamic}
+use Rattle.sound.proofs.Members.{Within, with-old, no-fuller}
+use Rattle.sound.proofs.Breaking.{some-breaks-fewer, none-breaks}
+use Rattle.sound.proofs.Carried.{existing-none, existing-in, set-in, session-in, role-small}
+
+-- ---- the shape of a model whose users and roles are those of another, or more
+
+-- what the tables of m′ name exists in m
+pub record Named (m m′ : Model) : Type 0 where
+  pub seniors : (s j : ℕ) → line (m′ .juniors) s j ≡ true → has (m .roles) s ≡ true
+  pub juniors : (s : ℕ) → Existing m (m′ .juniors s)
+  pub assignees : (u r : ℕ) → has (m′ .assigned u) r ≡ true → m .users u ≡ true
+  pub assigned : (u : ℕ) → Existing m (m′ .assigned u)
+  pub permissions : (p r : ℕ) → has (m′ .holders p) r ≡ true → p < 4096
+  pub holders : (p : ℕ) → Existing m (m′ .holders p)
+  pub ssd : (n : ℕ) → SetShape m n (m′ .ssd n)
+  pub dsd : (n : ℕ) → SetShape m n (m′ .dsd n)
+  pub sessions : (s : ℕ) → SessionShape m s (m′ .sessions s)
+
+-- Where it does, and the users and roles of m′ are those of m or more, within their ranges, m′ has its shape.
+pub named-shape : (m m′ : Model) → ((r : ℕ) → has (m .roles) r ≡ true → has (m′ .roles) r ≡ true) → ((u : ℕ) → m .users u ≡ true → m′ .users u ≡ true) → m′ .roles < 2 ^ 64 → ((u : ℕ) → m′ .users u ≡ true → u < 256) → Named m m′ → Shape m′
+named-shape m m′ roles users small range x =
+    record {
+      users = range;
+      roles = small;
+      seniors = λ s j e. roles s (x .seniors s j e);
+      juniors = λ s. existing-in m m′ roles (x .juniors s);
+      assignees = λ u r e. users u (x .assignees u r e);
+      assigned = λ u. existing-in m m′ roles (x .assigned u);
+      permissions = x .permissions;
+      holders = λ p. existing-in m m′ roles (x .holders p);
+      ssd = λ n. set-in m m′ roles (x .ssd n);
+      dsd = λ n. set-in m m′ roles (x .dsd n);
+      sessions = λ s. session-in m m′ roles users (x .sessions s);
+    }
+
+-- With the same users and roles, what is named exists as it did.
+same-shape : (m m′ : Model) (x : Shape m) → m .users ≡ m′ .users → m .roles ≡ m′ .roles → Named m m′ → Shape m′
+same-shape m m′ x users roles n =
+    named-shape m m′ (λ r e. sym (ap (λ (k : ℕ). has k r) roles) ∙ e) (λ u e. sym (ap (λ (f : ℕ → Bool). f u) users) ∙ e) (subst (λ (k : ℕ). k < 2 ^ 64) roles (x .roles)) (λ u e. x .users u (ap (λ (f : ℕ → Bool). f u) users ∙ e)) n
+
+-- the roles that a set of a kind counts: those that user i is authorised for, or those that session i has active
+abbrev pub held : Kind → Model → ℕ → ℕ
+held Static m u = authorised m u
+held Dynamic m s = counted m s
+
+-- the sets of m, and these other parts
+abbrev pub shrunk : Model → (ℕ → Bool) → ℕ → (ℕ → ℕ) → (ℕ → ℕ) → (ℕ → ℕ) → (ℕ → Session) → Model
+shrunk m users roles juniors assigned holders sessions = record { users = users; roles = roles; juniors = juniors; assigned = assigned; holders = holders; ssd = m .ssd; dsd = m .dsd; sessions = sessions }
+
+-- ---- a part that grows, or is changed at some places
+
+module _ (m : Model) (s : Sound m) where
+  -- More users and roles, all of them within their ranges.
+  pub names-changed : (users : ℕ → Bool) (roles : ℕ) → ((u : ℕ) → users u ≡ true → u < 256) → ((u : ℕ) → m .users u ≡ true → users u ≡ true) → roles < 2 ^ 64 → ((r : ℕ) → has (m .roles) r ≡ true → has roles r ≡ true) → Sound (withRoles (withUsers m users) roles)
+  unfolding staticBroken dynamicBroken assignments grants linesStanding
+  names-changed users roles range more-users small more-roles =
+      let x = s .shape in
+      record {
+        shape = named-shape m (withRoles (withUsers m users) roles) more-roles more-users small range (record { seniors = x .seniors; juniors = x .juniors; assignees = x .assignees; assigned = x .assigned; permissions = x .permissions; holders = x .holders; ssd = x .ssd; dsd = x .dsd; sessions = x .sessions });
+        limits = record { assigned = s .limits .assigned; granted = s .limits .granted; lined = s .limits .lined };
+        rules = record { acyclic = s .rules .acyclic; active = s .rules .active; static = s .rules .static; dynamic = s .rules .dynamic };
+      }
+
+  -- More lines, without a circle, that break the static rule for no user.
+  pub lines-changed : (new : ℕ → ℕ) → ((a j : ℕ) → line (m .juniors) a j ≡ true → line new a j ≡ true) → ((a j : ℕ) → line new a j ≡ true → has (m .roles) a ≡ true) → ((a : ℕ) → Existing m (new a)) → total 64 (λ a. count (new a)) ≤ 512 → Acyclic new → ((u : ℕ) → staticBroken (withJuniors m new) u ≡ false) → Sound (withJuniors m new)
+  unfolding dynamicBroken assignments grants linesStanding
+  lines-changed new grown seniors existing few acyclic unbroken =
+      let x = s .shape in
+      record {
+        shape = same-shape m (withJuniors m new) x refl refl (record { seniors = seniors; juniors = existing; assignees = x .assignees; assigned = x .assigned; permissions = x .permissions; holders = x .holders; ssd = x .ssd; dsd = x .dsd; sessions = x .sessions });
+        limits = record { assigned = s .limits .assigned; granted = s .limits .granted; lined = few };
+        rules = record { acyclic = acyclic; active = λ k r e. let from = m .assigned (m .sessions k .owner) in reach-grows (m .juniors) new from from (λ a j la lj. grown a j) (λ a la h. h) r (s .rules .active k r e); static = unbroken; dynamic = s .rules .dynamic };
+      }
+
+  -- More assignments, of existing roles to existing users, that break the static rule for no user.
+  pub assigned-changed : (new : ℕ → ℕ) → ((u r : ℕ) → has (m .assigned u) r ≡ true → has (new u) r ≡ true) → ((u r : ℕ) → has (new u) r ≡ true → m .users u ≡ true) → ((u : ℕ) → Existing m (new u)) → total 256 (λ u. count (new u)) ≤ 2048 → ((u : ℕ) → staticBroken (withAssigned m new) u ≡ false) → Sound (withAssigned m new)
+  unfolding dynamicBroken assignments grants linesStanding
+  assigned-changed new grown assignees existing few unbroken =
+      let x = s .shape in
+      record {
+        shape = same-shape m (withAssigned m new) x refl refl (record { seniors = x .seniors; juniors = x .juniors; assignees = assignees; assigned = existing; permissions = x .permissions; holders = x .holders; ssd = x .ssd; dsd = x .dsd; sessions = x .sessions });
+        limits = record { assigned = few; granted = s .limits .granted; lined = s .limits .lined };
+        rules = record { acyclic = s .rules .acyclic; active = λ k r e. let u = m .sessions k .owner in reach-grows (m .juniors) (m .juniors) (m .assigned u) (new u) (λ a j la lj h. h) (λ a la. grown u a) r (s .rules .active k r e); static = unbroken; dynamic = s .rules .dynamic };
+      }
+
+  -- Other grants, of permissions 0 to 4,095 to existing roles.
+  pub holders-changed : (new : ℕ → ℕ) → ((p r : ℕ) → has (new p) r ≡ true → p < 4096) → ((p : ℕ) → Existing m (new p)) → total 4096 (λ p. count (new p)) ≤ 2048 → Sound (withHolders m new)
+  unfolding staticBroken dynamicBroken assignments grants linesStanding
+  holders-changed new permissions existing few =
+      let x = s .shape in
+      record {
+        shape = same-shape m (withHolders m new) x refl refl (record { seniors = x .seniors; juniors = x .juniors; assignees = x .assignees; assigned = x .assigned; permissions = permissions; holders = existing; ssd = x .ssd; dsd = x .dsd; sessions = x .sessions });
+        limits = record { assigned = s .limits .assigned; granted = few; lined = s .limits .lined };
+        rules = record { acyclic = s .rules .acyclic; active = s .rules .active; static = s .rules .static; dynamic = s .rules .dynamic };
+      }
+
+  -- Other sessions, that obey the dynamic rule and have only roles active for which their owner is authorised.
+  pub sessions-changed : (new : ℕ → Session) → ((k : ℕ) → SessionShape m k (new k)) → ((k r : ℕ) → has (new k .active) r ≡ true → has (authorised m (new k .owner)) r ≡ true) → ((k : ℕ) → breaksSome (m .dsd) (new k .active) ≡ false) → Sound (withSessions m new)
+  unfolding staticBroken dynamicBroken assignments grants linesStanding
+  sessions-changed new shaped active unbroken =
+      let x = s .shape in
+      record {
+        shape = same-shape m (withSessions m new) x refl refl (record { seniors = x .seniors; juniors = x .juniors; assignees = x .assignees; assigned = x .assigned; permissions = x .permissions; holders = x .holders; ssd = x .ssd; dsd = x .dsd; sessions = shaped });
+        limits = record { assigned = s .limits .assigned; granted = s .limits .granted; lined = s .limits .lined };
+        rules = record { acyclic = s .rules .acyclic; active = active; static = s .rules .static; dynamic = unbroken };
+      }
+
+  -- Other sets of one kind, of the right shape, that are not broken.
+  pub sets-changed : (kind : Kind) (new : ℕ → RoleSet) → ((n : ℕ) → SetShape m n (new n)) → ((i : ℕ) → breaksSome new (held kind m i) ≡ false) → Sound (withSets kind m new)
+  unfolding staticBroken dynamicBroken assignments grants linesStanding
+  sets-changed Static new shaped unbroken =
+      let x = s .shape in
+      record {
+        shape = same-shape m (withSsd m new) x refl refl (record { seniors = x .seniors; juniors = x .juniors; assignees = x .assignees; assigned = x .assigned; permissions = x .permissions; holders = x .holders; ssd = shaped; dsd = x .dsd; sessions = x .sessions });
+        limits = record { assigned = s .limits .assigned; granted = s .limits .granted; lined = s .limits .lined };
+        rules = record { acyclic = s .rules .acyclic; active = s .rules .active; static = unbroken; dynamic = s .rules .dynamic };
+      }
+  sets-changed Dynamic new shaped unbroken =
+      let x = s .shape in
+      record {
+        shape = same-shape m (withDsd m new) x refl refl (record { seniors = x .seniors; juniors = x .juniors; assignees = x .assignees; assigned = x .assigned; permissions = x .permissions; holders = x .holders; ssd = x .ssd; dsd = shaped; sessions = x .sessions });
+        limits = record { assigned = s .limits .assigned; granted = s .limits .granted; lined = s .limits .lined };
+        rules = record { acyclic = s .rules .acyclic; active = s .rules .active; static = s .rules .static; dynamic = unbroken };
+      }
+
+  -- ---- parts that shrink
+
+  -- Fewer lines, assignments, grants and active roles, where every active role is one its owner is still authorised for.
+  pub fewer-sound : (users : ℕ → Bool) (roles : ℕ) (juniors assigned holders : ℕ → ℕ) (sessions : ℕ → Session) → Shape (shrunk m users roles juniors assigned holders sessions) → ((a j : ℕ) → line juniors a j ≡ true → line (m .juniors) a j ≡ true) → ((u r : ℕ) → has (assigned u) r ≡ true → has (m .assigned u) r ≡ true) → ((p r : ℕ) → has (holders p) r ≡ true → has (m .holders p) r ≡ true) → ((k r : ℕ) → has (sessions k .active) r ≡ true → has (m .sessions k .active) r ≡ true) → ((k r : ℕ) → has (sessions k .active) r ≡ true → has (reach juniors (assigned (sessions k .owner)) .roles) r ≡ true) → Sound (shrunk m users roles juniors assigned holders sessions)
+  unfolding staticBroken dynamicBroken assignments grants linesStanding
+  fewer-sound users roles juniors assigned holders sessions shape lines assignments′ grants′ actives still =
+      record {
+        shape = shape;
+        limits =
+            record {
+              assigned = at-most (no-fuller 256 assigned (m .assigned) (λ u lu r lr. assignments′ u r)) (s .limits .assigned);
+              granted = at-most (no-fuller 4096 holders (m .holders) (λ p lp r lr. grants′ p r)) (s .limits .granted);
+              lined = at-most (no-fuller 64 juniors (m .juniors) (λ a la r lr. lines a r)) (s .limits .lined);
+            };
+        rules =
+            record {
+              acyclic = remove-acyclic lines (s .rules .acyclic);
+              active = still;
+              static = λ u. some-breaks-fewer (m .ssd) (reach juniors (assigned u) .roles) (authorised m u) (λ r lr. reach-grows juniors (m .juniors) (assigned u) (m .assigned u) (λ a j la lj. lines a j) (λ a la. assignments′ u a) r) (s .rules .static u);
+              dynamic = λ k. some-breaks-fewer (m .dsd) (sessions k .active) (m .sessions k .active) (λ r lr. actives k r) (s .rules .dynamic k);
+            };
+      }
+    where
+      at-most : {a b c : ℕ} → a ≤ b → b ≤ c → a ≤ c
+      at-most h k = omega arith

@@ -1,0 +1,10 @@
+-- Laws of the answer sheet and of sound models, that the crates above cite.
+pub mod Sheet
+pub mod Put
+pub mod Members
+pub mod Breaking
+pub mod Carried
+pub mod Changing
+pub mod Empty
+pub mod Users
+pub mod Shedding

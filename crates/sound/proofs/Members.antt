@@ -1,0 +1,83 @@
+-- What is a member of a set after each operation, in the direction that the other laws ask; and how full a table is after one change.
+-- Assumes nothing.
+use mathlib.Core.Bool.{Bool, true, false, not, _&&_, _||_}
+use mathlib.Core.Logic.{_⊎_, inl, inr}
+use mathlib.Core.Path.{_≡_, refl, sym, ap, subst, _∙_}
+use Prim.Native.Nat.{ℕ, zero, suc, _+_, _≤_, _<_}
+use native.Mathlib.Omega.{arith}
+use lib.Dec.{eqb}
+use borrow.Author.Tests.{eqb-true, eqb-false, eq-eqb, ne-eqb, not-true}
+use Rattle.roleset.specs.Bounded.{bit, tally, total}
+use Rattle.roleset.specs.Roles.{has, with, without, both, those, count}
+use Rattle.roleset.proofs.BoundedLaws.{clash, and-left, and-right, and-both, or-left, or-right, or-cases, not-yes, total-mono, total-change}
+use Rattle.roleset.proofs.Laws.{has-with, has-without, has-both, those-member, count-mono, count-with}
+use Rattle.model.specs.Model.{put}
+use Rattle.sound.proofs.Put.{put-same, put-other, put-all}
+
+pub and-no : (a b : Bool) → (a && b) ≡ false → a ≡ true → b ≡ false
+and-no true b h p = h
+and-no false b h p = clash false p refl
+
+pub or-no : (a b : Bool) → (a || b) ≡ false → (a ≡ false) × (b ≡ false)
+or-no true b h = clash true refl h
+or-no false b h = (refl, h)
+
+-- every role of a is in b
+abbrev pub Within : ℕ → ℕ → Type 0
+Within a b = (k : ℕ) → k < 64 → has a k ≡ true → has b k ≡ true
+
+pub with-member : (s r k : ℕ) → has (with s r) k ≡ true → (k < 64) × ((has s k ≡ true) ⊎ (k ≡ r))
+unfolding with
+with-member s r k h =
+    let m = those-member (λ j. has s j || eqb j r) k h in
+    (m .0, go (or-cases (has s k) (eqb k r) (m .1)))
+  where
+    go : (has s k ≡ true) ⊎ (eqb k r ≡ true) → (has s k ≡ true) ⊎ (k ≡ r)
+    go (inl p) = inl p
+    go (inr p) = inr (eqb-true k r p)
+
+pub with-old : (s r : ℕ) → Within s (with s r)
+with-old s r k l h = has-with s r k l ∙ or-left (has s k) (eqb k r) h
+
+pub with-new : (s r : ℕ) → r < 64 → has (with s r) r ≡ true
+with-new s r l = has-with s r r l ∙ or-right (has s r) (eqb r r) (eq-eqb r r refl)
+
+pub without-member : (s r k : ℕ) → has (without s r) k ≡ true → (k < 64) × (has s k ≡ true) × (k ≡ r → ⊥)
+unfolding without
+without-member s r k h =
+    let m = those-member (λ j. has s j && not (eqb j r)) k h in
+    (m .0, and-left (has s k) (not (eqb k r)) (m .1), eqb-false k r (not-true (eqb k r) (and-right (has s k) (not (eqb k r)) (m .1))))
+
+pub without-old : (s r : ℕ) → Within (without s r) s
+without-old s r k l h = without-member s r k h .1
+
+pub without-other : (s r k : ℕ) → k < 64 → has s k ≡ true → (k ≡ r → ⊥) → has (without s r) k ≡ true
+without-other s r k l h n = has-without s r k l ∙ and-both (has s k) (not (eqb k r)) h (not-yes (eqb k r) (ne-eqb k r n))
+
+pub both-member : (a b k : ℕ) → has (both a b) k ≡ true → (k < 64) × (has a k ≡ true) × (has b k ≡ true)
+unfolding both
+both-member a b k h =
+    let m = those-member (λ j. has a j && has b j) k h in
+    (m .0, and-left (has a k) (has b k) (m .1), and-right (has a k) (has b k) (m .1))
+
+pub both-intro : (a b k : ℕ) → k < 64 → has a k ≡ true → has b k ≡ true → has (both a b) k ≡ true
+both-intro a b k l p q = has-both a b k l ∙ and-both (has a k) (has b k) p q
+
+pub both-within : (a b a′ b′ : ℕ) → Within a a′ → Within b b′ → Within (both a b) (both a′ b′)
+both-within a b a′ b′ f g k l h =
+    let m = both-member a b k h in
+    both-intro a′ b′ k l (f k l (m .1)) (g k l (m .2))
+
+-- ---- how full a table of sets is
+
+-- A role added at one place makes the table fuller by one.
+pub one-more : (n : ℕ) (table : ℕ → ℕ) (i r : ℕ) → i < n → r < 64 → has (table i) r ≡ false → total n (λ k. count (put table i (with (table i) r) k)) ≡ suc (total n (λ k. count (table k)))
+one-more n table i r li lr h =
+    let new : ℕ = with (table i) r in
+    let change = total-change n (λ k. count (table k)) (λ k. count (put table i new k)) i li (λ k l d. sym (ap count (put-other table i new k d))) in
+    let here : count (put table i new i) ≡ suc (count (table i)) = ap count (put-same table i new) ∙ count-with (table i) r lr h in
+    omega (arith, change, here)
+
+-- A table of smaller sets is no fuller.
+pub no-fuller : (n : ℕ) (table table′ : ℕ → ℕ) → ((k : ℕ) → k < n → Within (table k) (table′ k)) → total n (λ k. count (table k)) ≤ total n (λ k. count (table′ k))
+no-fuller n table table′ h = total-mono n (λ k. count (table k)) (λ k. count (table′ k)) (λ k l. count-mono (table k) (table′ k) (h k l))

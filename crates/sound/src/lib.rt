@@ -1,0 +1,1 @@
+// What keeps a policy sound: laws in proofs/, and no code.
