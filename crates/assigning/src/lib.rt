@@ -5,6 +5,9 @@ ghost use Rattle.policy.specs.View.{view, seen};
 use numbers::Answer;
 use numbers::Role;
 use numbers::User;
+use policy::naming::either;
+use policy::naming::has_user;
+use policy::naming::permission_beyond;
 use policy::Outcome;
 use policy::State;
 
@@ -12,11 +15,11 @@ use policy::State;
 pub fn assign(s: State, u: User, r: Role) -> Outcome
     ensures { λ o. ⌜ seen o ≡ assign (view s) (u .number) (r .number) ⌝ }
 {
-    if policy::naming::either(numbers::user_beyond(u), numbers::role_beyond(r)) {
+    if either(numbers::user_beyond(u), numbers::role_beyond(r)) {
         return Outcome { answer: Answer::BeyondRange, state: s };
     }
     let users = s.users;
-    if policy::naming::either(!policy::naming::has_user(users, u), !roleset::has(s.roles, r.number)) {
+    if either(!has_user(users, u), !roleset::has(s.roles, r.number)) {
         return Outcome { answer: Answer::Missing, state: s };
     }
     let at = u.number as usize;
@@ -38,5 +41,48 @@ pub fn assign(s: State, u: User, r: Role) -> Outcome
     }
     let mut after = s;
     after.assigned[at] = new;
+    Outcome { answer: Answer::Done, state: after }
+}
+
+// The role holds the permission from now on; 1, 2, 4, 12.
+pub fn grant(s: State, op: u16, obj: u16, r: Role) -> Outcome
+    ensures { λ o. ⌜ seen o ≡ grant (view s) op obj (r .number) ⌝ }
+{
+    if either(permission_beyond(op, obj), numbers::role_beyond(r)) {
+        return Outcome { answer: Answer::BeyondRange, state: s };
+    }
+    if !roleset::has(s.roles, r.number) {
+        return Outcome { answer: Answer::Missing, state: s };
+    }
+    let at = op as usize * 256 + obj as usize;
+    let old = s.holders[at];
+    if roleset::has(old, r.number) {
+        return Outcome { answer: Answer::AlreadyThere, state: s };
+    }
+    if policy::full(&s.holders, 2048) {
+        return Outcome { answer: Answer::TableFull, state: s };
+    }
+    let mut after = s;
+    after.holders[at] = roleset::with(old, r.number);
+    Outcome { answer: Answer::Done, state: after }
+}
+
+// The role holds the permission no longer; 1, 2, 5.
+pub fn revoke(s: State, op: u16, obj: u16, r: Role) -> Outcome
+    ensures { λ o. ⌜ seen o ≡ revoke (view s) op obj (r .number) ⌝ }
+{
+    if either(permission_beyond(op, obj), numbers::role_beyond(r)) {
+        return Outcome { answer: Answer::BeyondRange, state: s };
+    }
+    if !roleset::has(s.roles, r.number) {
+        return Outcome { answer: Answer::Missing, state: s };
+    }
+    let at = op as usize * 256 + obj as usize;
+    let old = s.holders[at];
+    if !roleset::has(old, r.number) {
+        return Outcome { answer: Answer::NotThere, state: s };
+    }
+    let mut after = s;
+    after.holders[at] = roleset::without(old, r.number);
     Outcome { answer: Answer::Done, state: after }
 }

@@ -1,6 +1,7 @@
 // Refusals 1 and 2: what a command names is beyond its range, or does not exist.
 ghost use mathlib.Core.Bool.{_||_};
 ghost use mathlib.Core.Path.{_≡_};
+ghost use Rattle.model.specs.commands.Naming.{noPermission};
 ghost use Rattle.policy.specs.View.{flags, sessionsIn};
 use model::SessionRecord;
 use numbers::Session;
@@ -35,4 +36,11 @@ pub fn either(a: bool, b: bool) -> bool
     ensures { λ t. ⌜ t ≡ (a || b) ⌝ }
 {
     if a { true } else { b }
+}
+
+// Is the operation or the object beyond its range?
+pub fn permission_beyond(op: u16, obj: u16) -> bool
+    ensures { λ b. ⌜ b ≡ noPermission op obj ⌝ }
+{
+    either(16 <= op, 256 <= obj)
 }

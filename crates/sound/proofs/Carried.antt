@@ -1,23 +1,23 @@
 -- What holds of the things named in one model and is carried over to another, where roles and users still exist; and the parts of a sound
 -- model that the laws of single commands ask for. Assumes nothing.
-use mathlib.Core.Bool.{Bool, true, false, not, _&&_, _||_}
+use mathlib.Core.Bool.{Bool, true, false}
 use mathlib.Core.Logic.{_⊎_, inl, inr}
-use mathlib.Core.Path.{_≡_, refl, sym, ap, subst, _∙_}
-use Prim.Native.Nat.{ℕ, zero, suc, _+_, _^_, _≤_, _<_}
+use mathlib.Core.Path.{_≡_, refl, ap, _∙_}
+use Prim.Native.Nat.{ℕ, _≤_, _<_}
 use native.Mathlib.Omega.{arith}
-use native.Mathlib.Decide.{decLt}
-use Rattle.roleset.specs.Roles.{has, with, without, both, none, count}
+use Rattle.roleset.specs.Roles.{has, with, without}
 use Rattle.roleset.proofs.BoundedLaws.{clash, never}
-use Rattle.roleset.proofs.Laws.{has-none, member-small, with-small, without-small, both-small}
-use Rattle.hierarchy.specs.Lines.{line, Inherits, Acyclic, Small, AtOrAbove, Under}
+use Rattle.roleset.proofs.Laws.{has-none, member-small, with-small, without-small}
+use Rattle.hierarchy.specs.Lines.{line, Inherits, Small, AtOrAbove}
 use Rattle.hierarchy.specs.Lines.Inherits.{one, more}
 use Rattle.hierarchy.specs.Walks.{reach}
-use Rattle.hierarchy.proofs.WalkLaws.{reach-sound, reach-small, reach-complete}
+use Rattle.hierarchy.proofs.WalkLaws.{reach-sound, reach-small}
 use Rattle.hierarchy.proofs.CircleLaws.{never-cut}
-use Rattle.model.specs.Model.{Model, RoleSet, Session, noSet, noSession}
-use Rattle.model.specs.Words.{reached, authorised}
-use Rattle.model.specs.Sound.{Existing, SetShape, SessionShape, Shape, Limits, Rules, Sound}
-use Rattle.sound.proofs.Members.{with-member, without-member, both-member}
+use Rattle.model.specs.Model.{Model, RoleSet, Session, noSet, noSession, put}
+use Rattle.model.specs.Words.{reached}
+use Rattle.model.specs.Sound.{Existing, SetShape, SessionShape, Shape, Sound}
+use Rattle.sound.proofs.Put.{put-all}
+use Rattle.sound.proofs.Members.{with-old, with-member, without-member}
 
 -- ---- sets of existing roles
 
@@ -25,7 +25,7 @@ use Rattle.sound.proofs.Members.{with-member, without-member, both-memb
 pub existing-none : (m : Model) → Existing m 0
 existing-none m = record { small = omega arith; exist = λ r e. clash (has 0 r) e (has-none r) }
 
--- An existing role may be added,
+-- An existing role may be added to one,
 pub existing-with : (m : Model) (set r : ℕ) → Existing m set → has (m .roles) r ≡ true → Existing m (with set r)
 existing-with m set r x h = record { small = with-small set r; exist = λ k e. go k (with-member set r k e .1) }
   where
@@ -33,13 +33,9 @@ existing-with m set r x h = record { small = with-small set r; exist = λ k e. g
     go k (inl p) = x .exist k p
     go k (inr p) = rw p h
 
--- any may be taken away,
+-- and any may be taken away.
 pub existing-without : (m : Model) (set r : ℕ) → Existing m set → Existing m (without set r)
 existing-without m set r x = record { small = without-small set r; exist = λ k e. x .exist k (without-member set r k e .1) }
-
--- and two sets give the set of the roles of both.
-pub existing-both : (m : Model) (a b : ℕ) → Existing m a → Existing m (both a b)
-existing-both m a b x = record { small = both-small a b; exist = λ k e. x .exist k (both-member a b k e .1) }
 
 -- A set that is not there has its shape, and so has a session that is not live.
 pub set-none : (m : Model) (n : ℕ) → SetShape m n noSet
@@ -47,6 +43,14 @@ set-none m n = record { absent = λ e. refl; named = λ e. clash false e refl; a
 
 pub session-none : (m : Model) (k : ℕ) → SessionShape m k noSession
 session-none m k = record { closed = λ e. refl; numbered = λ e. clash false e refl; owned = λ e. clash false e refl; active = existing-none m }
+
+-- A set with a member is there.
+pub member-there : (m : Model) (n : ℕ) (set : RoleSet) (r : ℕ) → SetShape m n set → has (set .roles) r ≡ true → set .there ≡ true
+member-there m n set r x h = go (set .there) refl
+  where
+    go : (b : Bool) → set .there ≡ b → set .there ≡ true
+    go true e = e
+    go false e = clash (has (set .roles) r) h (ap (λ (y : RoleSet). has (y .roles) r) (x .absent e) ∙ has-none r)
 
 -- ---- the same of another model
 
@@ -86,10 +90,10 @@ module _ (m : Model) (x : Shape m) where
   -- The roles reached from existing roles exist.
   pub reached-exist : (from : ℕ) → Existing m from → Existing m (reached m from .roles)
   reached-exist from e =
-      record
-        { small = reach-small (m .juniors) from
-        ; exist = λ r h. let u = reach-sound (m .juniors) from r h in below-exists (m .juniors) (m .roles) (λ a b. x .juniors a .exist b) (u .down) (e .exist (u .role) (u .member))
-        }
+      record {
+        small = reach-small (m .juniors) from;
+        exist = λ r h. let u = reach-sound (m .juniors) from r h in below-exists (m .juniors) (m .roles) (λ a b. x .juniors a .exist b) (u .down) (e .exist (u .role) (u .member));
+      }
 
   -- A user that does not exist is assigned to no role,
   pub nobody-assigned : (u : ℕ) → m .users u ≡ false → (r : ℕ) → has (m .assigned u) r ≡ false
@@ -114,3 +118,22 @@ nothing-reached lines from h r = never (has (reach lines from .roles) r) (λ e. 
 -- In a sound model no walk is cut off: 13 is never to be answered.
 pub sound-never-cut : (m : Model) → Sound m → (from : ℕ) → reached m from .cut ≡ false
 sound-never-cut m s from = never-cut (m .juniors) (s .rules .acyclic) from
+
+-- ---- a table of sets of existing roles, with a role more at one place
+
+module _ (m : Model) (table : ℕ → ℕ) (i r : ℕ) (existing : (k : ℕ) → Existing m (table k)) where
+  -- The sets are sets of existing roles if the role exists,
+  pub existing-at : has (m .roles) r ≡ true → (k : ℕ) → Existing m (put table i (with (table i) r) k)
+  existing-at h = put-all (λ k set. Existing m set) table i (with (table i) r) (existing-with m (table i) r (existing i) h) (λ k d. existing k)
+
+  -- nothing is lost,
+  pub old-at : (k j : ℕ) → has (table k) j ≡ true → has (put table i (with (table i) r) k) j ≡ true
+  old-at = put-all (λ k set. (j : ℕ) → has (table k) j ≡ true → has set j ≡ true) table i (with (table i) r) (λ j e. with-old (table i) r j (member-small (table i) j (existing i .small) e) e) (λ k d j e. e)
+
+  -- and the role at that place alone is new.
+  pub new-at : (k j : ℕ) → has (put table i (with (table i) r) k) j ≡ true → (has (table k) j ≡ true) ⊎ ((k ≡ i) × (j ≡ r))
+  new-at = put-all (λ k set. (j : ℕ) → has set j ≡ true → (has (table k) j ≡ true) ⊎ ((k ≡ i) × (j ≡ r))) table i (with (table i) r) (λ j e. go j (with-member (table i) r j e .1)) (λ k d j e. inl e)
+    where
+      go : (j : ℕ) → (has (table i) j ≡ true) ⊎ (j ≡ r) → (has (table i) j ≡ true) ⊎ ((i ≡ i) × (j ≡ r))
+      go j (inl p) = inl p
+      go j (inr p) = inr (refl, p)

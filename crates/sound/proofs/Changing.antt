@@ -1,26 +1,23 @@
 -- One part of a sound model changed: what has to be known of the new part for the model to stay sound. Assumes nothing.
-use mathlib.Core.Bool.{Bool, true, false, not, _&&_, _||_}
+use mathlib.Core.Bool.{Bool, true, false}
 use mathlib.Core.Path.{_≡_, refl, sym, ap, subst, _∙_}
-use Prim.Native.Nat.{ℕ, zero, suc, _+_, _^_, _≤_, _<_}
+use Prim.Native.Nat.{ℕ, _^_, _≤_, _<_}
 use native.Mathlib.Omega.{arith}
 use Rattle.roleset.specs.Bounded.{total}
-use Rattle.roleset.specs.Roles.{has, with, count}
-use Rattle.roleset.proofs.BoundedLaws.{clash, total-le, some-none}
-use Rattle.roleset.proofs.Laws.{has-none, count-none, with-small}
-use Rattle.hierarchy.specs.Lines.{line, Acyclic, Inherits}
-use Rattle.hierarchy.specs.Lines.Inherits.{one, more}
+use Rattle.roleset.specs.Roles.{has, count}
+use Rattle.hierarchy.specs.Lines.{line, Acyclic}
 use Rattle.hierarchy.specs.Walks.{reach}
 use Rattle.hierarchy.proofs.InheritsLaws.{remove-acyclic}
 use Rattle.hierarchy.proofs.WalkLaws.{reach-grows}
-use Rattle.model.specs.Model.{Model, RoleSet, Session, empty, noSet, noSession, withUsers, withRoles, withJuniors, withAssigned, withHolders, withSsd, withDsd, withSessions}
-use Rattle.model.specs.Words.{authorised, breaks, breaksSome, counted, staticBroken, dynamicBroken, assignments, grants, linesStanding}
-use Rattle.model.specs.Sound.{Existing, SetShape, SessionShape, Shape, Limits, Rules, Sound}
-use Rattle.model.specs.commands.Sets.{setsOf, withSets}
+use Rattle.model.specs.Model.{Model, RoleSet, Session, withUsers, withRoles, withJuniors, withAssigned, withHolders, withSsd, withDsd, withSessions}
+use Rattle.model.specs.Words.{authorised, breaksSome, counted, staticBroken, dynamicBroken, assignments, grants, linesStanding}
+use Rattle.model.specs.Sound.{Existing, SetShape, SessionShape, Shape, Sound}
+use Rattle.model.specs.commands.Sets.{withSets}
 use Rattle.model.specs.declared.Kind.{Kind}
 use Rattle.model.specs.declared.Kind.the-variants.{Static, Dynamic}
-use Rattle.sound.proofs.Members.{Within, with-old, no-fuller}
-use Rattle.sound.proofs.Breaking.{some-breaks-fewer, none-breaks}
-use Rattle.sound.proofs.Carried.{existing-none, existing-in, set-in, session-in, role-small}
+use Rattle.sound.proofs.Members.{no-fuller}
+use Rattle.sound.proofs.Breaking.{some-breaks-fewer}
+use Rattle.sound.proofs.Carried.{existing-in, set-in, session-in}
 
 -- ---- the shape of a model whose users and roles are those of another, or more
 

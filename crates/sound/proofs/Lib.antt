@@ -8,3 +8,10 @@ pub mod Changing
 pub mod Empty
 pub mod Users
 pub mod Shedding
+pub mod Assigning
+pub mod Inheriting
+pub mod Sets
+pub mod Sessions
+pub mod Words
+pub mod Asked
+pub mod Listed

@@ -1,16 +1,15 @@
 -- Laws of the answer sheet, once for all commands: which number is answered, that a refusal changes nothing, and how a property of the
 -- policy and sessions is kept. Assumes nothing.
-use mathlib.Core.Bool.{Bool, true, false, not, _&&_, _||_}
+use mathlib.Core.Bool.{Bool, true, false, not, _&&_}
 use mathlib.Core.List.{List, [], _∷_, _++_, List·Memᴰ, List·Memᴰ·head, List·Memᴰ·tail}
-use mathlib.Core.Logic.{_⊎_, inl, inr}
 use mathlib.Core.Path.{_≡_, refl, sym, ap, subst, _∙_}
-use Prim.Native.Nat.{ℕ, zero, suc, _≤_, _<_}
+use Prim.Native.Nat.{ℕ, _≤_, _<_}
 use native.Mathlib.Omega.{arith}
-use lib.Dec.{eqb, leb, ltb}
-use borrow.Author.Tests.{eqb-true, eqb-false, eq-eqb, ne-eqb, ltb-true, lt-ltb, not-true}
-use Rattle.roleset.proofs.BoundedLaws.{clash, and-left, and-right, and-both}
+use lib.Dec.{eqb, ltb}
+use borrow.Author.Tests.{eqb-true, eqb-false, eq-eqb, ne-eqb, ltb-true, not-true}
+use Rattle.roleset.proofs.BoundedLaws.{clash, and-left, and-right}
 use Rattle.model.specs.Model.{Model}
-use Rattle.model.specs.Sheet.{Refusal, _when_, verdict, Told, done, refused, settle}
+use Rattle.model.specs.Sheet.{Refusal, verdict, Told, done, refused, settle}
 
 -- ---- the answer
 
@@ -18,11 +17,6 @@ use Rattle.model.specs.Sheet.{Refusal, _when_, verdict, Told, done, refused, se
 abbrev pub AllClear : List Refusal → Type 0
 AllClear [] = Unit {0}
 AllClear (r ∷ rest) = (r .holds ≡ false) × AllClear rest
-
--- every number of the list is above the bound, and above the one before it
-abbrev pub ascend : ℕ → List Refusal → Bool
-ascend bound [] = true
-ascend bound (r ∷ rest) = ltb bound (r .number) && ascend (r .number) rest
 
 -- the numbers are those of refusals: none of them is 0
 abbrev pub positive : List Refusal → Bool
@@ -45,19 +39,24 @@ unfolding verdict
 clear-done [] c = refl
 clear-done (r ∷ rest) c = verdict-later r rest (c .0) ∙ clear-done rest (c .1)
 
--- Where the answer is 0 no condition holds.
+-- Where the answer is 0 the first condition does not hold, and the others answer 0;
+pub clear : (r : Refusal) (rest : List Refusal) → 0 < r .number → verdict (r ∷ rest) ≡ 0 → (r .holds ≡ false) × (verdict rest ≡ 0)
+clear r rest p e = go (r .holds) refl
+  where
+    go : (b : Bool) → r .holds ≡ b → (r .holds ≡ false) × (verdict rest ≡ 0)
+    go true h = absurd (let z : r .number ≡ 0 = sym (verdict-here r rest h) ∙ e in omega arith)
+    go false h = (h, sym (verdict-later r rest h) ∙ e)
+
+-- so no condition holds.
 pub done-clear : (rs : List Refusal) → positive rs ≡ true → verdict rs ≡ 0 → AllClear rs
 done-clear [] p e = tt
-done-clear (r ∷ rest) p e = go (r .holds) refl (done-clear rest (and-right (ltb 0 (r .number)) (positive rest) p))
-  where
-    go : (b : Bool) → r .holds ≡ b → (verdict rest ≡ 0 → AllClear rest) → (r .holds ≡ false) × AllClear rest
-    go true h f =
-        let n : 0 < r .number = ltb-true 0 (r .number) (and-left (ltb 0 (r .number)) (positive rest) p) in
-        let z : r .number ≡ 0 = sym (verdict-here r rest h) ∙ e in
-        absurd (omega arith)
-    go false h f = (h, f (sym (verdict-later r rest h) ∙ e))
+done-clear (r ∷ rest) p e =
+    let c = clear r rest (ltb-true 0 (r .number) (and-left (ltb 0 (r .number)) (positive rest) p)) e in
+    (c .0, done-clear rest (and-right (ltb 0 (r .number)) (positive rest) p) (c .1))
 
--- The first refusal of a list that applies: the refusals before it do not.
+-- ---- the first that applies
+
+-- n is the number of the first refusal of the list that applies: those before it do not
 pub record FirstOf (rs : List Refusal) (n : ℕ) : Type 0 where
   pub before : List Refusal
   pub refusal : Refusal
@@ -67,10 +66,9 @@ pub record FirstOf (rs : List Refusal) (n : ℕ) : Type 0 where
   pub applies : refusal .holds ≡ true
   pub numbered : refusal .number ≡ n
 
--- An answer that is not 0 is the number of the first refusal that applies.
+-- An answer that is not 0 is the number of the first refusal that applies,
 pub verdict-first : (rs : List Refusal) → (verdict rs ≡ 0 → ⊥) → FirstOf rs (verdict rs)
-unfolding verdict
-verdict-first [] h = absurd (h refl)
+verdict-first [] h = absurd (h (clear-done [] tt))
 verdict-first (r ∷ rest) h = go (r .holds) refl (verdict-first rest)
   where
     go : (b : Bool) → r .holds ≡ b → ((verdict rest ≡ 0 → ⊥) → FirstOf rest (verdict rest)) → FirstOf (r ∷ rest) (verdict (r ∷ rest))
@@ -79,50 +77,86 @@ verdict-first (r ∷ rest) h = go (r .holds) refl (verdict-first rest)
         let x = f (λ z. h (verdict-later r rest e ∙ z)) in
         record { before = r ∷ x .before; refusal = x .refusal; later = x .later; split = ap (λ (l : List Refusal). r ∷ l) (x .split); earlier = (e, x .earlier); applies = x .applies; numbered = x .numbered ∙ sym (verdict-later r rest e) }
 
--- where the numbers ascend from a bound, each is above it
-ascend-above : (bound : ℕ) (rs : List Refusal) → ascend bound rs ≡ true → (r : Refusal) → List·Memᴰ r rs → bound < r .number
-ascend-above bound (x ∷ rest) a r (List·Memᴰ·head e) = rw e (ltb-true bound (x .number) (and-left (ltb bound (x .number)) (ascend (x .number) rest) a))
-ascend-above bound (x ∷ rest) a r (List·Memᴰ·tail m) =
-    let h = ltb-true bound (x .number) (and-left (ltb bound (x .number)) (ascend (x .number) rest) a) in
-    let k = ascend-above (x .number) rest (and-right (ltb bound (x .number)) (ascend (x .number) rest) a) r m in
+-- and the number of the first refusal that applies is the answer.
+pub first-verdict : (rs : List Refusal) (n : ℕ) → FirstOf rs n → verdict rs ≡ n
+first-verdict rs n f = ap verdict (f .split) ∙ past (f .before) (f .earlier) ∙ f .numbered
+  where
+    past : (before : List Refusal) → AllClear before → verdict (before ++ (f .refusal ∷ f .later)) ≡ f .refusal .number
+    past [] c = verdict-here (f .refusal) (f .later) (f .applies)
+    past (r ∷ rest) c = verdict-later r (rest ++ (f .refusal ∷ f .later)) (c .0) ∙ past rest (c .1)
+
+-- ---- "14 comes first and then the lowest number"
+
+-- the place of a number in that order
+abbrev pub rank : ℕ → ℕ
+rank n = elim (eqb n 14) [ true ↦ 0 | false ↦ n ]
+
+-- every number comes after the place given, and after the number before it
+abbrev pub rising : ℕ → List Refusal → Bool
+rising place [] = true
+rising place (r ∷ rest) = ltb place (rank (r .number)) && rising (rank (r .number)) rest
+
+-- the list is in the order of the answer sheet
+abbrev pub ordered : List Refusal → Bool
+ordered [] = true
+ordered (r ∷ rest) = rising (rank (r .number)) rest
+
+rising-ordered : (place : ℕ) (rs : List Refusal) → rising place rs ≡ true → ordered rs ≡ true
+rising-ordered place [] a = refl
+rising-ordered place (r ∷ rest) a = and-right (ltb place (rank (r .number))) (rising (rank (r .number)) rest) a
+
+rising-each : (place : ℕ) (rs : List Refusal) → rising place rs ≡ true → (r : Refusal) → List·Memᴰ r rs → place < rank (r .number)
+rising-each place (x ∷ rest) a r (List·Memᴰ·head e) = subst (λ (y : Refusal). place < rank (y .number)) (sym e) (ltb-true place (rank (x .number)) (and-left (ltb place (rank (x .number))) (rising (rank (x .number)) rest) a))
+rising-each place (x ∷ rest) a r (List·Memᴰ·tail m) =
+    let h = ltb-true place (rank (x .number)) (and-left (ltb place (rank (x .number))) (rising (rank (x .number)) rest) a) in
+    let k = rising-each (rank (x .number)) rest (and-right (ltb place (rank (x .number))) (rising (rank (x .number)) rest) a) r m in
     omega arith
 
--- "and then the lowest number": where the numbers ascend, the answer is at most the number of any refusal that applies.
-pub verdict-lowest : (bound : ℕ) (rs : List Refusal) → ascend bound rs ≡ true → (r : Refusal) → List·Memᴰ r rs → r .holds ≡ true → verdict rs ≤ r .number
-verdict-lowest bound (x ∷ rest) a r m h = go (x .holds) refl m (verdict-lowest (x .number) rest (and-right (ltb bound (x .number)) (ascend (x .number) rest) a) r)
+-- "Where several apply, 14 comes first and then the lowest number": in a list in that order no refusal that applies comes before the answer.
+pub verdict-lowest : (rs : List Refusal) → ordered rs ≡ true → (r : Refusal) → List·Memᴰ r rs → r .holds ≡ true → rank (verdict rs) ≤ rank (r .number)
+verdict-lowest (x ∷ rest) a r m h = go (x .holds) refl m (verdict-lowest rest (rising-ordered (rank (x .number)) rest a) r)
   where
-    go : (b : Bool) → x .holds ≡ b → List·Memᴰ r (x ∷ rest) → (List·Memᴰ r rest → r .holds ≡ true → verdict rest ≤ r .number) → verdict (x ∷ rest) ≤ r .number
-    go true e (List·Memᴰ·head s) ih = rw (verdict-here x rest e, s) (omega arith)
-    go true e (List·Memᴰ·tail s) ih = rw (verdict-here x rest e) (omega (arith, ascend-above (x .number) rest (and-right (ltb bound (x .number)) (ascend (x .number) rest) a) r s))
+    go : (b : Bool) → x .holds ≡ b → List·Memᴰ r (x ∷ rest) → (List·Memᴰ r rest → r .holds ≡ true → rank (verdict rest) ≤ rank (r .number)) → rank (verdict (x ∷ rest)) ≤ rank (r .number)
+    go true e (List·Memᴰ·head s) ih = subst (λ (n : ℕ). rank n ≤ rank (r .number)) (sym (verdict-here x rest e ∙ ap (λ (y : Refusal). y .number) (sym s))) (omega arith)
+    go true e (List·Memᴰ·tail s) ih = subst (λ (n : ℕ). rank n ≤ rank (r .number)) (sym (verdict-here x rest e)) (omega (arith, rising-each (rank (x .number)) rest a r s))
     go false e (List·Memᴰ·head s) ih = clash (r .holds) h (ap (λ (y : Refusal). y .holds) s ∙ e)
-    go false e (List·Memᴰ·tail s) ih = rw (verdict-later x rest e) (ih s h)
+    go false e (List·Memᴰ·tail s) ih = subst (λ (n : ℕ). rank n ≤ rank (r .number)) (sym (verdict-later x rest e)) (ih s h)
 
--- an ascending list has no 0
-pub ascend-positive : (bound : ℕ) (rs : List Refusal) → ascend bound rs ≡ true → positive rs ≡ true
-ascend-positive bound [] a = refl
-ascend-positive bound (r ∷ rest) a =
-    let n : bound < r .number = ltb-true bound (r .number) (and-left (ltb bound (r .number)) (ascend (r .number) rest) a) in
-    and-both (ltb 0 (r .number)) (positive rest) (lt-ltb 0 (r .number) (omega arith)) (ascend-positive (r .number) rest (and-right (ltb bound (r .number)) (ascend (r .number) rest) a))
+-- ---- a number that is not on the list
 
 -- no refusal of the list has this number
 abbrev pub absent : ℕ → List Refusal → Bool
 absent n [] = true
 absent n (r ∷ rest) = not (eqb (r .number) n) && absent n rest
 
--- The number of the last refusal, if no other has it, is answered only where it applies and no other does.
-pub last-answer : (n : ℕ) (front : List Refusal) (b : Bool) → absent n front ≡ true → (n ≡ 0 → ⊥) → verdict (front ++ (n when b ∷ [])) ≡ n → AllClear front × (b ≡ true)
-last-answer n [] b a p e = go b refl
+-- Such a number, above 0, is not the answer.
+pub not-answered : (n : ℕ) (rs : List Refusal) → 0 < n → absent n rs ≡ true → verdict rs ≡ n → ⊥
+not-answered n [] p a e = let z : n ≡ 0 = sym e ∙ clear-done [] tt in omega arith
+not-answered n (r ∷ rest) p a e = go (r .holds) refl (not-answered n rest p (and-right (not (eqb (r .number) n)) (absent n rest) a))
   where
-    go : (t : Bool) → b ≡ t → Unit {0} × (b ≡ true)
-    go true h = (tt, h)
-    go false h = absurd (p (sym e ∙ verdict-later (n when b) [] h ∙ clear-done [] tt))
-last-answer n (r ∷ rest) b a p e = go (r .holds) refl (last-answer n rest b (and-right (not (eqb (r .number) n)) (absent n rest) a) p)
+    go : (b : Bool) → r .holds ≡ b → (verdict rest ≡ n → ⊥) → ⊥
+    go true h ih = eqb-false (r .number) n (not-true (eqb (r .number) n) (and-left (not (eqb (r .number) n)) (absent n rest) a)) (sym (verdict-here r rest h) ∙ e)
+    go false h ih = ih (sym (verdict-later r rest h) ∙ e)
+
+-- ---- two lists that answer alike
+
+-- the same numbers with the same conditions, as far as those before do not hold; what is left over in the first list does not hold
+abbrev pub Alike : List Refusal → List Refusal → Type 0
+Alike [] [] = Unit {0}
+Alike [] (y ∷ ys) = ⊥
+Alike (x ∷ xs) [] = (x .holds ≡ false) × Alike xs []
+Alike (x ∷ xs) (y ∷ ys) = (x .number ≡ y .number) × (x .holds ≡ y .holds) × (x .holds ≡ false → Alike xs ys)
+
+-- Such lists have one verdict,
+pub alike-verdict : (xs ys : List Refusal) → Alike xs ys → verdict xs ≡ verdict ys
+alike-verdict [] [] a = refl
+alike-verdict [] (y ∷ ys) a = absurd a
+alike-verdict (x ∷ xs) [] a = verdict-later x xs (a .0) ∙ alike-verdict xs [] (a .1)
+alike-verdict (x ∷ xs) (y ∷ ys) a = go (x .holds) refl (λ e. alike-verdict xs ys (a .2 e))
   where
-    go : (t : Bool) → r .holds ≡ t → (verdict (rest ++ (n when b ∷ [])) ≡ n → AllClear rest × (b ≡ true)) → AllClear (r ∷ rest) × (b ≡ true)
-    go true h ih = absurd (eqb-false (r .number) n (not-true (eqb (r .number) n) (and-left (not (eqb (r .number) n)) (absent n rest) a)) (sym (verdict-here r (rest ++ (n when b ∷ [])) h) ∙ e))
-    go false h ih =
-        let c = ih (sym (verdict-later r (rest ++ (n when b ∷ [])) h) ∙ e) in
-        ((h, c .0), c .1)
+    go : (b : Bool) → x .holds ≡ b → (x .holds ≡ false → verdict xs ≡ verdict ys) → verdict (x ∷ xs) ≡ verdict (y ∷ ys)
+    go true e ih = verdict-here x xs e ∙ a .0 ∙ sym (verdict-here y ys (sym (a .1) ∙ e))
+    go false e ih = verdict-later x xs e ∙ ih e ∙ sym (verdict-later y ys (sym (a .1) ∙ e))
 
 -- ---- what is told
 
@@ -150,10 +184,27 @@ refusal-changes-nothing rs m results after h =
     let r = settle-refused rs m results after (λ e. h (settle-answer rs m results after ∙ e)) in
     (ap (λ (t : Told). t .after) r, ap (λ (t : Told). t .results) r)
 
--- What holds before, and after a command that is done, holds of what the command tells.
-pub kept : (P : Model → Type 0) (rs : List Refusal) (m : Model) (results : List ℕ) (after : Model) → positive rs ≡ true → P m → (AllClear rs → P after) → P (settle rs m results after .after)
-kept P rs m results after p before then = go (eqb (verdict rs) 0) refl
+-- What holds before, and after a command that is done, holds of what the command tells;
+pub settle-kept : (P : Model → Type 0) (rs : List Refusal) (m : Model) (results : List ℕ) (after : Model) → P m → (verdict rs ≡ 0 → P after) → P (settle rs m results after .after)
+settle-kept P rs m results after before then = go (eqb (verdict rs) 0) refl
   where
     go : (b : Bool) → eqb (verdict rs) 0 ≡ b → P (settle rs m results after .after)
-    go true e = rw (settle-done rs m results after (eqb-true (verdict rs) 0 e)) (then (done-clear rs p (eqb-true (verdict rs) 0 e)))
+    go true e = rw (settle-done rs m results after (eqb-true (verdict rs) 0 e)) (then (eqb-true (verdict rs) 0 e))
     go false e = rw (settle-refused rs m results after (eqb-false (verdict rs) 0 e)) before
+
+-- and where the command is done, none of its refusals applies.
+pub kept : (P : Model → Type 0) (rs : List Refusal) (m : Model) (results : List ℕ) (after : Model) → positive rs ≡ true → P m → (AllClear rs → P after) → P (settle rs m results after .after)
+kept P rs m results after p before then = settle-kept P rs m results after before (λ e. then (done-clear rs p e))
+
+-- A question, after which all is as it was, changes nothing.
+pub settle-same : (rs : List Refusal) (m : Model) (results : List ℕ) → settle rs m results m .after ≡ m
+settle-same rs m results = settle-kept (λ x. x ≡ m) rs m results m refl (λ e. refl)
+
+-- Two lists that answer alike tell the same,
+pub alike-settle : (xs ys : List Refusal) (m : Model) (results : List ℕ) (after : Model) → Alike xs ys → settle xs m results after ≡ settle ys m results after
+unfolding settle
+alike-settle xs ys m results after a = ap (λ (n : ℕ). elim (eqb n 0) as (λ b. Told) [ true ↦ done results after | false ↦ refused n m ]) (alike-verdict xs ys a)
+
+-- and a number above 0 that is on neither is not told.
+pub not-told : (n : ℕ) (rs : List Refusal) (m : Model) (results : List ℕ) (after : Model) (t : Told) → 0 < n → absent n rs ≡ true → t ≡ settle rs m results after → t .answer ≡ n → ⊥
+not-told n rs m results after t p a q e = not-answered n rs p a (sym (settle-answer rs m results after) ∙ ap (λ (x : Told). x .answer) (sym q) ∙ e)

@@ -1,21 +1,19 @@
 -- `user`, `role` and `nouser` keep a model sound. Assumes nothing.
-use mathlib.Core.Bool.{Bool, true, false, not, _&&_, _||_}
-use mathlib.Core.List.{List, [], _∷_}
-use mathlib.Core.Path.{_≡_, refl, sym, ap, subst, _∙_}
-use Prim.Native.Nat.{ℕ, _+_, _≤_, _<_}
-use native.Mathlib.Omega.{arith}
-use lib.Dec.{eqb, leb}
-use borrow.Author.Tests.{leb-false, eqb-true, eqb-false, not-false}
+use mathlib.Core.Bool.{Bool, true, false, _&&_}
+use mathlib.Core.Path.{_≡_, refl, _∙_}
+use Prim.Native.Nat.{ℕ, _<_}
+use lib.Dec.{eqb}
+use borrow.Author.Tests.{leb-false, eqb-false}
 use Rattle.roleset.specs.Roles.{has, with, none}
 use Rattle.roleset.proofs.BoundedLaws.{clash}
 use Rattle.roleset.proofs.Laws.{with-small, has-none}
 use Rattle.hierarchy.specs.Walks.{reach}
 use Rattle.model.specs.Model.{Model, Session, noSession, put}
-use Rattle.model.specs.Sheet.{_when_}
 use Rattle.model.specs.Sound.{Existing, SessionShape, Shape, Sound}
 use Rattle.model.specs.commands.Users.{user, role, nouser, withoutUser, allEnded, endedOf}
 use Rattle.sound.proofs.Sheet.{kept}
-use Rattle.sound.proofs.Put.{put-same, put-other, put-all}
+use Rattle.model.proofs.Puts.{put-other}
+use Rattle.sound.proofs.Put.{put-all}
 use Rattle.sound.proofs.Members.{with-old, and-no}
 use Rattle.sound.proofs.Carried.{role-small, existing-none, existing-in, set-in, session-none, closed-idle}
 use Rattle.sound.proofs.Changing.{names-changed, fewer-sound}
@@ -25,22 +23,22 @@ pub user-sound : (m : Model) (u : ℕ) → Sound m → Sound (user m u .after)
 unfolding user
 user-sound m u s =
     kept Sound _ m _ _ refl s
-      (λ c. names-changed m s (put (m .users) u true) (m .roles)
-        (put-all (λ k b. b ≡ true → k < 256) (m .users) u true (λ e. leb-false 256 u (c .0)) (λ k d e. s .shape .users k e))
-        (put-all (λ k b. m .users k ≡ true → b ≡ true) (m .users) u true (λ e. refl) (λ k d e. e))
-        (s .shape .roles)
-        (λ r e. e))
+    (λ c. names-changed m s (put (m .users) u true) (m .roles)
+    (put-all (λ k b. b ≡ true → k < 256) (m .users) u true (λ e. leb-false 256 u (c .0)) (λ k d e. s .shape .users k e))
+    (put-all (λ k b. m .users k ≡ true → b ≡ true) (m .users) u true (λ e. refl) (λ k d e. e))
+    (s .shape .roles)
+    (λ r e. e))
 
 -- `role r` keeps a sound model sound.
 pub role-sound : (m : Model) (r : ℕ) → Sound m → Sound (role m r .after)
 unfolding role
 role-sound m r s =
     kept Sound _ m _ _ refl s
-      (λ c. names-changed m s (m .users) (with (m .roles) r)
-        (s .shape .users)
-        (λ u e. e)
-        (with-small (m .roles) r)
-        (λ k e. with-old (m .roles) r k (role-small m (s .shape) k e) e))
+    (λ c. names-changed m s (m .users) (with (m .roles) r)
+    (s .shape .users)
+    (λ u e. e)
+    (with-small (m .roles) r)
+    (λ k e. with-old (m .roles) r k (role-small m (s .shape) k e) e))
 
 -- what holds of a session that is not live, and of one that the user does not own, holds of the session that is left
 ended-all : (P : Session → Type 0) (u : ℕ) (x : Session) → P noSession → ((x .live && eqb (x .owner) u) ≡ false → P x) → P (endedOf u x)
@@ -60,24 +58,26 @@ module _ (m : Model) (u : ℕ) (s : Sound m) where
   without-user-shape : Shape (withoutUser m u)
   unfolding withoutUser allEnded
   without-user-shape =
-      record
-        { users = put-all (λ k b. b ≡ true → k < 256) (m .users) u false (λ e. clash false e refl) (λ k d. x .users k)
-        ; roles = x .roles
-        ; seniors = x .seniors
-        ; juniors = λ k. existing-in m m′ (λ r e. e) (x .juniors k)
-        ; assignees = put-all (λ k set. (r : ℕ) → has set r ≡ true → put (m .users) u false k ≡ true) (m .assigned) u none (λ r e. clash (has 0 r) e (has-none r)) (λ k d r e. put-other (m .users) u false k d ∙ x .assignees k r e)
-        ; assigned = put-all (λ k set. Existing m′ set) (m .assigned) u none (existing-none m′) (λ k d. existing-in m m′ (λ r e. e) (x .assigned k))
-        ; permissions = x .permissions
-        ; holders = λ p. existing-in m m′ (λ r e. e) (x .holders p)
-        ; ssd = λ n. set-in m m′ (λ r e. e) (x .ssd n)
-        ; dsd = λ n. set-in m m′ (λ r e. e) (x .dsd n)
-        ; sessions = λ k. ended-all (λ y. SessionShape m′ k y) u (m .sessions k) (session-none m′ k) (λ e. left k e (x .sessions k))
-        }
+      record {
+        users = put-all (λ k b. b ≡ true → k < 256) (m .users) u false (λ e. clash false e refl) (λ k d. x .users k);
+        roles = x .roles;
+        seniors = x .seniors;
+        juniors = λ k. existing-in m m′ (λ r e. e) (x .juniors k);
+        assignees = put-all (λ k set. (r : ℕ) → has set r ≡ true → put (m .users) u false k ≡ true) (m .assigned) u none (λ r e. clash (has 0 r) e (has-none r)) (λ k d r e. put-other (m .users) u false k d ∙ x .assignees k r e);
+        assigned = put-all (λ k set. Existing m′ set) (m .assigned) u none (existing-none m′) (λ k d. existing-in m m′ (λ r e. e) (x .assigned k));
+        permissions = x .permissions;
+        holders = λ p. existing-in m m′ (λ r e. e) (x .holders p);
+        ssd = λ n. set-in m m′ (λ r e. e) (x .ssd n);
+        dsd = λ n. set-in m m′ (λ r e. e) (x .dsd n);
+        sessions = λ k. ended-all (λ y. SessionShape m′ k y) u (m .sessions k) (session-none m′ k) (λ e. left k e (x .sessions k));
+      }
     where
       m′ : Model
       m′ = withoutUser m u
+
       x : Shape m
       x = s .shape
+
       left : (k : ℕ) → (m .sessions k .live && eqb (m .sessions k .owner) u) ≡ false → SessionShape m k (m .sessions k) → SessionShape m′ k (m .sessions k)
       left k e y = record { closed = y .closed; numbered = y .numbered; owned = λ l. put-other (m .users) u false (m .sessions k .owner) (other-owner k e l) ∙ y .owned l; active = existing-in m m′ (λ r h. h) (y .active) }
 
@@ -86,11 +86,11 @@ module _ (m : Model) (u : ℕ) (s : Sound m) where
   unfolding withoutUser allEnded
   without-user-sound =
       fewer-sound m s (put (m .users) u false) (m .roles) (m .juniors) (put (m .assigned) u none) (m .holders) (λ k. endedOf u (m .sessions k)) without-user-shape
-        (λ a j e. e)
-        (put-all (λ k set. (r : ℕ) → has set r ≡ true → has (m .assigned k) r ≡ true) (m .assigned) u none (λ r e. clash (has 0 r) e (has-none r)) (λ k d r e. e))
-        (λ p r e. e)
-        (λ k r. ended-all (λ y. has (y .active) r ≡ true → has (m .sessions k .active) r ≡ true) u (m .sessions k) (λ e. clash (has 0 r) e (has-none r)) (λ e h. h))
-        (λ k r. ended-all (λ y. has (y .active) r ≡ true → has (reach (m .juniors) (put (m .assigned) u none (y .owner)) .roles) r ≡ true) u (m .sessions k) (λ e. clash (has 0 r) e (has-none r)) (λ e h. still k r e h (m .sessions k .live) refl))
+      (λ a j e. e)
+      (put-all (λ k set. (r : ℕ) → has set r ≡ true → has (m .assigned k) r ≡ true) (m .assigned) u none (λ r e. clash (has 0 r) e (has-none r)) (λ k d r e. e))
+      (λ p r e. e)
+      (λ k r. ended-all (λ y. has (y .active) r ≡ true → has (m .sessions k .active) r ≡ true) u (m .sessions k) (λ e. clash (has 0 r) e (has-none r)) (λ e h. h))
+      (λ k r. ended-all (λ y. has (y .active) r ≡ true → has (reach (m .juniors) (put (m .assigned) u none (y .owner)) .roles) r ≡ true) u (m .sessions k) (λ e. clash (has 0 r) e (has-none r)) (λ e h. still k r e h (m .sessions k .live) refl))
     where
       still : (k r : ℕ) → (m .sessions k .live && eqb (m .sessions k .owner) u) ≡ false → has (m .sessions k .active) r ≡ true → (b : Bool) → m .sessions k .live ≡ b → has (reach (m .juniors) (put (m .assigned) u none (m .sessions k .owner)) .roles) r ≡ true
       still k r e h true l = rw (put-other (m .assigned) u none (m .sessions k .owner) (other-owner k e l)) (s .rules .active k r h)

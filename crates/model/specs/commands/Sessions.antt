@@ -13,14 +13,14 @@ use Rattle.model.specs.Words.{reached, authorised, effective, dynamicBro
 use Rattle.model.specs.Lists.{ascending, someFrom, setOf}
 use Rattle.model.specs.commands.Naming.{noUser, noRole, noSession, noPermission, userMissing, roleMissing, sessionMissing}
 
--- the lowest number below n, from k on, that no live session has; n where there is none
-unfoldable pub freeFrom : Model → ℕ → ℕ → ℕ
-freeFrom m zero k = k
-freeFrom m (suc left) k = elim (m .sessions k .live) [ true ↦ freeFrom m left (suc k) | false ↦ k ]
+-- the first number from k on, among so many, that no live session has; the one past them where all are live
+unfoldable pub freeFrom : (ℕ → Session) → ℕ → ℕ → ℕ
+freeFrom sessions zero k = k
+freeFrom sessions (suc left) k = elim (sessions k .live) [ true ↦ freeFrom sessions left (suc k) | false ↦ k ]
 
--- "the lowest free session number"
+-- "the lowest free session number"; 64 where none is free
 abbrev pub lowestFree : Model → ℕ
-lowestFree m = freeFrom m 64 0
+lowestFree m = freeFrom (m .sessions) 64 0
 
 -- session s is this
 abbrev pub sessionSet : Model → ℕ → Session → Model

@@ -1,0 +1,124 @@
+use borrow.Author.Needs.{needs}
+use borrow.Author.Tests.{leb-false}
+use mathlib.Core.Bool.{true, false, _||_}
+use mathlib.Core.List.{[]}
+use mathlib.Core.Path.{_≡_, refl, sym, ap, _∙_}
+use Prim.Native.Nat.{ℕ, _<_, _+_, _*_}
+use native.Mathlib.Omega.{arith}
+use lib.Dec.{leb}
+use lib.ListN.{length}
+use Rattle.roleset.specs.Roles.{has, with}
+use Rattle.roleset.proofs.BoundedLaws.{or-clear}
+use Rattle.numbers.specs.Ranges.{mostGrants}
+use Rattle.model.specs.Model.{put, withHolders}
+use Rattle.model.specs.Sheet.{verdict, settle, done}
+use Rattle.model.specs.Words.{grants, permission}
+use Rattle.model.specs.commands.Assigning.{grant, granted}
+use Rattle.model.specs.commands.Naming.{noPermission, noRole, roleMissing}
+use Rattle.policy.specs.View.{view, seen}
+use Rattle.policy.proofs.Stores.{store-holders}
+use Rattle.assigning.proofs.grant.Statement.{statement}
+use Rattle.assigning.proofs.grant.Tie as tie
+
+-- what each test finds, in the words of the definition
+beyond : (c : tie.After-either) → (noPermission (c .before .before .before .args .op) (c .before .before .before .args .obj) || noRole (c .before .before .before .args .r .number)) ≡ c .either .result
+beyond c = cc
+
+there : (c : tie.After-has2) → has (view (c .before .before .before .before .before .before .before .before .args .t1) .holders (permission (c .before .before .before .before .before .before .before .before .args .op) (c .before .before .before .before .before .before .before .before .args .obj))) (c .before .before .before .before .before .before .before .before .args .r .number) ≡ c .has2 .result
+unfolding view
+there c = sym (c .has2 .ensures)
+
+filled : (c : tie.After-full) → leb mostGrants (grants (view (c .before .before .before .before .before .before .before .before .before .before .before .before .before .args .t1))) ≡ c .full .result
+unfolding grants view
+filled c = let whole : length (c .before .before .before .before .before .before .before .before .before .before .before .before .before .args .t1 .holders) ≡ 4096 = omega arith in sym (rw whole at (c .full .ensures))
+
+-- the permission is within its range
+within : (c : tie.Else1) → c .before .before .before .before .args .op * 256 + c .before .before .before .before .args .obj < 4096
+within c =
+    let clear = or-clear (leb 16 (c .before .before .before .before .args .op)) (leb 256 (c .before .before .before .before .args .obj)) (or-clear (noPermission (c .before .before .before .before .args .op) (c .before .before .before .before .args .obj)) (noRole (c .before .before .before .before .args .r .number)) (beyond (c .before) ∙ c .if1 .left) .0) in
+    omega (arith, leb-false 16 (c .before .before .before .before .args .op) (clear .0), leb-false 256 (c .before .before .before .before .args .obj) (clear .1))
+
+permission-beyond-requires : tie.Need-permission-beyond-requires
+permission-beyond-requires c κs = search needs
+
+role-beyond-requires : tie.Need-role-beyond-requires
+role-beyond-requires c κs = search needs
+
+either-requires : tie.Need-either-requires
+either-requires c κs = search needs
+
+returns : tie.Need-returns
+unfolding seen grant settle verdict
+returns c = rw (beyond (c .before) ∙ c .if1 .taken)
+
+has-requires : tie.Need-has-requires
+has-requires c κs = search needs
+
+returns-2 : tie.Need-returns-2
+unfolding seen grant settle verdict view
+returns-2 c = rw (beyond (c .before .before .before) ∙ c .before .before .if1 .left, ← c .before .has .ensures, c .if2 .taken)
+
+mul-at : tie.Need-mul-at
+mul-at c = search needs
+
+add-at : tie.Need-add-at
+add-at c = search needs
+
+mul-old : tie.Need-mul-old
+mul-old c = search needs
+
+element-copy-out-old : tie.Need-element-copy-out-old
+element-copy-out-old c = within (c .before .before)
+
+has-requires-2 : tie.Need-has-requires-2
+has-requires-2 c κs = search needs
+
+returns-3 : tie.Need-returns-3
+unfolding seen grant settle verdict view
+returns-3 c = rw (beyond (c .before .before .before .before .before .before) ∙ c .before .before .before .before .before .if1 .left, ← c .before .before .before .before .has .ensures, c .before .before .before .if2 .left, there (c .before) ∙ c .if3 .taken)
+
+full-requires : tie.Need-full-requires
+full-requires c κs = search needs
+
+returns-4 : tie.Need-returns-4
+unfolding seen grant settle verdict view
+returns-4 c = rw (beyond (c .before .before .before .before .before .before .before .before .before .before .before) ∙ c .before .before .before .before .before .before .before .before .before .before .if1 .left, ← c .before .before .before .before .before .before .before .before .before .has .ensures, c .before .before .before .before .before .before .before .before .if2 .left, there (c .before .before .before .before .before .before) ∙ c .before .before .before .before .before .if3 .left, filled (c .before) ∙ c .if4 .taken)
+
+with-requires : tie.Need-with-requires
+with-requires c κs = search needs
+
+mul-after : tie.Need-mul-after
+mul-after c = search needs
+
+element-write-after : tie.Need-element-write-after
+element-write-after c = within (c .before .before .before .before .before .before .before .before .before .before .before)
+
+returns-5 : tie.Need-returns-5
+unfolding seen grant settle verdict view granted
+returns-5 c =
+    let whole : length (c .before .before .before .before .before .before .before .before .before .before .before .before .before .before .before .args .t1 .holders) ≡ 4096 = omega arith in
+    rw (beyond (c .before .before .before .before .before .before .before .before .before .before .before .before) ∙ c .before .before .before .before .before .before .before .before .before .before .before .if1 .left, ← c .before .before .before .before .before .before .before .before .before .before .has .ensures, c .before .before .before .before .before .before .before .before .before .if2 .left, there (c .before .before .before .before .before .before .before) ∙ c .before .before .before .before .before .before .if3 .left, filled (c .before .before) ∙ c .before .if4 .left)
+    (ap (done []) (store-holders (c .before .before .before .before .before .before .before .before .before .before .before .before .before .before .before .args .t1) (permission (c .before .before .before .before .before .before .before .before .before .before .before .before .before .before .before .args .op) (c .before .before .before .before .before .before .before .before .before .before .before .before .before .before .before .args .obj)) (c .with .result) (rw whole (within (c .before .before .before .before .before .before .before .before .before .before .before))) ∙ ap (λ (x : ℕ). withHolders (view (c .before .before .before .before .before .before .before .before .before .before .before .before .before .before .before .args .t1)) (put (view (c .before .before .before .before .before .before .before .before .before .before .before .before .before .before .before .args .t1) .holders) (permission (c .before .before .before .before .before .before .before .before .before .before .before .before .before .before .before .args .op) (c .before .before .before .before .before .before .before .before .before .before .before .before .before .before .before .args .obj)) x)) (c .with .ensures .is)))
+
+pub grant-spec : {M : Type 1} → statement M
+grant-spec =
+    tie.close
+    (tie.spec
+    permission-beyond-requires
+    role-beyond-requires
+    either-requires
+    returns
+    has-requires
+    returns-2
+    mul-at
+    add-at
+    mul-old
+    element-copy-out-old
+    has-requires-2
+    returns-3
+    full-requires
+    returns-4
+    with-requires
+    mul-after
+    element-write-after
+    returns-5)

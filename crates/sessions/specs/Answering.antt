@@ -1,0 +1,51 @@
+-- What the functions that give a result hand back, read as the model tells it. On a refusal there are no results, and the place of the result
+-- holds no or 0. Assumes nothing.
+use mathlib.Core.Bool.{Bool, true, false, not, _&&_}
+use mathlib.Core.List.{List, [], _∷_}
+use mathlib.Core.Path.{_≡_}
+use Prim.Native.Nat.{ℕ}
+use lib.Dec.{eqb}
+use Rattle.roleset.specs.Bounded.{bit}
+use Rattle.roleset.specs.Roles.{both, isEmpty}
+use Rattle.numbers.specs.Answers.{numberOf}
+use Rattle.numbers.specs.declared.Answer.{Answer}
+use Rattle.hierarchy.specs.Walks.{reach}
+use Rattle.model.specs.Model.{Model, Session}
+use Rattle.model.specs.Sheet.{Told, _when_, verdict}
+use Rattle.model.specs.Words.{permission}
+use Rattle.model.specs.commands.Naming.{noPermission}
+use Rattle.sessions.specs.declared.Checked.{Checked}
+use Rattle.sessions.specs.declared.Owned.{Owned}
+
+-- the answer is 0, done
+abbrev pub isDone : Answer → Bool
+isDone a = eqb (numberOf a) 0
+
+-- the one result where the answer is 0, and no results on a refusal
+unfoldable pub given : Answer → ℕ → List ℕ
+given a result = elim (isDone a) [ true ↦ result ∷ [] | false ↦ [] ]
+
+-- what `check` tells over m: 1 for yes or 0 for no, and nothing changes
+unfoldable pub toldChecked : Model → Checked → Told
+toldChecked m x = record { answer = numberOf (x .answer); results = given (x .answer) (bit (x .yes)); after = m }
+
+pub record Checks (m : Model) (told : Told) (x : Checked) : Type 0 where
+  pub tells : toldChecked m x ≡ told
+  pub silent : isDone (x .answer) ≡ false → x .yes ≡ false
+
+-- what the question of an owner tells over m: the owner's number, and nothing changes
+unfoldable pub toldOwned : Model → Owned → Told
+toldOwned m x = record { answer = numberOf (x .answer); results = given (x .answer) (x .owner .number); after = m }
+
+pub record Owns (m : Model) (told : Told) (x : Owned) : Type 0 where
+  pub tells : toldOwned m x ≡ told
+  pub silent : isDone (x .answer) ≡ false → x .owner .number ≡ 0
+
+-- some role of the active ones, or inherited by one, holds the permission: `permitted`, over the tables that it reads
+unfoldable pub permits : (ℕ → ℕ) → (ℕ → ℕ) → ℕ → ℕ → Bool
+permits juniors holders active p = not (isEmpty (both (reach juniors active .roles) (holders p)))
+
+-- what `check` answers of a session, over the tables that it reads: 1, 2, 13, else yes or no
+pub record ChecksLent (juniors holders : ℕ → ℕ) (session : Session) (op obj : ℕ) (x : Checked) : Type 0 where
+  pub answer : numberOf (x .answer) ≡ verdict (1 when noPermission op obj ∷ 2 when not (session .live) ∷ 13 when reach juniors (session .active) .cut ∷ [])
+  pub answered : x .yes ≡ (isDone (x .answer) && permits juniors holders (session .active) (permission op obj))

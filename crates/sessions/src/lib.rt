@@ -1,0 +1,164 @@
+// The session commands `session`, `activate`, `drop` and `end`; the question `check`, and whose a session is.
+ghost use mathlib.Core.Path.{_≡_};
+ghost use Rattle.hierarchy.specs.Lines.{tableOf};
+ghost use Rattle.model.specs.commands.Sessions.{activate, drop, end, check, owner};
+ghost use Rattle.policy.specs.View.{view, seen};
+ghost use Rattle.sessions.specs.Answering.{Checks, ChecksLent, Owns};
+use model::SessionRecord;
+use numbers::Answer;
+use numbers::Role;
+use numbers::Session;
+use numbers::User;
+use policy::naming::either;
+use policy::naming::permission_beyond;
+use policy::Outcome;
+use policy::State;
+
+// What `check` answers: yes or no, and no on a refusal.
+pub struct Checked {
+    pub answer: Answer,
+    pub yes: bool,
+}
+
+// Whose a session is; user 0 on a refusal.
+pub struct Owned {
+    pub answer: Answer,
+    pub owner: User,
+}
+
+// The role becomes active in the session; 1, 2, 3, 4, 9, 11.
+pub fn activate(s: State, u: User, x: Session, r: Role) -> Outcome
+    ensures { λ o. ⌜ seen o ≡ activate (view s) (u .number) (x .number) (r .number) ⌝ }
+{
+    if numbers::activation_beyond(u, x, r) {
+        return Outcome { answer: Answer::BeyondRange, state: s };
+    }
+    let user = u.number as usize;
+    let at = x.number as usize;
+    let old = s.sessions[at];
+    if either(!s.users[user], either(!old.live, !roleset::has(s.roles, r.number))) {
+        return Outcome { answer: Answer::Missing, state: s };
+    }
+    if old.owner as u16 != u.number {
+        return Outcome { answer: Answer::OtherOwner, state: s };
+    }
+    if roleset::has(old.active, r.number) {
+        return Outcome { answer: Answer::AlreadyThere, state: s };
+    }
+    let assigned = s.assigned[user];
+    let walk = hierarchy::reach(&s.juniors, assigned);
+    if !roleset::has(walk.roles, r.number) {
+        return Outcome { answer: Answer::NotAuthorised, state: s };
+    }
+    let active = roleset::with(old.active, r.number);
+    let dsd = s.dsd;
+    if separation::breaks_some(dsd, active) {
+        return Outcome { answer: Answer::BreaksDynamic, state: s };
+    }
+    if walk.cut {
+        return Outcome { answer: Answer::ChainTooLong, state: s };
+    }
+    let mut after = s;
+    after.sessions[at] = SessionRecord { live: old.live, owner: old.owner, active };
+    Outcome { answer: Answer::Done, state: after }
+}
+
+// The role is active in the session no longer; 1, 2, 3, 5.
+pub fn drop(s: State, u: User, x: Session, r: Role) -> Outcome
+    ensures { λ o. ⌜ seen o ≡ drop (view s) (u .number) (x .number) (r .number) ⌝ }
+{
+    if numbers::activation_beyond(u, x, r) {
+        return Outcome { answer: Answer::BeyondRange, state: s };
+    }
+    let user = u.number as usize;
+    let at = x.number as usize;
+    let old = s.sessions[at];
+    if either(!s.users[user], either(!old.live, !roleset::has(s.roles, r.number))) {
+        return Outcome { answer: Answer::Missing, state: s };
+    }
+    if old.owner as u16 != u.number {
+        return Outcome { answer: Answer::OtherOwner, state: s };
+    }
+    if !roleset::has(old.active, r.number) {
+        return Outcome { answer: Answer::NotThere, state: s };
+    }
+    let active = roleset::without(old.active, r.number);
+    let mut after = s;
+    after.sessions[at] = SessionRecord { live: old.live, owner: old.owner, active };
+    Outcome { answer: Answer::Done, state: after }
+}
+
+// The session ends; 1, 2, 3.
+pub fn end(s: State, u: User, x: Session) -> Outcome
+    ensures { λ o. ⌜ seen o ≡ end (view s) (u .number) (x .number) ⌝ }
+{
+    if either(numbers::user_beyond(u), numbers::session_beyond(x)) {
+        return Outcome { answer: Answer::BeyondRange, state: s };
+    }
+    let user = u.number as usize;
+    let at = x.number as usize;
+    let old = s.sessions[at];
+    if either(!s.users[user], !old.live) {
+        return Outcome { answer: Answer::Missing, state: s };
+    }
+    if old.owner as u16 != u.number {
+        return Outcome { answer: Answer::OtherOwner, state: s };
+    }
+    let mut after = s;
+    after.sessions[at] = SessionRecord { live: false, owner: 0, active: 0 };
+    Outcome { answer: Answer::Done, state: after }
+}
+
+// Whose the session is; 1, 2.
+pub fn owner(s: State, x: Session) -> Owned
+    ensures { λ o. ⌜ Owns (view s) (owner (view s) (x .number)) o ⌝ }
+{
+    let none = User { number: 0 };
+    if numbers::session_beyond(x) {
+        return Owned { answer: Answer::BeyondRange, owner: none };
+    }
+    let at = x.number as usize;
+    let session = s.sessions[at];
+    if !session.live {
+        return Owned { answer: Answer::Missing, owner: none };
+    }
+    let owner = User { number: session.owner as u16 };
+    Owned { answer: Answer::Done, owner }
+}
+
+// May the session do the operation on the object? Yes exactly when some effective role holds the grant; 1, 2. The tables are lent, and none is copied.
+pub fn check_lent<'a>(
+    juniors: &'a [u64; 64],
+    holders: &'a [u64; 4096],
+    session: SessionRecord,
+    op: u16,
+    obj: u16,
+) -> Checked
+    ensures { λ a. ⌜ ChecksLent (tableOf (now (juniors .entry))) (tableOf (now (holders .entry))) session op obj a ⌝ }
+{
+    if permission_beyond(op, obj) {
+        return Checked { answer: Answer::BeyondRange, yes: false };
+    }
+    if !session.live {
+        return Checked { answer: Answer::Missing, yes: false };
+    }
+    let walk = hierarchy::reach(juniors, session.active);
+    if walk.cut {
+        return Checked { answer: Answer::ChainTooLong, yes: false };
+    }
+    let at = op as usize * 256 + obj as usize;
+    let holding = roleset::both(walk.roles, holders[at]);
+    Checked { answer: Answer::Done, yes: !roleset::is_empty(holding) }
+}
+
+// The question `check` of a session of the state; 1, 2.
+pub fn check(s: State, x: Session, op: u16, obj: u16) -> Checked
+    ensures { λ a. ⌜ Checks (view s) (check (view s) (x .number) op obj) a ⌝ }
+{
+    if numbers::session_beyond(x) {
+        return Checked { answer: Answer::BeyondRange, yes: false };
+    }
+    let at = x.number as usize;
+    let session = s.sessions[at];
+    check_lent(&s.juniors, &s.holders, session, op, obj)
+}

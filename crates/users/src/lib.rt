@@ -1,0 +1,59 @@
+// The commands `user`, `role`, `nouser` and `norole`.
+ghost use mathlib.Core.Path.{_≡_};
+ghost use Rattle.model.specs.commands.Users.{user, role, nouser, norole, inSet};
+ghost use Rattle.policy.specs.View.{view, seen};
+ghost use Rattle.separation.specs.Tables.{setsIn};
+use model::RoleSet;
+use numbers::Answer;
+use numbers::Role;
+use numbers::User;
+use policy::naming::either;
+use policy::Outcome;
+use policy::State;
+
+// The user exists from now on; 1, 4.
+pub fn user(s: State, u: User) -> Outcome
+    ensures { λ o. ⌜ seen o ≡ user (view s) (u .number) ⌝ }
+{
+    if numbers::user_beyond(u) {
+        return Outcome { answer: Answer::BeyondRange, state: s };
+    }
+    let at = u.number as usize;
+    if s.users[at] {
+        return Outcome { answer: Answer::AlreadyThere, state: s };
+    }
+    let mut after = s;
+    after.users[at] = true;
+    Outcome { answer: Answer::Done, state: after }
+}
+
+// The role exists from now on; 1, 4.
+pub fn role(s: State, r: Role) -> Outcome
+    ensures { λ o. ⌜ seen o ≡ role (view s) (r .number) ⌝ }
+{
+    if numbers::role_beyond(r) {
+        return Outcome { answer: Answer::BeyondRange, state: s };
+    }
+    if roleset::has(s.roles, r.number) {
+        return Outcome { answer: Answer::AlreadyThere, state: s };
+    }
+    let mut after = s;
+    after.roles = roleset::with(s.roles, r.number);
+    Outcome { answer: Answer::Done, state: after }
+}
+
+// Does the role stand in some of the sets?
+fn in_set(sets: [RoleSet; 16], r: Role) -> bool
+    ensures { λ b. ⌜ b ≡ inSet (setsIn sets) (r .number) ⌝ }
+{
+    let mut n: usize = 0;
+    while n < 16 {
+        let set = sets[n];
+        if roleset::has(set.roles, r.number) {
+            return true;
+        }
+        n += 1;
+    }
+    false
+}
+
