@@ -2,6 +2,7 @@
 use mathlib.Core.Bool.{Bool, true, false}
 use mathlib.Core.Path.{_≡_, refl, sym, ap, _∙_}
 use Prim.Native.Nat.{ℕ, _<_}
+use native.Mathlib.Omega.{arith}
 use native.Mathlib.Decide.{ℕ-discrete}
 use Rattle.roleset.specs.Bounded.{some}
 use Rattle.roleset.specs.Roles.{with}
@@ -18,8 +19,8 @@ use Rattle.model.specs.declared.Kind.the-variants.{Static, Dynamic}
 use Rattle.model.proofs.Puts.{put-same, put-other}
 use Rattle.sound.proofs.Breaking.{some-breaks, none-breaks, each-unbroken}
 use Rattle.sound.proofs.Changing.{held}
-use Rattle.sound.proofs.Sets.{holders, broken-some, rule-of}
-use Rattle.sound.proofs.Sessions.{lowest-free}
+use Rattle.sound.proofs.Sets.{askedOf, broken-some, rule-of}
+use Rattle.sound.proofs.Sessions.{lowest-free, lowest-within}
 
 -- A test that can be passed at one place only is passed there exactly where it is passed somewhere.
 pub one-asked : (n : ℕ) (test : ℕ → Bool) (i : ℕ) → i < n → ((k : ℕ) → (k ≡ i → ⊥) → test k ≡ false) → test i ≡ some n test
@@ -36,27 +37,32 @@ assign-asks-all m s u r user = one-asked 256 (staticBroken (assigned m u r)) u (
     (λ k d. ap (λ (set : ℕ). breaksSome (m .ssd) (reach (m .juniors) set .roles)) (put-other (m .assigned) u (with (m .assigned u) r) k d) ∙ s .rules .static k)
 
 -- One session changed: the dynamic rule would be broken in it exactly where it would be in some session.
-pub session-asks-all : (m : Model) → Sound m → (k : ℕ) (new : Session) → k < 64 → dynamicBroken (sessionSet m k new) k ≡ some 64 (dynamicBroken (sessionSet m k new))
+pub session-asks-all : (m : Model) → Sound m → (n k : ℕ) (new : Session) → k < n → dynamicBroken (sessionSet m k new) k ≡ some n (dynamicBroken (sessionSet m k new))
 unfolding dynamicBroken
-session-asks-all m s k new l = one-asked 64 (dynamicBroken (sessionSet m k new)) k l
+session-asks-all m s n k new l = one-asked n (dynamicBroken (sessionSet m k new)) k l
     (λ i d. ap (λ (y : Session). breaksSome (m .dsd) (y .active)) (put-other (m .sessions) k new i d) ∙ s .rules .dynamic i)
 
--- `session`: so it is of the session opened,
-pub opened-asks-all : (m : Model) → Sound m → (u roles : ℕ) → sessionsOpen m < 64 → dynamicBroken (opened m u roles) (lowestFree m) ≡ some 64 (dynamicBroken (opened m u roles))
+-- `session`: so it is of the session to be opened, among the 64 that there may be and, where all of these are open, the one that has no room,
+pub opened-asks-all : (m : Model) → Sound m → (u roles : ℕ) → dynamicBroken (opened m u roles) (lowestFree m) ≡ some 65 (dynamicBroken (opened m u roles))
 unfolding opened
-opened-asks-all m s u roles room = session-asks-all m s (lowestFree m) (openFor u roles) (lowest-free m room .within)
+opened-asks-all m s u roles = session-asks-all m s 65 (lowestFree m) (openFor u roles) (omega (arith, lowest-within m))
+
+-- which is one of the 64 where there is room,
+pub room-asks-all : (m : Model) → Sound m → (u roles : ℕ) → sessionsOpen m < 64 → dynamicBroken (opened m u roles) (lowestFree m) ≡ some 64 (dynamicBroken (opened m u roles))
+unfolding opened
+room-asks-all m s u roles room = session-asks-all m s 64 (lowestFree m) (openFor u roles) (lowest-free m room .within)
 
 -- and `activate`: of the session in which a role becomes active.
 pub activate-asks-all : (m : Model) → Sound m → (k r : ℕ) → m .sessions k .live ≡ true → dynamicBroken (activeSet m k (with (m .sessions k .active) r)) k ≡ some 64 (dynamicBroken (activeSet m k (with (m .sessions k .active) r)))
 unfolding activeSet
-activate-asks-all m s k r live = session-asks-all m s k (record { live = m .sessions k .live; owner = m .sessions k .owner; active = with (m .sessions k .active) r }) (s .shape .sessions k .numbered live)
+activate-asks-all m s k r live = session-asks-all m s 64 k (record { live = m .sessions k .live; owner = m .sessions k .owner; active = with (m .sessions k .active) r }) (s .shape .sessions k .numbered live)
 
 -- the rule of a kind is broken: for some user, or in some session
 abbrev pub ruleBroken : Kind → Model → Bool
 ruleBroken Static m = some 256 (staticBroken m)
 ruleBroken Dynamic m = some 64 (dynamicBroken m)
 
-rule-some : (kind : Kind) (m : Model) (new : ℕ → RoleSet) → ruleBroken kind (withSets kind m new) ≡ some (holders kind) (λ i. breaksSome new (held kind m i))
+rule-some : (kind : Kind) (m : Model) (new : ℕ → RoleSet) → ruleBroken kind (withSets kind m new) ≡ some (askedOf kind) (λ i. breaksSome new (held kind m i))
 unfolding staticBroken dynamicBroken
 rule-some Static m new = refl
 rule-some Dynamic m new = refl
@@ -64,7 +70,7 @@ rule-some Dynamic m new = refl
 -- The commands of a set: the set made or changed would be broken exactly where some set of its kind would be.
 pub set-asks-all : (kind : Kind) (m : Model) → Sound m → (name : ℕ) (new : RoleSet) → name < 16 → broken kind m new ≡ ruleBroken kind (withSets kind m (put (setsOf kind m) name new))
 set-asks-all kind m s name new l =
-    broken-some kind m new ∙ some-ext (holders kind) (λ i. breaks new (held kind m i)) (λ i. breaksSome sets (held kind m i)) (λ i li. same i) ∙ sym (rule-some kind m sets)
+    broken-some kind m new ∙ some-ext (askedOf kind) (λ i. breaks new (held kind m i)) (λ i. breaksSome sets (held kind m i)) (λ i li. same i) ∙ sym (rule-some kind m sets)
   where
     sets : ℕ → RoleSet
     sets = put (setsOf kind m) name new

@@ -37,10 +37,11 @@ existing-with m set r x h = record { small = with-small set r; exist = λ k e. g
 pub existing-without : (m : Model) (set r : ℕ) → Existing m set → Existing m (without set r)
 existing-without m set r x = record { small = without-small set r; exist = λ k e. x .exist k (without-member set r k e .1) }
 
--- A set that is not there has its shape, and so has a session that is not live.
+-- A set that is not there has its shape,
 pub set-none : (m : Model) (n : ℕ) → SetShape m n noSet
 set-none m n = record { absent = λ e. refl; named = λ e. clash false e refl; atLeast = λ e. clash false e refl; atMost = λ e. clash false e refl; members = existing-none m }
 
+-- and so has a session that is not live.
 pub session-none : (m : Model) (k : ℕ) → SessionShape m k noSession
 session-none m k = record { closed = λ e. refl; numbered = λ e. clash false e refl; owned = λ e. clash false e refl; active = existing-none m }
 

@@ -1,20 +1,20 @@
 -- On a sound model each command answers by its list in the paper: 10 where the rule would be broken "for some user", 11 "in some session",
 -- and 13 never, since no walk meets a chain of more than 64 roles. Assumes nothing.
-use mathlib.Core.Bool.{Bool, true, false, not, _&&_, _||_, and-false}
+use mathlib.Core.Bool.{true, false, not, _&&_, _||_, and-false}
 use mathlib.Core.List.{List, [], _∷_}
-use mathlib.Core.Path.{_≡_, refl, sym, ap, subst, _∙_}
-use Prim.Native.Nat.{ℕ, _<_}
+use mathlib.Core.Path.{_≡_, refl}
+use Prim.Native.Nat.{ℕ}
 use native.Mathlib.Omega.{arith}
 use lib.Dec.{eqb, leb}
 use borrow.Author.Tests.{leb-false, not-false}
 use Rattle.roleset.specs.Bounded.{some, bit}
-use Rattle.roleset.specs.Roles.{has, with, without, none, subset}
+use Rattle.roleset.specs.Roles.{has, with, none, subset}
 use Rattle.roleset.proofs.BoundedLaws.{some-none}
 use Rattle.numbers.specs.Ranges.{mostAssignments, mostLines, sessions}
 use Rattle.hierarchy.specs.Lines.{Acyclic}
 use Rattle.hierarchy.proofs.InheritsLaws.{remove-acyclic}
 use Rattle.hierarchy.proofs.CircleLaws.{never-cut}
-use Rattle.model.specs.Model.{Model, RoleSet, put}
+use Rattle.model.specs.Model.{Model, put}
 use Rattle.model.specs.Sheet.{Refusal, _when_, Told, settle}
 use Rattle.model.specs.Words.{reached, authorised, staticBroken, dynamicBroken, permission, assignments, linesStanding, sessionsOpen, shed, shedCut}
 use Rattle.model.specs.Lists.{ascending, someFrom, setOf}
@@ -31,7 +31,6 @@ use Rattle.sound.proofs.Sheet.{absent, alike-settle, not-told}
 use Rattle.sound.proofs.Members.{or-no, fewer-at, stripped-fewer}
 use Rattle.sound.proofs.Carried.{sound-never-cut}
 use Rattle.sound.proofs.Inheriting.{lined-acyclic}
-use Rattle.sound.proofs.Sets.{shape-of}
 use Rattle.sound.proofs.Asked.{assign-asks-all, opened-asks-all, activate-asks-all, ruleBroken, set-asks-all}
 
 -- ---- no walk is cut off
@@ -54,15 +53,142 @@ asking-never-cut Dynamic m s = refl
 never-13 : (rs : List Refusal) (m : Model) (results : List ℕ) (after : Model) (t : Told) → absent 13 rs ≡ true → t ≡ settle rs m results after → t .answer ≡ 13 → ⊥
 never-13 rs m results after t = not-told 13 rs m results after t (omega arith)
 
--- ---- assignments
+-- the number of a rule is not 13
+rule-absent : (kind : Kind) → (not (eqb (ruleNumber kind) 13) && true) ≡ true
+rule-absent Static = refl
+rule-absent Dynamic = refl
 
--- `assign u r`: 1, 2, 4, 10 where an SSD rule would be broken for some user, 12;
+-- ---- assignments and lines
+
+-- "`assign u r`: 1, 2, 4, 10, 12."
 pub assign-listed : (m : Model) (u r : ℕ) → Sound m → assign m u r ≡ settle (1 when (noUser u || noRole r) ∷ 2 when (userMissing m u || roleMissing m r) ∷ 4 when has (m .assigned u) r ∷ 10 when some 256 (staticBroken (assigned m u r)) ∷ 12 when leb mostAssignments (assignments m) ∷ []) m [] (assigned m u r)
 unfolding assign
 assign-listed m u r s =
     alike-settle _ _ m [] (assigned m u r)
-      (refl, refl, λ c1. (refl, refl, λ c2. (refl, refl, λ c4. (refl, assign-asks-all m s u r (not-false (m .users u) (or-no (userMissing m u) (roleMissing m r) c2 .0)), λ c10. (refl, refl, λ c12. (sound-never-cut m s (with (m .assigned u) r), tt))))))
+    (refl, refl, λ c1. (refl, refl, λ c2. (refl, refl, λ c4. (refl, assign-asks-all m s u r (not-false (m .users u) (or-no (userMissing m u) (roleMissing m r) c2 .0)), λ c10. (refl, refl, λ c12. (sound-never-cut m s (with (m .assigned u) r), tt))))))
 
--- never 13.
+-- "`deassign u r`: 1, 2, 5, then sheds."
+pub deassign-listed : (m : Model) (u r : ℕ) → Sound m → deassign m u r ≡ settle (1 when (noUser u || noRole r) ∷ 2 when (userMissing m u || roleMissing m r) ∷ 5 when not (has (m .assigned u) r) ∷ []) m [] (shed (deassigned m u r))
+unfolding deassign deassigned
+deassign-listed m u r s =
+    alike-settle _ _ m [] (shed (deassigned m u r))
+    (refl, refl, λ c1. (refl, refl, λ c2. (refl, refl, λ c5. (shed-never-cut (deassigned m u r) (s .rules .acyclic), tt))))
+
+-- "`inherit senior junior`: 1, 2, 4 (this direct line stands), 6 (equal, or the junior inherits the senior), 10, 12."
+pub inherit-listed : (m : Model) (senior junior : ℕ) → Sound m → inherit m senior junior ≡ settle (1 when (noRole senior || noRole junior) ∷ 2 when (roleMissing m senior || roleMissing m junior) ∷ 4 when has (m .juniors senior) junior ∷ 6 when wouldCircle m senior junior ∷ 10 when some 256 (staticBroken (lined m senior junior)) ∷ 12 when leb mostLines (linesStanding m) ∷ []) m [] (lined m senior junior)
+unfolding inherit
+inherit-listed m senior junior s =
+    alike-settle _ _ m [] (lined m senior junior)
+    (refl, refl, λ c1. (refl, refl, λ c2. (refl, refl, λ c4. (refl, refl, λ c6. (refl, refl, λ c10. (refl, refl, λ c12. (uncut c1 c6, tt)))))))
+  where
+    uncut : (noRole senior || noRole junior) ≡ false → wouldCircle m senior junior ≡ false → (reached m (with none junior) .cut || usersCut (lined m senior junior)) ≡ false
+    uncut c1 c6 = rw (sound-never-cut m s (with none junior)) (users-never-cut (lined m senior junior) (lined-acyclic m s senior junior (leb-false 64 junior (or-no (noRole senior) (noRole junior) c1 .1)) c6))
+
+-- "`disinherit senior junior`: 1, 2, 5, then sheds."
+pub disinherit-listed : (m : Model) (senior junior : ℕ) → Sound m → disinherit m senior junior ≡ settle (1 when (noRole senior || noRole junior) ∷ 2 when (roleMissing m senior || roleMissing m junior) ∷ 5 when not (has (m .juniors senior) junior) ∷ []) m [] (shed (unlined m senior junior))
+unfolding disinherit unlined
+disinherit-listed m senior junior s =
+    alike-settle _ _ m [] (shed (unlined m senior junior))
+    (refl, refl, λ c1. (refl, refl, λ c2. (refl, refl, λ c5. (shed-never-cut (unlined m senior junior) (remove-acyclic (fewer-at (m .juniors) senior junior) (s .rules .acyclic)), tt))))
+
+-- "`norole r`: .. then sheds; 1, 2, 8."
+pub norole-listed : (m : Model) (r : ℕ) → Sound m → norole m r ≡ settle (1 when noRole r ∷ 2 when roleMissing m r ∷ 8 when (inSet (m .ssd) r || inSet (m .dsd) r) ∷ []) m [] (shed (withoutRole m r))
+unfolding norole withoutRole
+norole-listed m r s =
+    alike-settle _ _ m [] (shed (withoutRole m r))
+    (refl, refl, λ c1. (refl, refl, λ c2. (refl, refl, λ c8. (shed-never-cut (withoutRole m r) (remove-acyclic (stripped-fewer (m .juniors) r) (s .rules .acyclic)), tt))))
+
+-- ---- sets, of both kinds
+
+-- "`ssd name n r..`: 1, 2 (a role), 4, 7, 10.", and "alike with 11 for 10"
+pub makeSet-listed : (kind : Kind) (m : Model) (name n : ℕ) (list : List ℕ) → Sound m → makeSet kind m name n list ≡ settle (14 when not (ascending list) ∷ 1 when (noSet name || someFrom 64 list) ∷ 2 when not (subset (setOf list) (m .roles)) ∷ 4 when setsOf kind m name .there ∷ 7 when badCardinality n (setOf list) ∷ ruleNumber kind when ruleBroken kind (withSets kind m (put (setsOf kind m) name (aSet n (setOf list)))) ∷ []) m [] (withSets kind m (put (setsOf kind m) name (aSet n (setOf list))))
+unfolding makeSet
+makeSet-listed kind m name n list s =
+    alike-settle _ _ m [] (withSets kind m (put (setsOf kind m) name (aSet n (setOf list))))
+    (refl, refl, λ c14. (refl, refl, λ c1. (refl, refl, λ c2. (refl, refl, λ c4. (refl, refl, λ c7. (refl, set-asks-all kind m s name (aSet n (setOf list)) (leb-false 16 name (or-no (noSet name) (someFrom 64 list) c1 .0)), λ c. (asking-never-cut kind m s, tt)))))))
+
+-- "`ssd-add name r`: 1, 2, 4, 10."
+pub addMember-listed : (kind : Kind) (m : Model) (name r : ℕ) → Sound m → addMember kind m name r ≡ settle (1 when (noSet name || noRole r) ∷ 2 when (setMissing kind m name || roleMissing m r) ∷ 4 when has (setsOf kind m name .roles) r ∷ ruleNumber kind when ruleBroken kind (withSets kind m (put (setsOf kind m) name (aSet (setsOf kind m name .card) (with (setsOf kind m name .roles) r)))) ∷ []) m [] (withSets kind m (put (setsOf kind m) name (aSet (setsOf kind m name .card) (with (setsOf kind m name .roles) r))))
+unfolding addMember
+addMember-listed kind m name r s =
+    alike-settle _ _ m [] _
+    (refl, refl, λ c1. (refl, refl, λ c2. (refl, refl, λ c4. (refl, set-asks-all kind m s name (aSet (setsOf kind m name .card) (with (setsOf kind m name .roles) r)) (leb-false 16 name (or-no (noSet name) (noRole r) c1 .0)), λ c. (asking-never-cut kind m s, tt)))))
+
+-- "`ssd-card name n`: 1, 2, 7, 10."
+pub setCardinality-listed : (kind : Kind) (m : Model) (name n : ℕ) → Sound m → setCardinality kind m name n ≡ settle (1 when noSet name ∷ 2 when setMissing kind m name ∷ 7 when badCardinality n (setsOf kind m name .roles) ∷ ruleNumber kind when ruleBroken kind (withSets kind m (put (setsOf kind m) name (aSet n (setsOf kind m name .roles)))) ∷ []) m [] (withSets kind m (put (setsOf kind m) name (aSet n (setsOf kind m name .roles))))
+unfolding setCardinality
+setCardinality-listed kind m name n s =
+    alike-settle _ _ m [] _
+    (refl, refl, λ c1. (refl, refl, λ c2. (refl, refl, λ c7. (refl, set-asks-all kind m s name (aSet n (setsOf kind m name .roles)) (leb-false 16 name c1), λ c. (asking-never-cut kind m s, tt)))))
+
+-- ---- sessions
+
+-- "`session u r..`: 1, 2, 9, 11, 12; the result is the lowest free session number."
+pub session-listed : (m : Model) (u : ℕ) (list : List ℕ) → Sound m → session m u list ≡ settle (14 when not (ascending list) ∷ 1 when (noUser u || someFrom 64 list) ∷ 2 when (userMissing m u || not (subset (setOf list) (m .roles))) ∷ 9 when not (subset (setOf list) (authorised m u)) ∷ 11 when some 65 (dynamicBroken (opened m u (setOf list))) ∷ 12 when leb sessions (sessionsOpen m) ∷ []) m (lowestFree m ∷ []) (opened m u (setOf list))
+unfolding session
+session-listed m u list s =
+    alike-settle _ _ m (lowestFree m ∷ []) (opened m u (setOf list))
+    (refl, refl, λ c14. (refl, refl, λ c1. (refl, refl, λ c2. (refl, refl, λ c9. (refl, opened-asks-all m s u (setOf list), λ c11. (refl, refl, λ c12. (sound-never-cut m s (m .assigned u), tt)))))))
+
+-- "`activate u s r`: 1, 2, 3, 4, 9, 11."
+pub activate-listed : (m : Model) (u k r : ℕ) → Sound m → activate m u k r ≡ settle (1 when (noUser u || (noSession k || noRole r)) ∷ 2 when (userMissing m u || (sessionMissing m k || roleMissing m r)) ∷ 3 when notOwner m u k ∷ 4 when has (m .sessions k .active) r ∷ 9 when not (has (authorised m u) r) ∷ 11 when some 64 (dynamicBroken (activeSet m k (with (m .sessions k .active) r))) ∷ []) m [] (activeSet m k (with (m .sessions k .active) r))
+unfolding activate
+activate-listed m u k r s =
+    alike-settle _ _ m [] (activeSet m k (with (m .sessions k .active) r))
+    (refl, refl, λ c1. (refl, refl, λ c2. (refl, refl, λ c3. (refl, refl, λ c4. (refl, refl, λ c9. (refl, activate-asks-all m s k r (live c2), λ c11. (sound-never-cut m s (m .assigned u), tt)))))))
+  where
+    live : (userMissing m u || (sessionMissing m k || roleMissing m r)) ≡ false → m .sessions k .live ≡ true
+    live c2 = not-false (m .sessions k .live) (or-no (sessionMissing m k) (roleMissing m r) (or-no (userMissing m u) (sessionMissing m k || roleMissing m r) c2 .1) .0)
+
+-- "`check s op obj`: refusals 1 and 2, else answer 0 with the result 1 for yes or 0 for no."
+pub check-listed : (m : Model) (k op obj : ℕ) → Sound m → check m k op obj ≡ settle (1 when (noSession k || noPermission op obj) ∷ 2 when sessionMissing m k ∷ []) m (bit (permitted m k (permission op obj)) ∷ []) m
+unfolding check
+check-listed m k op obj s =
+    alike-settle _ _ m (bit (permitted m k (permission op obj)) ∷ []) m
+    (refl, refl, λ c1. (refl, refl, λ c2. (sound-never-cut m s (m .sessions k .active), tt)))
+
+-- ---- 13
+
+-- No command or question on a sound model answers 13: `assign`,
 pub assign-never-13 : (m : Model) (u r : ℕ) → Sound m → assign m u r .answer ≡ 13 → ⊥
 assign-never-13 m u r s = never-13 _ m _ _ (assign m u r) refl (assign-listed m u r s)
+
+-- `deassign`,
+pub deassign-never-13 : (m : Model) (u r : ℕ) → Sound m → deassign m u r .answer ≡ 13 → ⊥
+deassign-never-13 m u r s = never-13 _ m _ _ (deassign m u r) refl (deassign-listed m u r s)
+
+-- `inherit`,
+pub inherit-never-13 : (m : Model) (senior junior : ℕ) → Sound m → inherit m senior junior .answer ≡ 13 → ⊥
+inherit-never-13 m senior junior s = never-13 _ m _ _ (inherit m senior junior) refl (inherit-listed m senior junior s)
+
+-- `disinherit`,
+pub disinherit-never-13 : (m : Model) (senior junior : ℕ) → Sound m → disinherit m senior junior .answer ≡ 13 → ⊥
+disinherit-never-13 m senior junior s = never-13 _ m _ _ (disinherit m senior junior) refl (disinherit-listed m senior junior s)
+
+-- `norole`,
+pub norole-never-13 : (m : Model) (r : ℕ) → Sound m → norole m r .answer ≡ 13 → ⊥
+norole-never-13 m r s = never-13 _ m _ _ (norole m r) refl (norole-listed m r s)
+
+-- `ssd` and `dsd`,
+pub makeSet-never-13 : (kind : Kind) (m : Model) (name n : ℕ) (list : List ℕ) → Sound m → makeSet kind m name n list .answer ≡ 13 → ⊥
+makeSet-never-13 kind m name n list s = never-13 _ m _ _ (makeSet kind m name n list) (rule-absent kind) (makeSet-listed kind m name n list s)
+
+-- `ssd-add` and `dsd-add`,
+pub addMember-never-13 : (kind : Kind) (m : Model) (name r : ℕ) → Sound m → addMember kind m name r .answer ≡ 13 → ⊥
+addMember-never-13 kind m name r s = never-13 _ m _ _ (addMember kind m name r) (rule-absent kind) (addMember-listed kind m name r s)
+
+-- `ssd-card` and `dsd-card`,
+pub setCardinality-never-13 : (kind : Kind) (m : Model) (name n : ℕ) → Sound m → setCardinality kind m name n .answer ≡ 13 → ⊥
+setCardinality-never-13 kind m name n s = never-13 _ m _ _ (setCardinality kind m name n) (rule-absent kind) (setCardinality-listed kind m name n s)
+
+-- `session`,
+pub session-never-13 : (m : Model) (u : ℕ) (list : List ℕ) → Sound m → session m u list .answer ≡ 13 → ⊥
+session-never-13 m u list s = never-13 _ m _ _ (session m u list) refl (session-listed m u list s)
+
+-- `activate`
+pub activate-never-13 : (m : Model) (u k r : ℕ) → Sound m → activate m u k r .answer ≡ 13 → ⊥
+activate-never-13 m u k r s = never-13 _ m _ _ (activate m u k r) refl (activate-listed m u k r s)
+
+-- or `check`; no other follows inheritance.
+pub check-never-13 : (m : Model) (k op obj : ℕ) → Sound m → check m k op obj .answer ≡ 13 → ⊥
+check-never-13 m k op obj s = never-13 _ m _ _ (check m k op obj) refl (check-listed m k op obj s)

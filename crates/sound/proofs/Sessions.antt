@@ -58,6 +58,19 @@ free-or-full sessions (suc left) k = go (sessions k .live) refl (free-or-full se
         let here : freeFrom sessions (suc left) k ≡ k = rw (e, freeFrom) in
         inl (rw here (record { within = omega arith; free = e; lowest = λ i h l. absurd (omega arith) }))
 
+free-at-most : (sessions : ℕ → Session) (left k : ℕ) → freeFrom sessions left k ≤ k + left
+unfolding freeFrom
+free-at-most sessions zero k = omega arith
+free-at-most sessions (suc left) k = go (sessions k .live) refl (free-at-most sessions left (suc k))
+  where
+    go : (b : Bool) → sessions k .live ≡ b → freeFrom sessions left (suc k) ≤ suc k + left → freeFrom sessions (suc left) k ≤ k + suc left
+    go true e ih = rw (e, freeFrom) (omega arith)
+    go false e ih = rw (e, freeFrom) (omega arith)
+
+-- The number searched for is at most 64, whether or not there is room.
+pub lowest-within : (m : Model) → lowestFree m ≤ 64
+lowest-within m = omega (arith, free-at-most (m .sessions) 64 0)
+
 -- where every test passes, all are counted
 tally-all : (n : ℕ) (f : ℕ → Bool) → ((k : ℕ) → k < n → f k ≡ true) → tally n f ≡ n
 unfolding tally
@@ -150,11 +163,12 @@ end-sound m u k s =
     (λ r e. clash (has 0 r) e (has-none r))
     (some-breaks-fewer (m .dsd) 0 (m .sessions k .active) (λ r l e. clash (has 0 r) e (has-none r)) (s .rules .dynamic k)))
 
--- The questions `check`, and whose a session is, change nothing.
+-- The question `check` changes nothing,
 pub check-changes-nothing : (m : Model) (k op obj : ℕ) → check m k op obj .after ≡ m
 unfolding check
 check-changes-nothing m k op obj = settle-same _ m _
 
+-- and neither does the question whose a session is.
 pub owner-changes-nothing : (m : Model) (k : ℕ) → owner m k .after ≡ m
 unfolding owner
 owner-changes-nothing m k = settle-same _ m _

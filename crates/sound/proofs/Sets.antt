@@ -27,27 +27,28 @@ use Rattle.sound.proofs.Changing.{held, sets-changed}
 
 -- ---- what the two kinds share
 
--- how many users, or sessions, there are
-abbrev pub holders : Kind → ℕ
-holders Static = 256
-holders Dynamic = 64
+-- of how many a rule is asked: of every user, or of every session
+abbrev pub askedOf : Kind → ℕ
+askedOf Static = 256
+askedOf Dynamic = 64
 
 -- A set is broken where it is for some user, or in some session.
-pub broken-some : (kind : Kind) (m : Model) (set : RoleSet) → broken kind m set ≡ some (holders kind) (λ i. breaks set (held kind m i))
+pub broken-some : (kind : Kind) (m : Model) (set : RoleSet) → broken kind m set ≡ some (askedOf kind) (λ i. breaks set (held kind m i))
 unfolding broken
 broken-some Static m set = refl
 broken-some Dynamic m set = refl
 
 -- Nobody is authorised for a role, and no session has one active, beyond those numbers.
-pub none-beyond : (kind : Kind) (m : Model) → Shape m → (i : ℕ) → holders kind ≤ i → (r : ℕ) → has (held kind m i) r ≡ false
+pub none-beyond : (kind : Kind) (m : Model) → Shape m → (i : ℕ) → askedOf kind ≤ i → (r : ℕ) → has (held kind m i) r ≡ false
 none-beyond Static m x u l = nothing-reached (m .juniors) (m .assigned u) (nobody-assigned m x u (no-user-beyond m x u l))
 none-beyond Dynamic m x s l = λ r. ap (λ (y : Session). has (y .active) r) (no-session-beyond m x s l) ∙ has-none r
 
--- the shape and the rule of the sets of a kind
+-- The sets of a kind have their shape,
 pub shape-of : (kind : Kind) (m : Model) → Shape m → (n : ℕ) → SetShape m n (setsOf kind m n)
 shape-of Static m x = x .ssd
 shape-of Dynamic m x = x .dsd
 
+-- and their rule holds.
 pub rule-of : (kind : Kind) (m : Model) → Sound m → (i : ℕ) → breaksSome (setsOf kind m) (held kind m i) ≡ false
 unfolding staticBroken dynamicBroken
 rule-of Static m s = s .rules .static
@@ -55,10 +56,10 @@ rule-of Dynamic m s = s .rules .dynamic
 
 -- A set that is not broken is broken by nobody's roles.
 pub unbroken-all : (kind : Kind) (m : Model) (set : RoleSet) → Shape m → (set .there ≡ true → 0 < set .card) → broken kind m set ≡ false → (i : ℕ) → breaks set (held kind m i) ≡ false
-unbroken-all kind m set x above e i = go (decLt i (holders kind))
+unbroken-all kind m set x above e i = go (decLt i (askedOf kind))
   where
-    go : Dec (i < holders kind) → breaks set (held kind m i) ≡ false
-    go (yes l) = some-false (holders kind) (λ k. breaks set (held kind m k)) (sym (broken-some kind m set) ∙ e) i l
+    go : Dec (i < askedOf kind) → breaks set (held kind m i) ≡ false
+    go (yes l) = some-false (askedOf kind) (λ k. breaks set (held kind m k)) (sym (broken-some kind m set) ∙ e) i l
     go (no l) = nothing-breaks set (held kind m i) above (λ k lk. none-beyond kind m x i (omega arith) k)
 
 -- One set changed, to one of the right shape that is broken by nobody's roles, leaves a sound model sound.
