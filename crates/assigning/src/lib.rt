@@ -44,6 +44,35 @@ pub fn assign(s: State, u: User, r: Role) -> Outcome
     Outcome { answer: Answer::Done, state: after }
 }
 
+// The assignment goes; then the sessions shed; 1, 2, 5.
+pub fn deassign(s: State, u: User, r: Role) -> Outcome
+    ensures { λ o. ⌜ seen o ≡ deassign (view s) (u .number) (r .number) ⌝ }
+{
+    if either(numbers::user_beyond(u), numbers::role_beyond(r)) {
+        return Outcome { answer: Answer::BeyondRange, state: s };
+    }
+    let users = s.users;
+    if either(!has_user(users, u), !roleset::has(s.roles, r.number)) {
+        return Outcome { answer: Answer::Missing, state: s };
+    }
+    let at = u.number as usize;
+    if !roleset::has(s.assigned[at], r.number) {
+        return Outcome { answer: Answer::NotThere, state: s };
+    }
+    let mut assigned = s.assigned;
+    assigned[at] = roleset::without(assigned[at], r.number);
+    let sessions = s.sessions;
+    let kept = sweeps::shed(&s.juniors, &assigned, sessions);
+    if kept.cut {
+        return Outcome { answer: Answer::ChainTooLong, state: s };
+    }
+    let left = kept.sessions;
+    let mut after = s;
+    after.assigned = assigned;
+    after.sessions = left;
+    Outcome { answer: Answer::Done, state: after }
+}
+
 // The role holds the permission from now on; 1, 2, 4, 12.
 pub fn grant(s: State, op: u16, obj: u16, r: Role) -> Outcome
     ensures { λ o. ⌜ seen o ≡ grant (view s) op obj (r .number) ⌝ }

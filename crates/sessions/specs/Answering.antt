@@ -14,6 +14,8 @@ use Rattle.model.specs.Model.{Model, Session}
 use Rattle.model.specs.Sheet.{Told, _when_, verdict}
 use Rattle.model.specs.Words.{permission}
 use Rattle.model.specs.commands.Naming.{noPermission}
+use Rattle.policy.specs.View.{view}
+use Rattle.sessions.specs.declared.Opened.{Opened}
 use Rattle.sessions.specs.declared.Checked.{Checked}
 use Rattle.sessions.specs.declared.Owned.{Owned}
 
@@ -21,13 +23,22 @@ use Rattle.sessions.specs.declared.Owned.{Owned}
 abbrev pub isDone : Answer → Bool
 isDone a = eqb (numberOf a) 0
 
--- the one result where the answer is 0, and no results on a refusal
-unfoldable pub given : Answer → ℕ → List ℕ
-given a result = elim (isDone a) [ true ↦ result ∷ [] | false ↦ [] ]
+-- the one result where it is done, and no results on a refusal
+abbrev pub given : Bool → ℕ → List ℕ
+given true result = result ∷ []
+given false result = []
+
+-- what `session` tells: the number of the session that was opened, and the policy and sessions after it
+unfoldable pub toldOpened : Opened → Told
+toldOpened x = record { answer = numberOf (x .answer); results = given (isDone (x .answer)) (x .session .number); after = view (x .state) }
+
+pub record Opens (told : Told) (x : Opened) : Type 0 where
+  pub tells : toldOpened x ≡ told
+  pub silent : isDone (x .answer) ≡ false → x .session .number ≡ 0
 
 -- what `check` tells over m: 1 for yes or 0 for no, and nothing changes
 unfoldable pub toldChecked : Model → Checked → Told
-toldChecked m x = record { answer = numberOf (x .answer); results = given (x .answer) (bit (x .yes)); after = m }
+toldChecked m x = record { answer = numberOf (x .answer); results = given (isDone (x .answer)) (bit (x .yes)); after = m }
 
 pub record Checks (m : Model) (told : Told) (x : Checked) : Type 0 where
   pub tells : toldChecked m x ≡ told
@@ -35,7 +46,7 @@ pub record Checks (m : Model) (told : Told) (x : Checked) : Type 0 where
 
 -- what the question of an owner tells over m: the owner's number, and nothing changes
 unfoldable pub toldOwned : Model → Owned → Told
-toldOwned m x = record { answer = numberOf (x .answer); results = given (x .answer) (x .owner .number); after = m }
+toldOwned m x = record { answer = numberOf (x .answer); results = given (isDone (x .answer)) (x .owner .number); after = m }
 
 pub record Owns (m : Model) (told : Told) (x : Owned) : Type 0 where
   pub tells : toldOwned m x ≡ told

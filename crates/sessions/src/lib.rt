@@ -1,9 +1,9 @@
 // The session commands `session`, `activate`, `drop` and `end`; the question `check`, and whose a session is.
 ghost use mathlib.Core.Path.{_≡_};
 ghost use Rattle.hierarchy.specs.Lines.{tableOf};
-ghost use Rattle.model.specs.commands.Sessions.{activate, drop, end, check, owner};
+ghost use Rattle.model.specs.commands.Sessions.{session, activate, drop, end, check, owner};
 ghost use Rattle.policy.specs.View.{view, seen};
-ghost use Rattle.sessions.specs.Answering.{Checks, ChecksLent, Owns};
+ghost use Rattle.sessions.specs.Answering.{Opens, Checks, ChecksLent, Owns};
 use model::SessionRecord;
 use numbers::Answer;
 use numbers::Role;
@@ -13,6 +13,13 @@ use policy::naming::either;
 use policy::naming::permission_beyond;
 use policy::Outcome;
 use policy::State;
+
+// The session that was opened, and the state after it; session 0 on a refusal.
+pub struct Opened {
+    pub answer: Answer,
+    pub session: Session,
+    pub state: State,
+}
 
 // What `check` answers: yes or no, and no on a refusal.
 pub struct Checked {
@@ -24,6 +31,45 @@ pub struct Checked {
 pub struct Owned {
     pub answer: Answer,
     pub owner: User,
+}
+
+// Opens the lowest free session for the user, with the listed roles active; 14, 1, 2, 9, 11, 12.
+pub fn session(s: State, u: User, list: &[u16]) -> Opened
+    ensures { λ o. ⌜ Opens (session (view s) (u .number) (now (list .entry))) o ⌝ }
+{
+    let none = Session { number: 0 };
+    let asked = lists::read(list);
+    if !asked.ascending {
+        return Opened { answer: Answer::NotOfForm, session: none, state: s };
+    }
+    if either(numbers::user_beyond(u), asked.beyond) {
+        return Opened { answer: Answer::BeyondRange, session: none, state: s };
+    }
+    let user = u.number as usize;
+    if either(!s.users[user], !roleset::subset(asked.roles, s.roles)) {
+        return Opened { answer: Answer::Missing, session: none, state: s };
+    }
+    let assigned = s.assigned[user];
+    let walk = hierarchy::reach(&s.juniors, assigned);
+    if !roleset::subset(asked.roles, walk.roles) {
+        return Opened { answer: Answer::NotAuthorised, session: none, state: s };
+    }
+    let dsd = s.dsd;
+    if separation::breaks_some(dsd, asked.roles) {
+        return Opened { answer: Answer::BreaksDynamic, session: none, state: s };
+    }
+    let sessions = s.sessions;
+    let free = sweeps::lowest_free(sessions);
+    if 64 <= free {
+        return Opened { answer: Answer::TableFull, session: none, state: s };
+    }
+    if walk.cut {
+        return Opened { answer: Answer::ChainTooLong, session: none, state: s };
+    }
+    let at = free as usize;
+    let mut after = s;
+    after.sessions[at] = SessionRecord { live: true, owner: u.number as u8, active: asked.roles };
+    Opened { answer: Answer::Done, session: Session { number: free }, state: after }
 }
 
 // The role becomes active in the session; 1, 2, 3, 4, 9, 11.

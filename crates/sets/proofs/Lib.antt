@@ -1,1 +1,1 @@
-pub mod Among
+pub mod Laws

@@ -3,18 +3,18 @@ ghost use mathlib.Core.Path.{_≡_};
 ghost use Prim.Native.Nat.{_<_};
 ghost use Rattle.numbers.specs.Answers.{numberOf};
 ghost use Rattle.model.specs.Model.{put};
-ghost use Rattle.model.specs.commands.Sets.{setsOf, withSets, ruleNumber, badCardinality, dropSet, dropMember};
+ghost use Rattle.model.specs.commands.Sets.{setsOf, withSets, ruleNumber, badCardinality, makeSet, dropSet, addMember, dropMember, setCardinality};
 ghost use Rattle.separation.specs.Tables.{setsIn};
 ghost use Rattle.policy.specs.View.{view, seen};
-ghost use Rattle.sets.specs.Asking.{setsAmong};
+ghost use Rattle.sets.specs.Asking.{setsAmong, Asks, placeSet};
 use model::Kind;
 use model::RoleSet;
 use numbers::Answer;
 use numbers::Role;
 use numbers::SetName;
-use policy::naming::either;
 use policy::Outcome;
 use policy::State;
+use policy::naming::either;
 
 // The set by this name. One beyond its range is not there.
 fn set_in(sets: [RoleSet; 16], name: SetName) -> RoleSet
@@ -77,18 +77,125 @@ fn bad_cardinality(n: u16, roles: u64) -> bool
     either(n < 2, roleset::count(roles) < n)
 }
 
+// What asking the rule of a set finds: whether it is broken, and whether a walk was cut off.
+struct Asked {
+    broken: bool,
+    cut: bool,
+}
+
+// Asks the rule of this kind of the set: a static set of the roles that each user is authorised for, a dynamic one of the roles that each session has active.
+fn ask_rule(s: State, kind: Kind, set: RoleSet) -> Asked
+    ensures { λ x. ⌜ Asks kind (view s) set x ⌝ }
+{
+    match kind {
+        Kind::Static => {
+            let all = sweeps::authorised_all(&s.juniors, &s.assigned);
+            let held = all.roles;
+            let broken = separation::some_breaks(set, &held);
+            Asked {
+                broken,
+                cut: all.cut,
+            }
+        }
+        Kind::Dynamic => {
+            let sessions = s.sessions;
+            let held = sweeps::active_roles(sessions);
+            let broken = separation::some_breaks(set, &held);
+            Asked { broken, cut: false }
+        }
+    }
+}
+
+// The set takes its place among those of its kind, unless its rule would be broken; 10 or 11, 13.
+fn place(s: State, kind: Kind, name: SetName, set: RoleSet) -> Outcome
+    requires { ⌜ name .number < 16 ⌝ }
+    ensures { λ o. ⌜ seen o ≡ placeSet kind (view s) (name .number) set ⌝ }
+{
+    let rule = ask_rule(s, kind, set);
+    if rule.broken {
+        let refusal = rule_answer(kind);
+        return Outcome {
+            answer: refusal,
+            state: s,
+        };
+    }
+    if rule.cut {
+        return Outcome {
+            answer: Answer::ChainTooLong,
+            state: s,
+        };
+    }
+    let after = store(s, kind, name, set);
+    Outcome {
+        answer: Answer::Done,
+        state: after,
+    }
+}
+
+// A new set of roles with a cardinality; 14, 1, 2, 4, 7, 10 or 11.
+pub fn make_set(s: State, kind: Kind, name: SetName, n: u16, list: &[u16]) -> Outcome
+    ensures { λ o. ⌜ seen o ≡ makeSet kind (view s) (name .number) n (now (list .entry)) ⌝ }
+{
+    let read = lists::read(list);
+    if !read.ascending {
+        return Outcome {
+            answer: Answer::NotOfForm,
+            state: s,
+        };
+    }
+    if either(numbers::set_beyond(name), read.beyond) {
+        return Outcome {
+            answer: Answer::BeyondRange,
+            state: s,
+        };
+    }
+    if !roleset::subset(read.roles, s.roles) {
+        return Outcome {
+            answer: Answer::Missing,
+            state: s,
+        };
+    }
+    let ssd = s.ssd;
+    let dsd = s.dsd;
+    let old = set_at(ssd, dsd, kind, name);
+    if old.there {
+        return Outcome {
+            answer: Answer::AlreadyThere,
+            state: s,
+        };
+    }
+    if bad_cardinality(n, read.roles) {
+        return Outcome {
+            answer: Answer::BadCardinality,
+            state: s,
+        };
+    }
+    let new = RoleSet {
+        there: true,
+        card: n,
+        roles: read.roles,
+    };
+    place(s, kind, name, new)
+}
+
 // The set is there no longer; 1, 2.
 pub fn drop_set(s: State, kind: Kind, name: SetName) -> Outcome
     ensures { λ o. ⌜ seen o ≡ dropSet kind (view s) (name .number) ⌝ }
 {
     if numbers::set_beyond(name) {
-        return Outcome { answer: Answer::BeyondRange, state: s };
+        return Outcome {
+            answer: Answer::BeyondRange,
+            state: s,
+        };
     }
     let ssd = s.ssd;
     let dsd = s.dsd;
     let old = set_at(ssd, dsd, kind, name);
     if !old.there {
-        return Outcome { answer: Answer::Missing, state: s };
+        return Outcome {
+            answer: Answer::Missing,
+            state: s,
+        };
     }
     let none = RoleSet {
         there: false,
@@ -96,7 +203,44 @@ pub fn drop_set(s: State, kind: Kind, name: SetName) -> Outcome
         roles: 0,
     };
     let after = store(s, kind, name, none);
-    Outcome { answer: Answer::Done, state: after }
+    Outcome {
+        answer: Answer::Done,
+        state: after,
+    }
+}
+
+// The role becomes a member of the set; 1, 2, 4, 10 or 11.
+pub fn add_member(s: State, kind: Kind, name: SetName, r: Role) -> Outcome
+    ensures { λ o. ⌜ seen o ≡ addMember kind (view s) (name .number) (r .number) ⌝ }
+{
+    if either(numbers::set_beyond(name), numbers::role_beyond(r)) {
+        return Outcome {
+            answer: Answer::BeyondRange,
+            state: s,
+        };
+    }
+    let ssd = s.ssd;
+    let dsd = s.dsd;
+    let old = set_at(ssd, dsd, kind, name);
+    if either(!old.there, !roleset::has(s.roles, r.number)) {
+        return Outcome {
+            answer: Answer::Missing,
+            state: s,
+        };
+    }
+    if roleset::has(old.roles, r.number) {
+        return Outcome {
+            answer: Answer::AlreadyThere,
+            state: s,
+        };
+    }
+    let more = roleset::with(old.roles, r.number);
+    let new = RoleSet {
+        there: true,
+        card: old.card,
+        roles: more,
+    };
+    place(s, kind, name, new)
 }
 
 // The role is no member of the set any more; 1, 2, 5, 7.
@@ -104,20 +248,32 @@ pub fn drop_member(s: State, kind: Kind, name: SetName, r: Role) -> Outcome
     ensures { λ o. ⌜ seen o ≡ dropMember kind (view s) (name .number) (r .number) ⌝ }
 {
     if either(numbers::set_beyond(name), numbers::role_beyond(r)) {
-        return Outcome { answer: Answer::BeyondRange, state: s };
+        return Outcome {
+            answer: Answer::BeyondRange,
+            state: s,
+        };
     }
     let ssd = s.ssd;
     let dsd = s.dsd;
     let old = set_at(ssd, dsd, kind, name);
     if either(!old.there, !roleset::has(s.roles, r.number)) {
-        return Outcome { answer: Answer::Missing, state: s };
+        return Outcome {
+            answer: Answer::Missing,
+            state: s,
+        };
     }
     if !roleset::has(old.roles, r.number) {
-        return Outcome { answer: Answer::NotThere, state: s };
+        return Outcome {
+            answer: Answer::NotThere,
+            state: s,
+        };
     }
     let rest = roleset::without(old.roles, r.number);
     if bad_cardinality(old.card, rest) {
-        return Outcome { answer: Answer::BadCardinality, state: s };
+        return Outcome {
+            answer: Answer::BadCardinality,
+            state: s,
+        };
     }
     let new = RoleSet {
         there: true,
@@ -125,5 +281,41 @@ pub fn drop_member(s: State, kind: Kind, name: SetName, r: Role) -> Outcome
         roles: rest,
     };
     let after = store(s, kind, name, new);
-    Outcome { answer: Answer::Done, state: after }
+    Outcome {
+        answer: Answer::Done,
+        state: after,
+    }
+}
+
+// The set takes another cardinality; 1, 2, 7, 10 or 11.
+pub fn set_cardinality(s: State, kind: Kind, name: SetName, n: u16) -> Outcome
+    ensures { λ o. ⌜ seen o ≡ setCardinality kind (view s) (name .number) n ⌝ }
+{
+    if numbers::set_beyond(name) {
+        return Outcome {
+            answer: Answer::BeyondRange,
+            state: s,
+        };
+    }
+    let ssd = s.ssd;
+    let dsd = s.dsd;
+    let old = set_at(ssd, dsd, kind, name);
+    if !old.there {
+        return Outcome {
+            answer: Answer::Missing,
+            state: s,
+        };
+    }
+    if bad_cardinality(n, old.roles) {
+        return Outcome {
+            answer: Answer::BadCardinality,
+            state: s,
+        };
+    }
+    let new = RoleSet {
+        there: true,
+        card: n,
+        roles: old.roles,
+    };
+    place(s, kind, name, new)
 }

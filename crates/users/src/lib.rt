@@ -42,6 +42,26 @@ pub fn role(s: State, r: Role) -> Outcome
     Outcome { answer: Answer::Done, state: after }
 }
 
+// The user's sessions end, its assignments go, and it exists no longer; 1, 2.
+pub fn nouser(s: State, u: User) -> Outcome
+    ensures { λ o. ⌜ seen o ≡ nouser (view s) (u .number) ⌝ }
+{
+    if numbers::user_beyond(u) {
+        return Outcome { answer: Answer::BeyondRange, state: s };
+    }
+    let at = u.number as usize;
+    if !s.users[at] {
+        return Outcome { answer: Answer::Missing, state: s };
+    }
+    let sessions = s.sessions;
+    let left = sweeps::end_all(sessions, u);
+    let mut after = s;
+    after.sessions = left;
+    after.assigned[at] = 0;
+    after.users[at] = false;
+    Outcome { answer: Answer::Done, state: after }
+}
+
 // Does the role stand in some of the sets?
 fn in_set(sets: [RoleSet; 16], r: Role) -> bool
     ensures { λ b. ⌜ b ≡ inSet (setsIn sets) (r .number) ⌝ }
@@ -57,3 +77,41 @@ fn in_set(sets: [RoleSet; 16], r: Role) -> bool
     false
 }
 
+
+// The role's assignments, grants and direct lines at either end go, and the role itself; then the sessions shed; 1, 2, 8.
+pub fn norole(s: State, r: Role) -> Outcome
+    ensures { λ o. ⌜ seen o ≡ norole (view s) (r .number) ⌝ }
+{
+    if numbers::role_beyond(r) {
+        return Outcome { answer: Answer::BeyondRange, state: s };
+    }
+    if !roleset::has(s.roles, r.number) {
+        return Outcome { answer: Answer::Missing, state: s };
+    }
+    let ssd = s.ssd;
+    let dsd = s.dsd;
+    if either(in_set(ssd, r), in_set(dsd, r)) {
+        return Outcome { answer: Answer::StandsInSet, state: s };
+    }
+    let at = r.number as usize;
+    let mut juniors = s.juniors;
+    sweeps::strip(&mut juniors, r.number);
+    juniors[at] = 0;
+    let mut assigned = s.assigned;
+    sweeps::strip(&mut assigned, r.number);
+    let sessions = s.sessions;
+    let kept = sweeps::shed(&juniors, &assigned, sessions);
+    if kept.cut {
+        return Outcome { answer: Answer::ChainTooLong, state: s };
+    }
+    let mut holders = s.holders;
+    sweeps::strip(&mut holders, r.number);
+    let left = kept.sessions;
+    let mut after = s;
+    after.roles = roleset::without(s.roles, r.number);
+    after.juniors = juniors;
+    after.assigned = assigned;
+    after.holders = holders;
+    after.sessions = left;
+    Outcome { answer: Answer::Done, state: after }
+}

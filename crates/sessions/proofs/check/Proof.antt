@@ -1,47 +1,61 @@
 use borrow.Author.Needs.{needs}
+use borrow.Author.Tests.{leb-false, ne-eqb}
+use mathlib.Core.Bool.{Bool, true, false, _&&_}
+use mathlib.Core.List.{List, [], _∷_}
+use mathlib.Core.Path.{_≡_, refl, sym, ap, _∙_}
+use Prim.Native.Nat.{ℕ, zero, suc}
+use native.Mathlib.Omega.{arith}
+use lib.Dec.{eqb}
+use Rattle.roleset.specs.Bounded.{bit}
+use Rattle.numbers.specs.Answers.{numberOf}
+use Rattle.model.specs.Model.{Model}
+use Rattle.model.specs.Sheet.{Refusal, Told, verdict, settle, done, refused}
+use Rattle.model.specs.Words.{permission}
+use Rattle.model.specs.commands.Naming.{noSession}
+use Rattle.model.specs.commands.Sessions.{check, permitted}
+use Rattle.policy.specs.View.{view}
+use Rattle.sessions.specs.Answering.{Checks, isDone, given, toldChecked, permits}
+use Rattle.sessions.specs.declared.Checked.{Checked}
 use Rattle.sessions.proofs.check.Statement.{statement}
 use Rattle.sessions.proofs.check.Tie as tie
-use Rattle.sessions.proofs.check.Reads as reads
-use Rattle.sessions.proofs.check.Lts as lts
-use Rattle.numbers.proofs.session_beyond.Reads as session-beyond-reads
-use Rattle.sessions.proofs.check_lent.Reads as check-lent-reads
 
--- src/lib.rt:157:8
+-- An answer that is the verdict, with a yes or no that is one where the answer is 0, is what the list of refusals settles.
+settled : (m : Model) (x : Checked) (refusals : List Refusal) (allowed : Bool) → numberOf (x .answer) ≡ verdict refusals → x .yes ≡ (isDone (x .answer) && allowed) → Checks m (settle refusals m (bit allowed ∷ []) m) x
+unfolding toldChecked settle
+settled m x refusals allowed p q = record { tells = rw (q, p) (go (verdict refusals)); silent = λ h. q ∙ ap (λ (d : Bool). d && allowed) h }
+  where
+    go : (v : ℕ) → _≡_ {A = Told} (record { answer = v; results = given (eqb v 0) (bit (eqb v 0 && allowed)); after = m }) (elim (eqb v 0) [ true ↦ done (bit allowed ∷ []) m | false ↦ refused v m ])
+    go zero = refl
+    go (suc v) = rw (ne-eqb (suc v) 0 (λ e. omega arith))
+
+beyond : (c : tie.After-session-beyond) → noSession (c .before .args .x .number) ≡ c .session-beyond .result
+beyond c = sym (c .session-beyond .ensures)
+
 session-beyond-requires : tie.Need-session-beyond-requires
 session-beyond-requires c κs = search needs
 
--- src/lib.rt:158:9
 returns : tie.Need-returns
-returns c = ?
+unfolding toldChecked check settle verdict
+returns c = record { tells = rw (beyond (c .before) ∙ c .if1 .taken); silent = λ h. refl }
 
--- src/lib.rt:160:14
 cast-at : tie.Need-cast-at
 cast-at c = search needs
 
--- src/lib.rt:161:19
 mul-session : tie.Need-mul-session
 mul-session c = search needs
 
--- src/lib.rt:161:19
 element-copy-out-session : tie.Need-element-copy-out-session
-element-copy-out-session c = ?
+element-copy-out-session c = leb-false 64 (c .before .before .before .args .x .number) (beyond (c .before .before) ∙ c .before .if1 .left)
 
--- src/lib.rt:162:5
 check-lent-requires : tie.Need-check-lent-requires
 check-lent-requires c κs = search needs
 
--- src/lib.rt:154:1
 returns-2 : tie.Need-returns-2
-returns-2 c = ?
+unfolding check view permits permitted
+returns-2 c =
+    let start = c .before .before .before .before .before .before .before .before .args in
+    rw (beyond (c .before .before .before .before .before .before .before) ∙ c .before .before .before .before .before .before .if1 .left)
+    (settled (view (start .t1)) (c .check-lent .result) _ (permitted (view (start .t1)) (start .x .number) (permission (start .op) (start .obj))) (c .check-lent .ensures .answer) (c .check-lent .ensures .answered))
 
 pub check-spec : {M : Type 1} → statement M
-check-spec =
-    tie.close
-    (tie.spec
-    session-beyond-requires
-    returns
-    cast-at
-    mul-session
-    element-copy-out-session
-    check-lent-requires
-    returns-2)
+check-spec = tie.close (tie.spec session-beyond-requires returns cast-at mul-session element-copy-out-session check-lent-requires returns-2)

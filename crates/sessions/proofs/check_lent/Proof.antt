@@ -1,60 +1,78 @@
 use borrow.Author.Needs.{needs}
+use mathlib.Core.Bool.{true, false, not, _||_}
+use mathlib.Core.Path.{_≡_, refl, sym, ap, _∙_}
+use Prim.Native.Nat.{_<_, _*_, _+_}
+use native.Mathlib.Omega.{arith}
+use borrow.Author.Tests.{leb-false}
+use lib.Dec.{leb}
+use Rattle.hierarchy.specs.Lines.{tableOf}
+use Rattle.hierarchy.specs.Walks.{reach}
+use Rattle.hierarchy.specs.declared.Walk.{Walk}
+use Rattle.roleset.specs.Roles.{both, isEmpty}
+use Rattle.roleset.proofs.BoundedLaws.{or-clear}
+use Rattle.model.specs.Sheet.{verdict}
+use Rattle.model.specs.Words.{permission}
+use Rattle.model.specs.commands.Naming.{noPermission}
+use Rattle.sessions.specs.Answering.{permits}
 use Rattle.sessions.proofs.check_lent.Statement.{statement}
 use Rattle.sessions.proofs.check_lent.Tie as tie
-use Rattle.sessions.proofs.check_lent.Reads as reads
-use Rattle.sessions.proofs.check_lent.Lts as lts
-use Rattle.hierarchy.proofs.reach.Reads as reach-reads
-use Rattle.policy.proofs.naming.permission_beyond.Reads as permission-beyond-reads
-use Rattle.roleset.proofs.both.Reads as both-reads
-use Rattle.roleset.proofs.is_empty.Reads as is-empty-reads
 
--- src/lib.rt:138:8
+-- what each test finds, in the words of the promise
+beyond : (c : tie.After-permission-beyond) → noPermission (c .before .args .op) (c .before .args .obj) ≡ c .permission-beyond .result
+beyond c = sym (c .permission-beyond .ensures)
+
+walked : (c : tie.After-reach) → reach (tableOf (c .before .before .before .before .before .args .juniors .now)) (c .before .before .before .before .before .args .session .active) ≡ c .reach .result
+walked c = sym (c .reach .ensures)
+
 permission-beyond-requires : tie.Need-permission-beyond-requires
 permission-beyond-requires c κs = search needs
 
--- src/lib.rt:139:9
 returns : tie.Need-returns
-returns c = ?
+unfolding verdict
+returns c = record { answer = rw (beyond (c .before) ∙ c .if1 .taken); answered = refl }
 
--- src/lib.rt:142:9
 returns-2 : tie.Need-returns-2
-returns-2 c = ?
+unfolding verdict
+returns-2 c = record { answer = rw (beyond (c .before .before .before) ∙ c .before .before .if1 .left, c .if2 .taken); answered = refl }
 
--- src/lib.rt:144:9
 reach-requires : tie.Need-reach-requires
 reach-requires c κs = search needs
 
--- src/lib.rt:146:9
 returns-3 : tie.Need-returns-3
-returns-3 c = ?
+unfolding verdict
+returns-3 c = record { answer = rw (beyond (c .before .before .before .before .before) ∙ c .before .before .before .before .if1 .left, c .before .before .if2 .left, walked (c .before), c .if3 .taken); answered = refl }
 
--- src/lib.rt:148:14
 mul-at : tie.Need-mul-at
 mul-at c = search needs
 
--- src/lib.rt:148:14
 add-at : tie.Need-add-at
 add-at c = search needs
 
--- src/lib.rt:149:45
 mul-both : tie.Need-mul-both
 mul-both c = search needs
 
--- src/lib.rt:149:45
-element-copy-out-both : tie.Need-element-copy-out-both
-element-copy-out-both c = ?
+-- the permission is within its range
+within : (c : tie.Else1) → c .before .before .args .op * 256 + c .before .before .args .obj < 4096
+within c =
+    let clear = or-clear (leb 16 (c .before .before .args .op)) (leb 256 (c .before .before .args .obj)) (beyond (c .before) ∙ c .if1 .left) in
+    omega (arith, leb-false 16 (c .before .before .args .op) (clear .0), leb-false 256 (c .before .before .args .obj) (clear .1))
 
--- src/lib.rt:149:9
+element-copy-out-both : tie.Need-element-copy-out-both
+element-copy-out-both c = within (c .before .before .before .before)
+
 both-requires : tie.Need-both-requires
 both-requires c κs = search needs
 
--- src/lib.rt:150:43
 is-empty-requires : tie.Need-is-empty-requires
 is-empty-requires c κs = search needs
 
--- src/lib.rt:129:1
 returns-4 : tie.Need-returns-4
-returns-4 c = ?
+unfolding verdict permits
+returns-4 c =
+    record {
+      answer = rw (beyond (c .before .before .before .before .before .before .before .before) ∙ c .before .before .before .before .before .before .before .if1 .left, c .before .before .before .before .before .if2 .left, walked (c .before .before .before .before), c .before .before .before .if3 .left);
+      answered = ap not (c .is-empty .ensures .is ∙ ap isEmpty (c .before .both .ensures .is ∙ ap (λ (w : Walk). both (w .roles) (tableOf (c .before .before .before .before .before .before .before .before .before .args .holders .now) (permission (c .before .before .before .before .before .before .before .before .before .args .op) (c .before .before .before .before .before .before .before .before .before .args .obj)))) (c .before .before .before .before .reach .ensures)))
+    }
 
 pub check-lent-spec : {M : Type 1} → statement M
 check-lent-spec =

@@ -2,11 +2,11 @@ use borrow.Author.Needs.{needs}
 use borrow.Author.Tests.{leb-false, eq-eqb, ne-eqb}
 use mathlib.Core.Bool.{true, false, not, _||_}
 use mathlib.Core.List.{[]}
-use mathlib.Core.Path.{_≡_, sym, ap, _∙_}
+use mathlib.Core.Path.{_≡_, ap, _∙_}
 use Prim.Native.Nat.{ℕ, _<_}
-use native.Mathlib.Omega.{arith}
-use lib.ListN.{length}
+use lib.ListN.{length, length-map}
 use Rattle.roleset.proofs.BoundedLaws.{or-clear}
+use Rattle.model.specs.Model.{Model}
 use Rattle.model.specs.Model as model
 use Rattle.model.specs.Sheet.{verdict, settle, done}
 use Rattle.model.specs.commands.Naming.{noUser, noSession, userMissing, sessionMissing}
@@ -16,39 +16,58 @@ use Rattle.policy.proofs.Stores.{store-sessions}
 use Rattle.sessions.proofs.end.Statement.{statement}
 use Rattle.sessions.proofs.end.Tie as tie
 
--- from each test back to the one before it, and to the entry
-abbrev entry1 : tie.After-either → tie.Start
-entry1 c = c .before .before .before
+-- the policy and the sessions at entry, and the numbers that the command names
+abbrev m : tie.Start → Model
+m c = view (c .args .t1)
 
-abbrev entry2 : tie.After-either2 → tie.Start
-entry2 c = entry1 (c .before .before .before .before .before .before .before)
+abbrev user : tie.Start → ℕ
+user c = c .args .u .number
+
+abbrev number : tie.Start → ℕ
+number c = c .args .x .number
+
+-- from the place that each refusal leaves to the one before it
+abbrev to-start : tie.Else1 → tie.Start
+to-start c = c .before .before .before .before
+
+abbrev to-1 : tie.Else2 → tie.Else1
+to-1 c = c .before .before .before .before .before .before .before
+
+abbrev to-2 : tie.Else3 → tie.Else2
+to-2 c = c .before .before .before
 
 -- what each test finds, in the words of the definition
-beyond : (c : tie.After-either) → (noUser (entry1 c .args .u .number) || noSession (entry1 c .args .x .number)) ≡ c .either .result
+beyond : (c : tie.After-either) → (noUser (user (c .before .before .before)) || noSession (number (c .before .before .before))) ≡ c .either .result
 beyond c = cc
 
-missing : (c : tie.After-either2) → (userMissing (view (entry2 c .args .t1)) (entry2 c .args .u .number) || sessionMissing (view (entry2 c .args .t1)) (entry2 c .args .x .number)) ≡ c .either2 .result
+missing : (c : tie.After-either2) → let s = to-start (c .before .before .before .before .before .before) in (userMissing (m s) (user s) || sessionMissing (m s) (number s)) ≡ c .either2 .result
 unfolding view
 missing c = cc
 
-other : (c : tie.Then3) → notOwner (view (entry2 (c .before .before .before .before) .args .t1)) (entry2 (c .before .before .before .before) .args .u .number) (entry2 (c .before .before .before .before) .args .x .number) ≡ true
+other : (c : tie.Then3) → let s = to-start (to-1 (c .before .before .before)) in notOwner (m s) (user s) (number s) ≡ true
 unfolding view
 other c = ap not (ne-eqb _ _ (c .if3 .taken))
 
-own : (c : tie.Else3) → notOwner (view (entry2 (c .before .before .before .before) .args .t1)) (entry2 (c .before .before .before .before) .args .u .number) (entry2 (c .before .before .before .before) .args .x .number) ≡ false
+-- what each refusal leaves
+clear-1 : (c : tie.Else1) → (noUser (user (to-start c)) || noSession (number (to-start c))) ≡ false
+clear-1 c = beyond (c .before) ∙ c .if1 .left
+
+clear-2 : (c : tie.Else2) → let s = to-start (to-1 c) in (userMissing (m s) (user s) || sessionMissing (m s) (number s)) ≡ false
+clear-2 c = missing (c .before) ∙ c .if2 .left
+
+clear-3 : (c : tie.Else3) → let s = to-start (to-1 (to-2 c)) in notOwner (m s) (user s) (number s) ≡ false
 unfolding view
-own c = ap not (eq-eqb _ _ (c .if3 .left))
+clear-3 c = ap not (eq-eqb _ _ (c .if3 .left))
 
--- the user and the session are within their ranges
-within-user : (c : tie.Else1) → entry1 (c .before) .args .u .number < 256
-within-user c = leb-false 256 (entry1 (c .before) .args .u .number) (or-clear _ _ (beyond (c .before) ∙ c .if1 .left) .0)
+-- the user and the session are within their ranges, and there are 64 places for sessions
+user-within : (c : tie.Else1) → user (to-start c) < 256
+user-within c = leb-false 256 (user (to-start c)) (or-clear _ _ (clear-1 c) .0)
 
-within-session : (c : tie.Else1) → entry1 (c .before) .args .x .number < 64
-within-session c = leb-false 64 (entry1 (c .before) .args .x .number) (or-clear (noUser (entry1 (c .before) .args .u .number)) _ (beyond (c .before) ∙ c .if1 .left) .1)
+session-within : (c : tie.Else1) → number (to-start c) < 64
+session-within c = leb-false 64 (number (to-start c)) (or-clear (noUser (user (to-start c))) _ (clear-1 c) .1)
 
--- there are 64 places for sessions
 whole : (c : tie.Start) → length (c .args .t1 .sessions) ≡ 64
-whole c = let g = c .good .0 .1 .1 .1 .1 .1 .1 .1 .1 .1 in ?
+whole c = simp length-map at (c .good .0 .1 .1 .1 .1 .1 .1 .1 .1 .1 .0 .1 .0 .1)
 
 user-beyond-requires : tie.Need-user-beyond-requires
 user-beyond-requires c κs = search needs
@@ -73,37 +92,39 @@ mul-old : tie.Need-mul-old
 mul-old c = search needs
 
 element-copy-out-old : tie.Need-element-copy-out-old
-element-copy-out-old c = within-session (c .before .before)
+element-copy-out-old c = session-within (c .before .before)
 
 element-copy-out-either : tie.Need-element-copy-out-either
-element-copy-out-either c = within-user (c .before .before .before)
+element-copy-out-either c = user-within (c .before .before .before)
 
 either-requires-2 : tie.Need-either-requires-2
 either-requires-2 c κs = search needs
 
 returns-2 : tie.Need-returns-2
 unfolding seen end settle verdict
-returns-2 c = rw (beyond (c .before .before .before .before .before .before .before .before) ∙ c .before .before .before .before .before .before .before .if1 .left, missing (c .before) ∙ c .if2 .taken)
+returns-2 c = rw (clear-1 (c .before .before .before .before .before .before .before), missing (c .before) ∙ c .if2 .taken)
 
 cast-if3 : tie.Need-cast-if3
 cast-if3 c = search needs
 
 returns-3 : tie.Need-returns-3
 unfolding seen end settle verdict
-returns-3 c = rw (beyond (c .before .before .before .before .before .before .before .before .before .before .before) ∙ c .before .before .before .before .before .before .before .before .before .before .if1 .left, missing (c .before .before .before .before) ∙ c .before .before .before .if2 .left, other c)
+returns-3 c = let c2 = c .before .before .before in rw (clear-1 (to-1 c2), clear-2 c2, other c)
 
 mul-t14 : tie.Need-mul-t14
 mul-t14 c = search needs
 
 element-set-from-after : tie.Need-element-set-from-after
-element-set-from-after c = within-session (c .before .before .before .before .before .before .before .before .before .before)
+element-set-from-after c = session-within (to-1 (to-2 c))
 
 returns-4 : tie.Need-returns-4
 unfolding seen end settle verdict view
 returns-4 c =
-    let start = entry2 (c .before .before .before .before) in
-    rw (beyond (c .before .before .before .before .before .before .before .before .before .before .before) ∙ c .before .before .before .before .before .before .before .before .before .before .if1 .left, missing (c .before .before .before .before) ∙ c .before .before .before .if2 .left, own c)
-    (ap (done []) (store-sessions (start .args .t1) (start .args .x .number) model.noSession (rw (whole start) (within-session (c .before .before .before .before .before .before .before .before .before .before)))))
+    let c2 = to-2 c in
+    let c1 = to-1 c2 in
+    let s = to-start c1 in
+    rw (clear-1 c1, clear-2 c2, clear-3 c)
+    (ap (done []) (store-sessions (s .args .t1) (number s) model.noSession (rw (whole s) (session-within c1))))
 
 pub end-spec : {M : Type 1} → statement M
 end-spec =

@@ -1,51 +1,54 @@
 use borrow.Author.Needs.{needs}
+use borrow.Author.Tests.{leb-false}
+use mathlib.Core.Bool.{true, false, not}
+use mathlib.Core.Path.{_≡_, refl, sym, ap, _∙_}
+use Rattle.roleset.proofs.BoundedLaws.{clash}
+use Rattle.model.specs.Sheet.{verdict, settle}
+use Rattle.model.specs.commands.Naming.{noSession, sessionMissing}
+use Rattle.model.specs.commands.Sessions.{owner}
+use Rattle.policy.specs.View.{view}
+use Rattle.sessions.specs.Answering.{toldOwned}
 use Rattle.sessions.proofs.owner.Statement.{statement}
 use Rattle.sessions.proofs.owner.Tie as tie
-use Rattle.sessions.proofs.owner.Reads as reads
-use Rattle.sessions.proofs.owner.Lts as lts
-use Rattle.numbers.proofs.session_beyond.Reads as session-beyond-reads
 
--- src/lib.rt:116:8
+-- what each test finds, in the words of the definition
+beyond : (c : tie.After-session-beyond) → noSession (c .before .args .x .number) ≡ c .session-beyond .result
+beyond c = sym (c .session-beyond .ensures)
+
+missing : (c : tie.Then2) → sessionMissing (view (c .before .before .before .before .before .before .args .t1)) (c .before .before .before .before .before .before .args .x .number) ≡ true
+unfolding view
+missing c = c .if2 .taken
+
+found : (c : tie.Else2) → sessionMissing (view (c .before .before .before .before .before .before .args .t1)) (c .before .before .before .before .before .before .args .x .number) ≡ false
+unfolding view
+found c = c .if2 .left
+
 session-beyond-requires : tie.Need-session-beyond-requires
 session-beyond-requires c κs = search needs
 
--- src/lib.rt:117:9
 returns : tie.Need-returns
-returns c = ?
+unfolding toldOwned owner settle verdict
+returns c = record { tells = rw (beyond (c .before) ∙ c .if1 .taken); silent = λ h. refl }
 
--- src/lib.rt:119:14
 cast-at : tie.Need-cast-at
 cast-at c = search needs
 
--- src/lib.rt:120:19
 mul-session : tie.Need-mul-session
 mul-session c = search needs
 
--- src/lib.rt:120:19
 element-copy-out-session : tie.Need-element-copy-out-session
-element-copy-out-session c = ?
+element-copy-out-session c = leb-false 64 (c .before .before .before .args .x .number) (beyond (c .before .before) ∙ c .before .if1 .left)
 
--- src/lib.rt:122:9
 returns-2 : tie.Need-returns-2
-returns-2 c = ?
+unfolding toldOwned owner settle verdict
+returns-2 c = record { tells = rw (beyond (c .before .before .before .before .before) ∙ c .before .before .before .before .if1 .left, missing c); silent = λ h. refl }
 
--- src/lib.rt:124:32
 cast-t16 : tie.Need-cast-t16
 cast-t16 c = search needs
 
--- src/lib.rt:112:1
 returns-3 : tie.Need-returns-3
-returns-3 c = ?
+unfolding toldOwned owner settle verdict view
+returns-3 c = record { tells = rw (beyond (c .before .before .before .before .before .before) ∙ c .before .before .before .before .before .if1 .left, found (c .before)); silent = λ h. clash true refl h }
 
 pub owner-spec : {M : Type 1} → statement M
-owner-spec =
-    tie.close
-    (tie.spec
-    session-beyond-requires
-    returns
-    cast-at
-    mul-session
-    element-copy-out-session
-    returns-2
-    cast-t16
-    returns-3)
+owner-spec = tie.close (tie.spec session-beyond-requires returns cast-at mul-session element-copy-out-session returns-2 cast-t16 returns-3)

@@ -7,9 +7,9 @@ use Rattle.roleset.specs.Roles.{has}
 use Rattle.roleset.proofs.BoundedLaws.{or-clear}
 use Rattle.model.specs.Sheet.{verdict, settle, done}
 use Rattle.model.specs.commands.Naming.{noSet, noRole, roleMissing}
-use Rattle.model.specs.commands.Sets.{setsOf, badCardinality, dropMember}
+use Rattle.model.specs.commands.Sets.{setsOf, dropMember}
 use Rattle.policy.specs.View.{view, seen}
-use Rattle.sets.proofs.Among.{sets-among}
+use Rattle.sets.proofs.Laws.{sets-among}
 use Rattle.sets.proofs.drop_member.Statement.{statement}
 use Rattle.sets.proofs.drop_member.Tie as tie
 

@@ -1,13 +1,12 @@
 use borrow.Author.Needs.{needs}
 use mathlib.Core.List.{[]}
 use mathlib.Core.Path.{_≡_, sym, ap, _∙_}
-use Prim.Native.Nat.{_<_}
 use borrow.Author.Tests.{leb-false}
 use Rattle.model.specs.Sheet.{verdict, settle, done}
 use Rattle.model.specs.commands.Naming.{noSet}
 use Rattle.model.specs.commands.Sets.{setsOf, dropSet}
 use Rattle.policy.specs.View.{view, seen}
-use Rattle.sets.proofs.Among.{sets-among}
+use Rattle.sets.proofs.Laws.{sets-among}
 use Rattle.sets.proofs.drop_set.Statement.{statement}
 use Rattle.sets.proofs.drop_set.Tie as tie
 

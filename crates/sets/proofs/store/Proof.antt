@@ -8,13 +8,7 @@ use Rattle.sets.proofs.store.Tie as tie
 
 -- the state has sixteen sets of each kind
 whole-ssd : (c : tie.Start) → length (c .args .s .ssd) ≡ 16
-whole-ssd c = simp length-map at (c .good .0 .1 .1 .1 .1 .1 .1 .1 .0 .1 .0 .1)
-
-whole-ssd2 : (c : tie.Start) → length (c .args .s .ssd) ≡ 16
-whole-ssd2 c = omega (arith, length-map)
-
-whole-ssd3 : (c : tie.Start) → length (c .args .s .ssd) ≡ 16
-whole-ssd3 c = let h = c .good .0 .1 .1 .1 .1 .1 .1 .1 .0 in omega (arith, length-map)
+whole-ssd c = rw length-map at (c .good .0 .1 .1 .1 .1 .1 .1 .1 .0 .1 .0 .1)
 
 whole-dsd : (c : tie.Start) → length (c .args .s .dsd) ≡ 16
 whole-dsd c = rw length-map at (c .good .0 .1 .1 .1 .1 .1 .1 .1 .1 .0 .1 .0 .1)

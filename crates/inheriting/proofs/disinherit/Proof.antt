@@ -1,0 +1,150 @@
+use borrow.Author.Needs.{needs}
+use borrow.Author.Tests.{leb-false}
+use mathlib.Core.Bool.{true, false, _||_}
+use mathlib.Core.List.{[]}
+use mathlib.Core.Path.{_≡_, refl, sym, ap, _∙_}
+use Prim.Native.Nat.{ℕ, _<_}
+use native.Mathlib.Omega.{arith}
+use lib.Dec.{leb}
+use lib.ListN.{length, length-map, set}
+use Rattle.roleset.specs.Roles.{has, without}
+use Rattle.roleset.proofs.BoundedLaws.{or-clear}
+use Rattle.hierarchy.specs.Lines.{tableOf}
+use Rattle.model.specs.Model.{Model, put, withJuniors, withSessions}
+use Rattle.model.specs.Sheet.{Told, verdict, settle, done}
+use Rattle.model.specs.Words.{shed, shedCut}
+use Rattle.model.specs.commands.Inheriting.{disinherit, unlined}
+use Rattle.model.specs.commands.Naming.{noRole, roleMissing}
+use Rattle.policy.specs.View.{view, seen, sessionsIn}
+use Rattle.policy.proofs.Tables.{set-put}
+use Rattle.sweeps.proofs.Shedding.{shed-cut, shed-after}
+use Rattle.inheriting.proofs.disinherit.Statement.{statement}
+use Rattle.inheriting.proofs.disinherit.Tie as tie
+
+-- what each test finds, in the words of the definition
+beyond : (c : tie.After-either) → (noRole (c .before .before .before .args .senior .number) || noRole (c .before .before .before .args .junior .number)) ≡ c .either .result
+beyond c = cc
+
+missing : (c : tie.After-either2) → (roleMissing (view (c .before .before .before .before .before .before .before .args .t1)) (c .before .before .before .before .before .before .before .args .senior .number) || roleMissing (view (c .before .before .before .before .before .before .before .args .t1)) (c .before .before .before .before .before .before .before .args .junior .number)) ≡ c .either2 .result
+unfolding view
+missing c = cc
+
+there : (c : tie.After-has3) → has (view (c .before .before .before .before .before .before .before .before .before .before .before .args .t1) .juniors (c .before .before .before .before .before .before .before .before .before .before .before .args .senior .number)) (c .before .before .before .before .before .before .before .before .before .before .before .args .junior .number) ≡ c .has3 .result
+unfolding view
+there c = sym (c .has3 .ensures)
+
+-- the senior is within its range
+within : (c : tie.Else1) → c .before .before .before .before .args .senior .number < 64
+within c = leb-false 64 (c .before .before .before .before .args .senior .number) (or-clear (noRole (c .before .before .before .before .args .senior .number)) (noRole (c .before .before .before .before .args .junior .number)) (beyond (c .before) ∙ c .if1 .left) .0)
+
+-- the lines after the change
+changed : (c : tie.After-shed) → _≡_ {A = ℕ → ℕ} (tableOf (set (c .before .before .before .before .before .before .before .before .before .before .before .before .before .before .before .before .before .before .before .args .t1 .juniors) (c .before .before .before .before .before .before .before .before .before .before .before .before .before .before .before .before .before .before .before .args .senior .number) (c .before .before .before .before .before .without .result))) (unlined (view (c .before .before .before .before .before .before .before .before .before .before .before .before .before .before .before .before .before .before .before .args .t1)) (c .before .before .before .before .before .before .before .before .before .before .before .before .before .before .before .before .before .before .before .args .senior .number) (c .before .before .before .before .before .before .before .before .before .before .before .before .before .before .before .before .before .before .before .args .junior .number) .juniors)
+unfolding unlined view
+changed c =
+    let whole : length (c .before .before .before .before .before .before .before .before .before .before .before .before .before .before .before .before .before .before .before .args .t1 .juniors) ≡ 64 = sym (length-map (c .before .before .before .before .before .before .before .before .before .before .before .before .before .before .before .before .before .before .before .args .t1 .juniors) (λ x. x)) ∙ c .before .before .before .before .before .before .before .before .before .before .before .before .before .before .before .before .before .before .before .good .0 .1 .1 .1 .1 .0 .1 .0 .1 in
+    set-put (c .before .before .before .before .before .before .before .before .before .before .before .before .before .before .before .before .before .before .before .args .t1 .juniors) (c .before .before .before .before .before .before .before .before .before .before .before .before .before .before .before .before .before .before .before .args .senior .number) (c .before .before .before .before .before .without .result) 0 (rw whole (within (c .before .before .before .before .before .before .before .before .before .before .before .before .before .before .before)))
+    ∙ ap (put (tableOf (c .before .before .before .before .before .before .before .before .before .before .before .before .before .before .before .before .before .before .before .args .t1 .juniors)) (c .before .before .before .before .before .before .before .before .before .before .before .before .before .before .before .before .before .before .before .args .senior .number)) (c .before .before .before .before .before .without .ensures .is)
+
+cutting : (c : tie.After-shed) → shedCut (unlined (view (c .before .before .before .before .before .before .before .before .before .before .before .before .before .before .before .before .before .before .before .args .t1)) (c .before .before .before .before .before .before .before .before .before .before .before .before .before .before .before .before .before .before .before .args .senior .number) (c .before .before .before .before .before .before .before .before .before .before .before .before .before .before .before .before .before .before .before .args .junior .number)) ≡ c .shed .result .cut
+unfolding unlined view
+cutting c = shed-cut (unlined (view (c .before .before .before .before .before .before .before .before .before .before .before .before .before .before .before .before .before .before .before .args .t1)) (c .before .before .before .before .before .before .before .before .before .before .before .before .before .before .before .before .before .before .before .args .senior .number) (c .before .before .before .before .before .before .before .before .before .before .before .before .before .before .before .before .before .before .before .args .junior .number)) _ _ _ (c .shed .result) (c .shed .ensures) (changed c) refl refl
+
+left-over : (c : tie.After-shed) → shed (unlined (view (c .before .before .before .before .before .before .before .before .before .before .before .before .before .before .before .before .before .before .before .args .t1)) (c .before .before .before .before .before .before .before .before .before .before .before .before .before .before .before .before .before .before .before .args .senior .number) (c .before .before .before .before .before .before .before .before .before .before .before .before .before .before .before .before .before .before .before .args .junior .number)) ≡ withSessions (unlined (view (c .before .before .before .before .before .before .before .before .before .before .before .before .before .before .before .before .before .before .before .args .t1)) (c .before .before .before .before .before .before .before .before .before .before .before .before .before .before .before .before .before .before .before .args .senior .number) (c .before .before .before .before .before .before .before .before .before .before .before .before .before .before .before .before .before .before .before .args .junior .number)) (sessionsIn (c .shed .result .sessions))
+unfolding unlined view
+left-over c = shed-after (unlined (view (c .before .before .before .before .before .before .before .before .before .before .before .before .before .before .before .before .before .before .before .args .t1)) (c .before .before .before .before .before .before .before .before .before .before .before .before .before .before .before .before .before .before .before .args .senior .number) (c .before .before .before .before .before .before .before .before .before .before .before .before .before .before .before .before .before .before .before .args .junior .number)) _ _ _ (c .shed .result) (c .shed .ensures) (changed c) refl refl
+
+role-beyond-requires : tie.Need-role-beyond-requires
+role-beyond-requires c κs = search needs
+
+role-beyond-requires-2 : tie.Need-role-beyond-requires-2
+role-beyond-requires-2 c κs = search needs
+
+either-requires : tie.Need-either-requires
+either-requires c κs = search needs
+
+returns : tie.Need-returns
+unfolding seen disinherit settle verdict
+returns c = rw (beyond (c .before) ∙ c .if1 .taken)
+
+has-requires : tie.Need-has-requires
+has-requires c κs = search needs
+
+has-requires-2 : tie.Need-has-requires-2
+has-requires-2 c κs = search needs
+
+either-requires-2 : tie.Need-either-requires-2
+either-requires-2 c κs = search needs
+
+returns-2 : tie.Need-returns-2
+unfolding seen disinherit settle verdict
+returns-2 c = rw (beyond (c .before .before .before .before .before) ∙ c .before .before .before .before .if1 .left, missing (c .before) ∙ c .if2 .taken)
+
+cast-at : tie.Need-cast-at
+cast-at c = search needs
+
+mul-has : tie.Need-mul-has
+mul-has c = search needs
+
+element-copy-out-has : tie.Need-element-copy-out-has
+element-copy-out-has c = within (c .before .before .before .before .before)
+
+has-requires-3 : tie.Need-has-requires-3
+has-requires-3 c κs = search needs
+
+returns-3 : tie.Need-returns-3
+unfolding seen disinherit settle verdict
+returns-3 c = rw (beyond (c .before .before .before .before .before .before .before .before .before) ∙ c .before .before .before .before .before .before .before .before .if1 .left, missing (c .before .before .before .before .before) ∙ c .before .before .before .before .if2 .left, there (c .before), c .if3 .taken)
+
+mul-without : tie.Need-mul-without
+mul-without c = search needs
+
+array-read-without : tie.Need-array-read-without
+array-read-without c = within (c .before .before .before .before .before .before .before .before .before)
+
+without-requires : tie.Need-without-requires
+without-requires c κs = search needs
+
+mul-juniors : tie.Need-mul-juniors
+mul-juniors c = search needs
+
+array-write-juniors : tie.Need-array-write-juniors
+array-write-juniors c = within (c .before .before .before .before .before .before .before .before .before .before)
+
+shed-requires : tie.Need-shed-requires
+shed-requires c κs = search needs
+
+returns-4 : tie.Need-returns-4
+unfolding seen disinherit settle verdict
+returns-4 c = rw (beyond (c .before .before .before .before .before .before .before .before .before .before .before .before .before .before .before .before .before) ∙ c .before .before .before .before .before .before .before .before .before .before .before .before .before .before .before .before .if1 .left, missing (c .before .before .before .before .before .before .before .before .before .before .before .before .before) ∙ c .before .before .before .before .before .before .before .before .before .before .before .before .if2 .left, there (c .before .before .before .before .before .before .before .before .before), c .before .before .before .before .before .before .before .before .if3 .left, cutting (c .before) ∙ c .if4 .taken)
+
+returns-5 : tie.Need-returns-5
+unfolding seen disinherit settle verdict unlined view
+returns-5 c =
+    rw (beyond (c .before .before .before .before .before .before .before .before .before .before .before .before .before .before .before .before .before .before) ∙ c .before .before .before .before .before .before .before .before .before .before .before .before .before .before .before .before .before .if1 .left, missing (c .before .before .before .before .before .before .before .before .before .before .before .before .before .before) ∙ c .before .before .before .before .before .before .before .before .before .before .before .before .before .if2 .left, there (c .before .before .before .before .before .before .before .before .before .before), c .before .before .before .before .before .before .before .before .before .if3 .left, cutting (c .before .before) ∙ c .before .if4 .left)
+    (ap (λ (table : ℕ → ℕ). done [] (withSessions (withJuniors (view (c .before .before .before .before .before .before .before .before .before .before .before .before .before .before .before .before .before .before .before .before .before .args .t1)) table) (sessionsIn (c .before .before .shed .result .sessions)))) (changed (c .before .before)) ∙ ap (done []) (sym (left-over (c .before .before))))
+
+pub disinherit-spec : {M : Type 1} → statement M
+disinherit-spec =
+    tie.close
+    (tie.spec
+    role-beyond-requires
+    role-beyond-requires-2
+    either-requires
+    returns
+    has-requires
+    has-requires-2
+    either-requires-2
+    returns-2
+    cast-at
+    mul-has
+    element-copy-out-has
+    has-requires-3
+    returns-3
+    mul-without
+    array-read-without
+    without-requires
+    mul-juniors
+    array-write-juniors
+    shed-requires
+    returns-4
+    returns-5)

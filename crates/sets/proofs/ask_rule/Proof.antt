@@ -1,0 +1,63 @@
+use borrow.Author.Needs.{needs}
+use mathlib.Core.Path.{_≡_, refl, ap, _∙_}
+use Prim.Native.Nat.{ℕ}
+use native.Mathlib.Omega.{arith}
+use lib.ListN.{length, length-map}
+use Rattle.model.specs.Words.{authorised, counted}
+use Rattle.model.specs.commands.Inheriting.{usersCut}
+use Rattle.model.specs.commands.Sets.{broken}
+use Rattle.policy.specs.View.{view}
+use Rattle.sets.proofs.Laws.{asked-of}
+use Rattle.sets.proofs.ask_rule.Statement.{statement}
+use Rattle.sets.proofs.ask_rule.Tie as tie
+
+-- a place for every user
+whole : (c : tie.After-authorised-all) → length (c .authorised-all .result .roles) ≡ 256
+whole c = rw length-map at (c .authorised-all .ok .1 .1 .0 .1 .0 .1)
+
+enum-told : tie.Need-enum-told
+enum-told c = search needs
+
+authorised-all-requires : tie.Need-authorised-all-requires
+authorised-all-requires c κs = search needs
+
+slice-aggregate-some-breaks : tie.Need-slice-aggregate-some-breaks
+slice-aggregate-some-breaks c = search needs
+
+some-breaks-requires : tie.Need-some-breaks-requires
+some-breaks-requires c κs = search needs
+
+enum-told-2 : tie.Need-enum-told-2
+enum-told-2 c = search needs
+
+active-roles-requires : tie.Need-active-roles-requires
+active-roles-requires c κs = search needs
+
+slice-aggregate-some-breaks-2 : tie.Need-slice-aggregate-some-breaks-2
+slice-aggregate-some-breaks-2 c = search needs
+
+some-breaks-requires-2 : tie.Need-some-breaks-requires-2
+some-breaks-requires-2 c κs = search needs
+
+returns : tie.Need-returns
+unfolding view broken usersCut
+returns c = rw (c .before .before .before .before .before .before .before .enum-told .given .1) (record { broken = c .some-breaks .ensures ∙ asked-of 256 (c .before .before .before .before .before .before .before .before .before .args .set) (c .before .before .before .authorised-all .result .roles) (authorised (view (c .before .before .before .before .before .before .before .before .before .args .t1))) (whole (c .before .before .before)) (c .before .before .before .authorised-all .ensures .each); cut = c .before .before .before .authorised-all .ensures .cut })
+
+returns-2 : tie.Need-returns-2
+unfolding view broken
+returns-2 c = rw (c .before .before .before .before .enum-told2 .given .1) (record { broken = c .some-breaks2 .ensures ∙ asked-of 64 (c .before .before .before .before .before .before .args .set) (c .before .before .active-roles .result) (counted (view (c .before .before .before .before .before .before .args .t1))) (omega arith) (λ k l. ap (λ (f : ℕ → ℕ). f k) (c .before .before .active-roles .ensures)); cut = refl })
+
+pub ask-rule-spec : {M : Type 1} → statement M
+ask-rule-spec =
+    tie.close
+    (tie.spec
+    enum-told
+    authorised-all-requires
+    slice-aggregate-some-breaks
+    some-breaks-requires
+    enum-told-2
+    active-roles-requires
+    slice-aggregate-some-breaks-2
+    some-breaks-requires-2
+    returns
+    returns-2)
