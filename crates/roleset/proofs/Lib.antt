@@ -1,3 +1,4 @@
 pub mod BoundedLaws
 pub mod Laws
+pub mod MembersLaws
 mod Machine
