@@ -35,4 +35,3 @@ store-dsd s i v h = ap (withDsd (view s)) (set-put (s .dsd) i v noSet h)
 pub store-sessions : (s : State) (i : ℕ) (v : Session) → i < length (s .sessions) → view (record { users = s .users; roles = s .roles; juniors = s .juniors; assigned = s .assigned; holders = s .holders; ssd = s .ssd; dsd = s .dsd; sessions = set (s .sessions) i v }) ≡ withSessions (view s) (put (view s .sessions) i v)
 unfolding view
 store-sessions s i v h = ap (withSessions (view s)) (set-put (s .sessions) i v noSession h)
-

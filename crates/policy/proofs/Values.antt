@@ -31,16 +31,22 @@ view-one-to-one s t p q e = λ i. record { users = users i; roles = ap (λ (m : 
   where
     users : s .users ≡ t .users
     users = table-one (s .users) (t .users) false (p .users ∙ sym (q .users)) (ap (λ (m : Model). m .users) e)
+
     juniors : s .juniors ≡ t .juniors
     juniors = table-one (s .juniors) (t .juniors) 0 (p .juniors ∙ sym (q .juniors)) (ap (λ (m : Model). m .juniors) e)
+
     assigned : s .assigned ≡ t .assigned
     assigned = table-one (s .assigned) (t .assigned) 0 (p .assigned ∙ sym (q .assigned)) (ap (λ (m : Model). m .assigned) e)
+
     holders : s .holders ≡ t .holders
     holders = table-one (s .holders) (t .holders) 0 (p .holders ∙ sym (q .holders)) (ap (λ (m : Model). m .holders) e)
+
     ssd : s .ssd ≡ t .ssd
     ssd = table-one (s .ssd) (t .ssd) noSet (p .ssd ∙ sym (q .ssd)) (ap (λ (m : Model). m .ssd) e)
+
     dsd : s .dsd ≡ t .dsd
     dsd = table-one (s .dsd) (t .dsd) noSet (p .dsd ∙ sym (q .dsd)) (ap (λ (m : Model). m .dsd) e)
+
     sessions : s .sessions ≡ t .sessions
     sessions = table-one (s .sessions) (t .sessions) noSession (p .sessions ∙ sym (q .sessions)) (ap (λ (m : Model). m .sessions) e)
 
@@ -52,7 +58,9 @@ one-outcome told o p so sp eo ep = λ i. record { answer = answers i; state = st
   where
     same : seen o ≡ seen p
     same = eo ∙ sym ep
+
     answers : o .answer ≡ p .answer
     answers = number-one-to-one (o .answer) (p .answer) (ap (λ (t : Told). t .answer) same)
+
     states : o .state ≡ p .state
     states = view-one-to-one (o .state) (p .state) so sp (ap (λ (t : Told). t .after) same)

@@ -1,0 +1,5 @@
+pub mod Authorised
+pub mod Reachable
+pub mod Demand1
+pub mod Demand3
+pub mod BenchSheet
