@@ -4,27 +4,42 @@ ghost use Rattle.model.specs.commands.Inheriting.{inherit, disinherit};
 ghost use Rattle.policy.specs.View.{view, seen};
 use numbers::Answer;
 use numbers::Role;
-use policy::naming::either;
 use policy::Outcome;
 use policy::State;
+use policy::naming::either;
 
 // The line from senior to junior stands from now on; 1, 2, 4, 6, 10, 12.
 pub fn inherit(s: State, senior: Role, junior: Role) -> Outcome
     ensures { λ o. ⌜ seen o ≡ inherit (view s) (senior .number) (junior .number) ⌝ }
 {
     if either(numbers::role_beyond(senior), numbers::role_beyond(junior)) {
-        return Outcome { answer: Answer::BeyondRange, state: s };
+        return Outcome {
+            answer: Answer::BeyondRange,
+            state: s,
+        };
     }
-    if either(!roleset::has(s.roles, senior.number), !roleset::has(s.roles, junior.number)) {
-        return Outcome { answer: Answer::Missing, state: s };
+    if either(
+        !roleset::has(s.roles, senior.number),
+        !roleset::has(s.roles, junior.number),
+    ) {
+        return Outcome {
+            answer: Answer::Missing,
+            state: s,
+        };
     }
     let at = senior.number as usize;
     if roleset::has(s.juniors[at], junior.number) {
-        return Outcome { answer: Answer::AlreadyThere, state: s };
+        return Outcome {
+            answer: Answer::AlreadyThere,
+            state: s,
+        };
     }
     let below = hierarchy::reach(&s.juniors, roleset::with(0, junior.number));
     if roleset::has(below.roles, senior.number) {
-        return Outcome { answer: Answer::InheritsItself, state: s };
+        return Outcome {
+            answer: Answer::InheritsItself,
+            state: s,
+        };
     }
     let mut juniors = s.juniors;
     juniors[at] = roleset::with(juniors[at], junior.number);
@@ -32,17 +47,29 @@ pub fn inherit(s: State, senior: Role, junior: Role) -> Outcome
     let ssd = s.ssd;
     let roles = all.roles;
     if separation::some_breaks_some(ssd, &roles) {
-        return Outcome { answer: Answer::BreaksStatic, state: s };
+        return Outcome {
+            answer: Answer::BreaksStatic,
+            state: s,
+        };
     }
     if policy::full(&s.juniors, 512) {
-        return Outcome { answer: Answer::TableFull, state: s };
+        return Outcome {
+            answer: Answer::TableFull,
+            state: s,
+        };
     }
     if either(below.cut, all.cut) {
-        return Outcome { answer: Answer::ChainTooLong, state: s };
+        return Outcome {
+            answer: Answer::ChainTooLong,
+            state: s,
+        };
     }
     let mut after = s;
     after.juniors = juniors;
-    Outcome { answer: Answer::Done, state: after }
+    Outcome {
+        answer: Answer::Done,
+        state: after,
+    }
 }
 
 // The line from senior to junior goes; then the sessions shed; 1, 2, 5.
@@ -50,25 +77,43 @@ pub fn disinherit(s: State, senior: Role, junior: Role) -> Outcome
     ensures { λ o. ⌜ seen o ≡ disinherit (view s) (senior .number) (junior .number) ⌝ }
 {
     if either(numbers::role_beyond(senior), numbers::role_beyond(junior)) {
-        return Outcome { answer: Answer::BeyondRange, state: s };
+        return Outcome {
+            answer: Answer::BeyondRange,
+            state: s,
+        };
     }
-    if either(!roleset::has(s.roles, senior.number), !roleset::has(s.roles, junior.number)) {
-        return Outcome { answer: Answer::Missing, state: s };
+    if either(
+        !roleset::has(s.roles, senior.number),
+        !roleset::has(s.roles, junior.number),
+    ) {
+        return Outcome {
+            answer: Answer::Missing,
+            state: s,
+        };
     }
     let at = senior.number as usize;
     if !roleset::has(s.juniors[at], junior.number) {
-        return Outcome { answer: Answer::NotThere, state: s };
+        return Outcome {
+            answer: Answer::NotThere,
+            state: s,
+        };
     }
     let mut juniors = s.juniors;
     juniors[at] = roleset::without(juniors[at], junior.number);
     let sessions = s.sessions;
     let kept = sweeps::shed(&juniors, &s.assigned, sessions);
     if kept.cut {
-        return Outcome { answer: Answer::ChainTooLong, state: s };
+        return Outcome {
+            answer: Answer::ChainTooLong,
+            state: s,
+        };
     }
     let left = kept.sessions;
     let mut after = s;
     after.juniors = juniors;
     after.sessions = left;
-    Outcome { answer: Answer::Done, state: after }
+    Outcome {
+        answer: Answer::Done,
+        state: after,
+    }
 }

@@ -7,24 +7,33 @@ use model::RoleSet;
 use numbers::Answer;
 use numbers::Role;
 use numbers::User;
-use policy::naming::either;
 use policy::Outcome;
 use policy::State;
+use policy::naming::either;
 
 // The user exists from now on; 1, 4.
 pub fn user(s: State, u: User) -> Outcome
     ensures { λ o. ⌜ seen o ≡ user (view s) (u .number) ⌝ }
 {
     if numbers::user_beyond(u) {
-        return Outcome { answer: Answer::BeyondRange, state: s };
+        return Outcome {
+            answer: Answer::BeyondRange,
+            state: s,
+        };
     }
     let at = u.number as usize;
     if s.users[at] {
-        return Outcome { answer: Answer::AlreadyThere, state: s };
+        return Outcome {
+            answer: Answer::AlreadyThere,
+            state: s,
+        };
     }
     let mut after = s;
     after.users[at] = true;
-    Outcome { answer: Answer::Done, state: after }
+    Outcome {
+        answer: Answer::Done,
+        state: after,
+    }
 }
 
 // The role exists from now on; 1, 4.
@@ -32,14 +41,23 @@ pub fn role(s: State, r: Role) -> Outcome
     ensures { λ o. ⌜ seen o ≡ role (view s) (r .number) ⌝ }
 {
     if numbers::role_beyond(r) {
-        return Outcome { answer: Answer::BeyondRange, state: s };
+        return Outcome {
+            answer: Answer::BeyondRange,
+            state: s,
+        };
     }
     if roleset::has(s.roles, r.number) {
-        return Outcome { answer: Answer::AlreadyThere, state: s };
+        return Outcome {
+            answer: Answer::AlreadyThere,
+            state: s,
+        };
     }
     let mut after = s;
     after.roles = roleset::with(s.roles, r.number);
-    Outcome { answer: Answer::Done, state: after }
+    Outcome {
+        answer: Answer::Done,
+        state: after,
+    }
 }
 
 // The user's sessions end, its assignments go, and it exists no longer; 1, 2.
@@ -47,11 +65,17 @@ pub fn nouser(s: State, u: User) -> Outcome
     ensures { λ o. ⌜ seen o ≡ nouser (view s) (u .number) ⌝ }
 {
     if numbers::user_beyond(u) {
-        return Outcome { answer: Answer::BeyondRange, state: s };
+        return Outcome {
+            answer: Answer::BeyondRange,
+            state: s,
+        };
     }
     let at = u.number as usize;
     if !s.users[at] {
-        return Outcome { answer: Answer::Missing, state: s };
+        return Outcome {
+            answer: Answer::Missing,
+            state: s,
+        };
     }
     let sessions = s.sessions;
     let left = sweeps::end_all(sessions, u);
@@ -59,7 +83,10 @@ pub fn nouser(s: State, u: User) -> Outcome
     after.sessions = left;
     after.assigned[at] = 0;
     after.users[at] = false;
-    Outcome { answer: Answer::Done, state: after }
+    Outcome {
+        answer: Answer::Done,
+        state: after,
+    }
 }
 
 // Does the role stand in some of the sets?
@@ -77,21 +104,29 @@ fn in_set(sets: [RoleSet; 16], r: Role) -> bool
     false
 }
 
-
 // The role's assignments, grants and direct lines at either end go, and the role itself; then the sessions shed; 1, 2, 8.
 pub fn norole(s: State, r: Role) -> Outcome
     ensures { λ o. ⌜ seen o ≡ norole (view s) (r .number) ⌝ }
 {
     if numbers::role_beyond(r) {
-        return Outcome { answer: Answer::BeyondRange, state: s };
+        return Outcome {
+            answer: Answer::BeyondRange,
+            state: s,
+        };
     }
     if !roleset::has(s.roles, r.number) {
-        return Outcome { answer: Answer::Missing, state: s };
+        return Outcome {
+            answer: Answer::Missing,
+            state: s,
+        };
     }
     let ssd = s.ssd;
     let dsd = s.dsd;
     if either(in_set(ssd, r), in_set(dsd, r)) {
-        return Outcome { answer: Answer::StandsInSet, state: s };
+        return Outcome {
+            answer: Answer::StandsInSet,
+            state: s,
+        };
     }
     let at = r.number as usize;
     let mut juniors = s.juniors;
@@ -102,7 +137,10 @@ pub fn norole(s: State, r: Role) -> Outcome
     let sessions = s.sessions;
     let kept = sweeps::shed(&juniors, &assigned, sessions);
     if kept.cut {
-        return Outcome { answer: Answer::ChainTooLong, state: s };
+        return Outcome {
+            answer: Answer::ChainTooLong,
+            state: s,
+        };
     }
     let mut holders = s.holders;
     sweeps::strip(&mut holders, r.number);
@@ -113,5 +151,8 @@ pub fn norole(s: State, r: Role) -> Outcome
     after.assigned = assigned;
     after.holders = holders;
     after.sessions = left;
-    Outcome { answer: Answer::Done, state: after }
+    Outcome {
+        answer: Answer::Done,
+        state: after,
+    }
 }

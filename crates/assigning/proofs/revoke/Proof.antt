@@ -6,7 +6,7 @@ use mathlib.Core.Path.{_≡_, refl, sym, ap, _∙_}
 use Prim.Native.Nat.{ℕ, _<_, _+_, _*_}
 use native.Mathlib.Omega.{arith}
 use lib.Dec.{leb}
-use lib.ListN.{length, length-map}
+use lib.ListN.{length}
 use Rattle.roleset.specs.Roles.{has}
 use Rattle.roleset.proofs.BoundedLaws.{or-clear}
 use Rattle.model.specs.Model.{put, withHolders}
@@ -15,6 +15,7 @@ use Rattle.model.specs.Words.{permission}
 use Rattle.model.specs.commands.Assigning.{revoke, revoked}
 use Rattle.model.specs.commands.Naming.{noPermission, noRole, roleMissing}
 use Rattle.policy.specs.View.{view, seen}
+use Rattle.policy.proofs.Values.{sized}
 use Rattle.policy.proofs.Stores.{store-holders}
 use Rattle.assigning.proofs.revoke.Statement.{statement}
 use Rattle.assigning.proofs.revoke.Tie as tie
@@ -84,7 +85,7 @@ element-write-after c = within (c .before .before .before .before .before .befor
 returns-4 : tie.Need-returns-4
 unfolding seen revoke settle verdict view revoked
 returns-4 c =
-    let whole : length (c .before .before .before .before .before .before .before .before .before .before .args .t1 .holders) ≡ 4096 = sym (length-map (c .before .before .before .before .before .before .before .before .before .before .args .t1 .holders) (λ x. x)) ∙ c .before .before .before .before .before .before .before .before .before .before .good .0 .1 .1 .1 .1 .1 .1 .0 .1 .0 .1 in
+    let whole : length (c .before .before .before .before .before .before .before .before .before .before .args .t1 .holders) ≡ 4096 = sized (c .before .before .before .before .before .before .before .before .before .before .args .t1) _ (c .before .before .before .before .before .before .before .before .before .before .good .0) .holders in
     rw (beyond (c .before .before .before .before .before .before .before) ∙ c .before .before .before .before .before .before .if1 .left, ← c .before .before .before .before .before .has .ensures, c .before .before .before .before .if2 .left, there (c .before .before), c .before .if3 .left)
     (ap (done []) (store-holders (c .before .before .before .before .before .before .before .before .before .before .args .t1) (permission (c .before .before .before .before .before .before .before .before .before .before .args .op) (c .before .before .before .before .before .before .before .before .before .before .args .obj)) (c .without .result) (rw whole (within (c .before .before .before .before .before .before))) ∙ ap (λ (x : ℕ). withHolders (view (c .before .before .before .before .before .before .before .before .before .before .args .t1)) (put (view (c .before .before .before .before .before .before .before .before .before .before .args .t1) .holders) (permission (c .before .before .before .before .before .before .before .before .before .before .args .op) (c .before .before .before .before .before .before .before .before .before .before .args .obj)) x)) (c .without .ensures .is)))
 

@@ -6,7 +6,7 @@ use mathlib.Core.Path.{_≡_, refl, sym, ap, _∙_}
 use Prim.Native.Nat.{ℕ, _<_}
 use native.Mathlib.Omega.{arith}
 use lib.Dec.{leb}
-use lib.ListN.{length, length-map, set}
+use lib.ListN.{length, set}
 use Rattle.roleset.specs.Roles.{has, without}
 use Rattle.roleset.proofs.BoundedLaws.{or-clear}
 use Rattle.hierarchy.specs.Lines.{tableOf}
@@ -16,6 +16,7 @@ use Rattle.model.specs.Words.{shed, shedCut}
 use Rattle.model.specs.commands.Inheriting.{disinherit, unlined}
 use Rattle.model.specs.commands.Naming.{noRole, roleMissing}
 use Rattle.policy.specs.View.{view, seen, sessionsIn}
+use Rattle.policy.proofs.Values.{sized}
 use Rattle.policy.proofs.Tables.{set-put}
 use Rattle.sweeps.proofs.Shedding.{shed-cut, shed-after}
 use Rattle.inheriting.proofs.disinherit.Statement.{statement}
@@ -41,7 +42,7 @@ within c = leb-false 64 (c .before .before .before .before .args .senior .number
 changed : (c : tie.After-shed) → _≡_ {A = ℕ → ℕ} (tableOf (set (c .before .before .before .before .before .before .before .before .before .before .before .before .before .before .before .before .before .before .before .args .t1 .juniors) (c .before .before .before .before .before .before .before .before .before .before .before .before .before .before .before .before .before .before .before .args .senior .number) (c .before .before .before .before .before .without .result))) (unlined (view (c .before .before .before .before .before .before .before .before .before .before .before .before .before .before .before .before .before .before .before .args .t1)) (c .before .before .before .before .before .before .before .before .before .before .before .before .before .before .before .before .before .before .before .args .senior .number) (c .before .before .before .before .before .before .before .before .before .before .before .before .before .before .before .before .before .before .before .args .junior .number) .juniors)
 unfolding unlined view
 changed c =
-    let whole : length (c .before .before .before .before .before .before .before .before .before .before .before .before .before .before .before .before .before .before .before .args .t1 .juniors) ≡ 64 = sym (length-map (c .before .before .before .before .before .before .before .before .before .before .before .before .before .before .before .before .before .before .before .args .t1 .juniors) (λ x. x)) ∙ c .before .before .before .before .before .before .before .before .before .before .before .before .before .before .before .before .before .before .before .good .0 .1 .1 .1 .1 .0 .1 .0 .1 in
+    let whole : length (c .before .before .before .before .before .before .before .before .before .before .before .before .before .before .before .before .before .before .before .args .t1 .juniors) ≡ 64 = sized (c .before .before .before .before .before .before .before .before .before .before .before .before .before .before .before .before .before .before .before .args .t1) _ (c .before .before .before .before .before .before .before .before .before .before .before .before .before .before .before .before .before .before .before .good .0) .juniors in
     set-put (c .before .before .before .before .before .before .before .before .before .before .before .before .before .before .before .before .before .before .before .args .t1 .juniors) (c .before .before .before .before .before .before .before .before .before .before .before .before .before .before .before .before .before .before .before .args .senior .number) (c .before .before .before .before .before .without .result) 0 (rw whole (within (c .before .before .before .before .before .before .before .before .before .before .before .before .before .before .before)))
     ∙ ap (put (tableOf (c .before .before .before .before .before .before .before .before .before .before .before .before .before .before .before .before .before .before .before .args .t1 .juniors)) (c .before .before .before .before .before .before .before .before .before .before .before .before .before .before .before .before .before .before .before .args .senior .number)) (c .before .before .before .before .before .without .ensures .is)
 

@@ -20,6 +20,7 @@ use Rattle.model.specs.Words.{reached, breaksSome, staticBroken, linesStanding}
 use Rattle.model.specs.commands.Inheriting.{inherit, lined, wouldCircle, usersCut}
 use Rattle.model.specs.commands.Naming.{noRole, roleMissing}
 use Rattle.policy.specs.View.{view, seen}
+use Rattle.policy.proofs.Values.{sized}
 use Rattle.policy.proofs.Tables.{set-put}
 use Rattle.inheriting.proofs.inherit.Statement.{statement}
 use Rattle.inheriting.proofs.inherit.Tie as tie
@@ -51,7 +52,7 @@ within c = leb-false 64 (c .before .before .before .before .args .senior .number
 changed : (c : tie.After-authorised-all) → _≡_ {A = ℕ → ℕ} (tableOf (set (c .before .before .before .before .before .before .before .before .before .before .before .before .before .before .before .before .before .before .before .before .before .before .before .before .args .t1 .juniors) (c .before .before .before .before .before .before .before .before .before .before .before .before .before .before .before .before .before .before .before .before .before .before .before .before .args .senior .number) (c .before .before .before .before .with2 .result))) (lined (view (c .before .before .before .before .before .before .before .before .before .before .before .before .before .before .before .before .before .before .before .before .before .before .before .before .args .t1)) (c .before .before .before .before .before .before .before .before .before .before .before .before .before .before .before .before .before .before .before .before .before .before .before .before .args .senior .number) (c .before .before .before .before .before .before .before .before .before .before .before .before .before .before .before .before .before .before .before .before .before .before .before .before .args .junior .number) .juniors)
 unfolding lined view
 changed c =
-    let whole : length (c .before .before .before .before .before .before .before .before .before .before .before .before .before .before .before .before .before .before .before .before .before .before .before .before .args .t1 .juniors) ≡ 64 = sym (length-map (c .before .before .before .before .before .before .before .before .before .before .before .before .before .before .before .before .before .before .before .before .before .before .before .before .args .t1 .juniors) (λ x. x)) ∙ c .before .before .before .before .before .before .before .before .before .before .before .before .before .before .before .before .before .before .before .before .before .before .before .before .good .0 .1 .1 .1 .1 .0 .1 .0 .1 in
+    let whole : length (c .before .before .before .before .before .before .before .before .before .before .before .before .before .before .before .before .before .before .before .before .before .before .before .before .args .t1 .juniors) ≡ 64 = sized (c .before .before .before .before .before .before .before .before .before .before .before .before .before .before .before .before .before .before .before .before .before .before .before .before .args .t1) _ (c .before .before .before .before .before .before .before .before .before .before .before .before .before .before .before .before .before .before .before .before .before .before .before .before .good .0) .juniors in
     set-put (c .before .before .before .before .before .before .before .before .before .before .before .before .before .before .before .before .before .before .before .before .before .before .before .before .args .t1 .juniors) (c .before .before .before .before .before .before .before .before .before .before .before .before .before .before .before .before .before .before .before .before .before .before .before .before .args .senior .number) (c .before .before .before .before .with2 .result) 0 (rw whole (within (c .before .before .before .before .before .before .before .before .before .before .before .before .before .before .before .before .before .before .before .before)))
     ∙ ap (put (tableOf (c .before .before .before .before .before .before .before .before .before .before .before .before .before .before .before .before .before .before .before .before .before .before .before .before .args .t1 .juniors)) (c .before .before .before .before .before .before .before .before .before .before .before .before .before .before .before .before .before .before .before .before .before .before .before .before .args .senior .number)) (c .before .before .before .before .with2 .ensures .is)
 

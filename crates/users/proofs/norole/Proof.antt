@@ -5,7 +5,7 @@ use mathlib.Core.List.{[], List, map}
 use mathlib.Core.Path.{_≡_, refl, sym, ap, _∙_}
 use Prim.Native.Nat.{ℕ, _<_}
 use native.Mathlib.Omega.{arith}
-use lib.ListN.{length, length-map, set}
+use lib.ListN.{length, set}
 use Rattle.roleset.specs.Roles.{has, without, none}
 use Rattle.hierarchy.specs.Lines.{tableOf}
 use Rattle.model.specs.Model.{Model, put, withSessions}
@@ -13,6 +13,7 @@ use Rattle.model.specs.Sheet.{verdict, settle, done}
 use Rattle.model.specs.Words.{shed, shedCut}
 use Rattle.model.specs.commands.Users.{norole, withoutRole, inSet}
 use Rattle.policy.specs.View.{view, seen, sessionsIn}
+use Rattle.policy.proofs.Values.{sized}
 use Rattle.policy.proofs.Tables.{set-put}
 use Rattle.sweeps.proofs.Shedding.{shed-cut, shed-after}
 use Rattle.sweeps.proofs.Strips.{strip-table, strip-length}
@@ -32,7 +33,7 @@ within c = leb-false 64 (c .before .before .args .r .number) (sym (c .before .ro
 juniors-after : (c : tie.After-shed) → _≡_ {A = ℕ → ℕ} (tableOf (set (c .before .before .before .before .before .before .before .before .before .strip .last .0) (c .before .before .before .before .before .before .before .before .before .before .before .before .before .before .before .before .before .before .before .before .before .before .before .args .r .number) 0)) (withoutRole (view (c .before .before .before .before .before .before .before .before .before .before .before .before .before .before .before .before .before .before .before .before .before .before .before .args .s)) (c .before .before .before .before .before .before .before .before .before .before .before .before .before .before .before .before .before .before .before .before .before .before .before .args .r .number) .juniors)
 unfolding withoutRole view
 juniors-after c =
-    let whole : length (c .before .before .before .before .before .before .before .before .before .before .before .before .before .before .before .before .before .before .before .before .before .before .before .args .s .juniors) ≡ 64 = sym (length-map (c .before .before .before .before .before .before .before .before .before .before .before .before .before .before .before .before .before .before .before .before .before .before .before .args .s .juniors) (λ x. x)) ∙ c .before .before .before .before .before .before .before .before .before .before .before .before .before .before .before .before .before .before .before .before .before .before .before .good .0 .1 .1 .1 .1 .0 .1 .0 .1 in
+    let whole : length (c .before .before .before .before .before .before .before .before .before .before .before .before .before .before .before .before .before .before .before .before .before .before .before .args .s .juniors) ≡ 64 = sized (c .before .before .before .before .before .before .before .before .before .before .before .before .before .before .before .before .before .before .before .before .before .before .before .args .s) _ (c .before .before .before .before .before .before .before .before .before .before .before .before .before .before .before .before .before .before .before .before .before .before .before .good .0) .juniors in
     ap (λ (l : List ℕ). tableOf (set l (c .before .before .before .before .before .before .before .before .before .before .before .before .before .before .before .before .before .before .before .before .before .before .before .args .r .number) 0)) (c .before .before .before .before .before .before .before .before .before .strip .ensures)
     ∙ set-put (map (λ x. without x (c .before .before .before .before .before .before .before .before .before .before .before .before .before .before .before .before .before .before .before .before .before .before .before .args .r .number)) (c .before .before .before .before .before .before .before .before .before .before .before .before .before .before .before .before .before .before .before .before .before .before .before .args .s .juniors)) (c .before .before .before .before .before .before .before .before .before .before .before .before .before .before .before .before .before .before .before .before .before .before .before .args .r .number) 0 0 (rw (strip-length (c .before .before .before .before .before .before .before .before .before .before .before .before .before .before .before .before .before .before .before .before .before .before .before .args .s .juniors) (c .before .before .before .before .before .before .before .before .before .before .before .before .before .before .before .before .before .before .before .before .before .before .before .args .r .number), whole) (within (c .before .before .before .before .before .before .before .before .before .before .before .before .before .before .before .before .before .before .before .before .before)))
     ∙ ap (λ (f : ℕ → ℕ). put f (c .before .before .before .before .before .before .before .before .before .before .before .before .before .before .before .before .before .before .before .before .before .before .before .args .r .number) 0) (strip-table (c .before .before .before .before .before .before .before .before .before .before .before .before .before .before .before .before .before .before .before .before .before .before .before .args .s .juniors) (c .before .before .before .before .before .before .before .before .before .before .before .before .before .before .before .before .before .before .before .before .before .before .before .args .r .number))
@@ -109,7 +110,7 @@ unfolding seen norole settle verdict view
 returns-4 c = rw (← c .before .before .before .before .before .before .before .before .before .before .before .before .before .before .before .before .before .before .before .before .before .before .before .role-beyond .ensures, c .before .before .before .before .before .before .before .before .before .before .before .before .before .before .before .before .before .before .before .before .before .before .if1 .left, ← c .before .before .before .before .before .before .before .before .before .before .before .before .before .before .before .before .before .before .before .before .before .has .ensures, c .before .before .before .before .before .before .before .before .before .before .before .before .before .before .before .before .before .before .before .before .if2 .left, standing (c .before .before .before .before .before .before .before .before .before .before .before .before .before .before .before) ∙ c .before .before .before .before .before .before .before .before .before .before .before .before .before .before .if3 .left, cutting (c .before) ∙ c .if4 .taken)
 
 slice-aggregate-strip-3 : tie.Need-slice-aggregate-strip-3
-slice-aggregate-strip-3 c = sym (sym (length-map (c .before .before .before .before .before .before .before .before .before .before .before .before .before .before .before .before .before .before .before .before .before .before .before .before .before .before .args .s .holders) (λ x. x)) ∙ c .before .before .before .before .before .before .before .before .before .before .before .before .before .before .before .before .before .before .before .before .before .before .before .before .before .before .good .0 .1 .1 .1 .1 .1 .1 .0 .1 .0 .1)
+slice-aggregate-strip-3 c = sym (sized (c .before .before .before .before .before .before .before .before .before .before .before .before .before .before .before .before .before .before .before .before .before .before .before .before .before .before .args .s) _ (c .before .before .before .before .before .before .before .before .before .before .before .before .before .before .before .before .before .before .before .before .before .before .before .before .before .before .good .0) .holders)
 
 strip-requires-3 : tie.Need-strip-requires-3
 strip-requires-3 c κs = search needs

@@ -4,12 +4,13 @@ use mathlib.Core.Bool.{Bool, false}
 use mathlib.Core.List.{[]}
 use mathlib.Core.Path.{_≡_, sym, ap, _∙_}
 use Prim.Native.Nat.{ℕ, _<_}
-use lib.ListN.{length, length-map, set}
+use lib.ListN.{length, set}
 use Rattle.hierarchy.specs.Lines.{tableOf}
 use Rattle.model.specs.Model.{Session, put, withUsers, withAssigned, withSessions}
 use Rattle.model.specs.Sheet.{verdict, settle, done}
 use Rattle.model.specs.commands.Users.{nouser, withoutUser, allEnded}
 use Rattle.policy.specs.View.{view, seen, flags, sessionsIn}
+use Rattle.policy.proofs.Values.{sized}
 use Rattle.policy.proofs.Tables.{set-put}
 use Rattle.users.proofs.nouser.Statement.{statement}
 use Rattle.users.proofs.nouser.Tie as tie
@@ -21,12 +22,12 @@ within c = leb-false 256 (c .before .before .args .u .number) (sym (c .before .u
 -- the user is gone, and so are its assignments
 users-after : (c : tie.After-end-all) → _≡_ {A = ℕ → Bool} (flags (set (c .before .before .before .before .before .before .before .args .t1 .users) (c .before .before .before .before .before .before .before .args .u .number) false)) (put (flags (c .before .before .before .before .before .before .before .args .t1 .users)) (c .before .before .before .before .before .before .before .args .u .number) false)
 users-after c =
-    let whole : length (c .before .before .before .before .before .before .before .args .t1 .users) ≡ 256 = sym (length-map (c .before .before .before .before .before .before .before .args .t1 .users) (λ x. x)) ∙ c .before .before .before .before .before .before .before .good .0 .1 .1 .0 .1 .0 .1 in
+    let whole : length (c .before .before .before .before .before .before .before .args .t1 .users) ≡ 256 = sized (c .before .before .before .before .before .before .before .args .t1) _ (c .before .before .before .before .before .before .before .good .0) .users in
     set-put (c .before .before .before .before .before .before .before .args .t1 .users) (c .before .before .before .before .before .before .before .args .u .number) false false (rw whole (within (c .before .before .before .before .before)))
 
 assigned-after : (c : tie.After-end-all) → _≡_ {A = ℕ → ℕ} (tableOf (set (c .before .before .before .before .before .before .before .args .t1 .assigned) (c .before .before .before .before .before .before .before .args .u .number) 0)) (put (tableOf (c .before .before .before .before .before .before .before .args .t1 .assigned)) (c .before .before .before .before .before .before .before .args .u .number) 0)
 assigned-after c =
-    let whole : length (c .before .before .before .before .before .before .before .args .t1 .assigned) ≡ 256 = sym (length-map (c .before .before .before .before .before .before .before .args .t1 .assigned) (λ x. x)) ∙ c .before .before .before .before .before .before .before .good .0 .1 .1 .1 .1 .1 .0 .1 .0 .1 in
+    let whole : length (c .before .before .before .before .before .before .before .args .t1 .assigned) ≡ 256 = sized (c .before .before .before .before .before .before .before .args .t1) _ (c .before .before .before .before .before .before .before .good .0) .assigned in
     set-put (c .before .before .before .before .before .before .before .args .t1 .assigned) (c .before .before .before .before .before .before .before .args .u .number) 0 0 (rw whole (within (c .before .before .before .before .before)))
 
 user-beyond-requires : tie.Need-user-beyond-requires

@@ -5,10 +5,11 @@ use mathlib.Core.List.{[]}
 use mathlib.Core.Path.{_≡_, sym, ap, _∙_}
 use Prim.Native.Nat.{_<_}
 use native.Mathlib.Omega.{arith}
-use lib.ListN.{length, length-map}
+use lib.ListN.{length}
 use Rattle.model.specs.Sheet.{verdict, settle, done}
 use Rattle.model.specs.commands.Users.{user}
 use Rattle.policy.specs.View.{view, seen}
+use Rattle.policy.proofs.Values.{sized}
 use Rattle.policy.proofs.Stores.{store-users}
 use Rattle.users.proofs.user.Statement.{statement}
 use Rattle.users.proofs.user.Tie as tie
@@ -40,7 +41,7 @@ element-write-after c = within (c .before .before .before)
 returns-3 : tie.Need-returns-3
 unfolding seen user settle verdict view
 returns-3 c =
-    let whole : length (c .before .before .before .before .before .args .t1 .users) ≡ 256 = sym (length-map (c .before .before .before .before .before .args .t1 .users) (λ x. x)) ∙ c .before .before .before .before .before .good .0 .1 .1 .0 .1 .0 .1 in
+    let whole : length (c .before .before .before .before .before .args .t1 .users) ≡ 256 = sized (c .before .before .before .before .before .args .t1) _ (c .before .before .before .before .before .good .0) .users in
     rw (← c .before .before .before .before .user-beyond .ensures, c .before .before .before .if1 .left, c .if2 .left) (ap (done []) (store-users (c .before .before .before .before .before .args .t1) (c .before .before .before .before .before .args .u .number) true (rw whole (within (c .before .before .before)))))
 
 pub user-spec : {M : Type 1} → statement M
