@@ -11,7 +11,7 @@ use Rattle.numbers.specs.Answers.{numberOf}
 use Rattle.numbers.specs.declared.Answer.{Answer}
 use Rattle.hierarchy.specs.Walks.{reach}
 use Rattle.model.specs.Model.{Model, Session}
-use Rattle.model.specs.Sheet.{Told, _when_, verdict}
+use Rattle.model.specs.Sheet.{Refusal, Told, _when_, verdict}
 use Rattle.model.specs.Words.{permission}
 use Rattle.model.specs.commands.Naming.{noPermission}
 use Rattle.policy.specs.View.{view}
@@ -56,7 +56,11 @@ pub record Owns (m : Model) (told : Told) (x : Owned) : Type 0 where
 unfoldable pub permits : (ℕ → ℕ) → (ℕ → ℕ) → ℕ → ℕ → Bool
 permits juniors holders active p = not (isEmpty (both (reach juniors active .roles) (holders p)))
 
--- what `check` answers of a session, over the tables that it reads: 1, 2, 13, else yes or no
+-- the refusals of `check` for a session, over the junior sets
+abbrev pub refusals : (ℕ → ℕ) → Session → ℕ → ℕ → List Refusal
+refusals juniors session op obj = 1 when noPermission op obj ∷ 2 when not (session .live) ∷ 13 when reach juniors (session .active) .cut ∷ []
+
+-- what `check` answers of a session over the tables that it reads: the first refusal that holds, else yes or no
 pub record ChecksLent (juniors holders : ℕ → ℕ) (session : Session) (op obj : ℕ) (x : Checked) : Type 0 where
-  pub answer : numberOf (x .answer) ≡ verdict (1 when noPermission op obj ∷ 2 when not (session .live) ∷ 13 when reach juniors (session .active) .cut ∷ [])
+  pub answer : numberOf (x .answer) ≡ verdict (refusals juniors session op obj)
   pub answered : x .yes ≡ (isDone (x .answer) && permits juniors holders (session .active) (permission op obj))

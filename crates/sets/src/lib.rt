@@ -83,7 +83,7 @@ struct Asked {
     cut: bool,
 }
 
-// Asks the rule of this kind of the set: a static set of the roles that each user is authorised for, a dynamic one of the roles that each session has active.
+// Is the set's rule broken? A static one is asked of the roles that each user is authorised for, a dynamic one of those that each session has active.
 fn ask_rule(s: State, kind: Kind, set: RoleSet) -> Asked
     ensures { λ x. ⌜ Asks kind (view s) set x ⌝ }
 {

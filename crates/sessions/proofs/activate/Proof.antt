@@ -1,84 +1,155 @@
 use borrow.Author.Needs.{needs}
 use borrow.Author.Tests.{leb-false, eq-eqb, ne-eqb}
-use mathlib.Core.Bool.{true, false, not, _||_}
+use mathlib.Core.Bool.{Bool, true, false, not, _||_}
 use mathlib.Core.List.{[]}
 use mathlib.Core.Path.{_≡_, sym, ap, _∙_}
-use Prim.Native.Nat.{_<_}
-use lib.ListN.{length, length-map}
-use Rattle.roleset.specs.Roles.{has}
+use Prim.Native.Nat.{ℕ, _<_}
+use lib.ListN.{length}
+use Rattle.roleset.specs.Roles.{has, with}
 use Rattle.roleset.proofs.BoundedLaws.{or-clear}
-use Rattle.model.specs.Sheet.{verdict, settle, done}
-use Rattle.model.specs.commands.Naming.{noUser, noRole, noSession, userMissing, roleMissing, sessionMissing}
-use Rattle.roleset.specs.Roles.{with}
 use Rattle.hierarchy.specs.declared.Walk.{Walk}
+use Rattle.model.specs.Model.{Model}
+use Rattle.model.specs.Sheet.{verdict, settle, done}
 use Rattle.model.specs.Words.{reached, authorised, breaksSome, dynamicBroken}
+use Rattle.model.specs.commands.Naming.{noUser, noRole, noSession, userMissing, roleMissing, sessionMissing}
 use Rattle.model.specs.commands.Sessions.{activate, notOwner, activeSet}
 use Rattle.policy.specs.View.{view, seen}
 use Rattle.policy.proofs.Stores.{store-sessions}
+use Rattle.policy.proofs.Values.{sized}
 use Rattle.sessions.proofs.Rules.{active-dynamic}
 use Rattle.sessions.proofs.activate.Statement.{statement}
 use Rattle.sessions.proofs.activate.Tie as tie
 
--- from each test back to the entry
-abbrev entry1 : tie.After-activation-beyond → tie.Start
-entry1 c = c .before
+-- the policy and the sessions at entry, and the numbers that the command names
+abbrev m : tie.Start → Model
+m c = view (c .args .t1)
 
-abbrev entry2 : tie.After-either2 → tie.Start
-entry2 c = entry1 (c .before .before .before .before .before .before .before .before .before)
+abbrev user : tie.Start → ℕ
+user c = c .args .u .number
 
-abbrev entry3 : tie.Else2 → tie.Start
-entry3 c = entry2 (c .before)
+abbrev number : tie.Start → ℕ
+number c = c .args .x .number
 
-abbrev entry4 : tie.After-has2 → tie.Start
-entry4 c = entry3 (c .before .before .before .before)
+abbrev role : tie.Start → ℕ
+role c = c .args .r .number
 
--- what each test finds, in the words of the definition
-beyond : (c : tie.After-activation-beyond) → (noUser (entry1 c .args .u .number) || (noSession (entry1 c .args .x .number) || noRole (entry1 c .args .r .number))) ≡ c .activation-beyond .result
-beyond c = sym (c .activation-beyond .ensures)
+-- the refusals' conditions, in the words of the definition
+abbrev beyond : tie.Start → Bool
+beyond s = noUser (user s) || (noSession (number s) || noRole (role s))
 
-missing : (c : tie.After-either2) → (userMissing (view (entry2 c .args .t1)) (entry2 c .args .u .number) || (sessionMissing (view (entry2 c .args .t1)) (entry2 c .args .x .number) || roleMissing (view (entry2 c .args .t1)) (entry2 c .args .r .number))) ≡ c .either2 .result
+abbrev missing : tie.Start → Bool
+missing s = userMissing (m s) (user s) || (sessionMissing (m s) (number s) || roleMissing (m s) (role s))
+
+abbrev other : tie.Start → Bool
+other s = notOwner (m s) (user s) (number s)
+
+abbrev there : tie.Start → Bool
+there s = has (m s .sessions (number s) .active) (role s)
+
+abbrev unauthorised : tie.Start → Bool
+unauthorised s = not (has (authorised (m s) (user s)) (role s))
+
+abbrev breaking : tie.Start → Bool
+breaking s = dynamicBroken (activeSet (m s) (number s) (with (m s .sessions (number s) .active) (role s))) (number s)
+
+abbrev tooLong : tie.Start → Bool
+tooLong s = reached (m s) (m s .assigned (user s)) .cut
+
+-- from the place past each refusal back to the one before it
+abbrev to-start : tie.Else1 → tie.Start
+to-start c = c .before .before
+
+abbrev to-1 : tie.Else2 → tie.Else1
+to-1 c = c .before .before .before .before .before .before .before .before .before
+
+abbrev to-2 : tie.Else3 → tie.Else2
+to-2 c = c .before .before .before
+
+abbrev to-3 : tie.Else4 → tie.Else3
+to-3 c = c .before .before
+
+abbrev to-4 : tie.Else5 → tie.Else4
+to-4 c = c .before .before .before .before .before .before
+
+abbrev to-5 : tie.Else6 → tie.Else5
+to-5 c = c .before .before .before .before
+
+abbrev to-6 : tie.Else7 → tie.Else6
+to-6 c = c .before
+
+-- what each test finds, and what is known past it
+found-1 : (c : tie.After-activation-beyond) → beyond (c .before) ≡ c .activation-beyond .result
+found-1 c = sym (c .activation-beyond .ensures)
+
+clear-1 : (c : tie.Else1) → beyond (to-start c) ≡ false
+clear-1 c = found-1 (c .before) ∙ c .if1 .left
+
+found-2 : (c : tie.After-either2) → missing (to-start (c .before .before .before .before .before .before .before .before)) ≡ c .either2 .result
 unfolding view
-missing c = cc
+found-2 c = cc
 
-other : (c : tie.Then3) → notOwner (view (entry3 (c .before .before .before) .args .t1)) (entry3 (c .before .before .before) .args .u .number) (entry3 (c .before .before .before) .args .x .number) ≡ true
+clear-2 : (c : tie.Else2) → missing (to-start (to-1 c)) ≡ false
+clear-2 c = found-2 (c .before) ∙ c .if2 .left
+
+found-3 : (c : tie.Then3) → other (to-start (to-1 (c .before .before .before))) ≡ true
 unfolding view
-other c = ap not (ne-eqb _ _ (c .if3 .taken))
+found-3 c = ap not (ne-eqb _ _ (c .if3 .taken))
 
-own : (c : tie.Else3) → notOwner (view (entry3 (c .before .before .before) .args .t1)) (entry3 (c .before .before .before) .args .u .number) (entry3 (c .before .before .before) .args .x .number) ≡ false
+clear-3 : (c : tie.Else3) → other (to-start (to-1 (to-2 c))) ≡ false
 unfolding view
-own c = ap not (eq-eqb _ _ (c .if3 .left))
+clear-3 c = ap not (eq-eqb _ _ (c .if3 .left))
 
-there : (c : tie.After-has2) → has (view (entry4 c .args .t1) .sessions (entry4 c .args .x .number) .active) (entry4 c .args .r .number) ≡ c .has2 .result
+found-4 : (c : tie.After-has2) → there (to-start (to-1 (to-2 (c .before)))) ≡ c .has2 .result
 unfolding view
-there c = sym (c .has2 .ensures)
+found-4 c = sym (c .has2 .ensures)
 
-walked : (c : tie.After-reach) → reached (view (c .before .before .before .before .before .before .before .before .before .before .before .before .before .before .before .before .before .before .before .before .args .t1)) (view (c .before .before .before .before .before .before .before .before .before .before .before .before .before .before .before .before .before .before .before .before .args .t1) .assigned (c .before .before .before .before .before .before .before .before .before .before .before .before .before .before .before .before .before .before .before .before .args .u .number)) ≡ c .reach .result
+clear-4 : (c : tie.Else4) → there (to-start (to-1 (to-2 (to-3 c)))) ≡ false
+clear-4 c = found-4 (c .before) ∙ c .if4 .left
+
+walked : (c : tie.After-reach) → let s = to-start (to-1 (to-2 (to-3 (c .before .before .before .before)))) in reached (m s) (m s .assigned (user s)) ≡ c .reach .result
 unfolding view
 walked c = sym (c .reach .ensures)
 
-allowed : (c : tie.After-has3) → has (authorised (view (c .before .before .before .before .before .before .before .before .before .before .before .before .before .before .before .before .before .before .before .before .before .args .t1)) (c .before .before .before .before .before .before .before .before .before .before .before .before .before .before .before .before .before .before .before .before .before .args .u .number)) (c .before .before .before .before .before .before .before .before .before .before .before .before .before .before .before .before .before .before .before .before .before .args .r .number) ≡ c .has3 .result
-allowed c = ap (λ (w : Walk). has (w .roles) (c .before .before .before .before .before .before .before .before .before .before .before .before .before .before .before .before .before .before .before .before .before .args .r .number)) (walked (c .before)) ∙ sym (c .has3 .ensures)
+found-5 : (c : tie.After-has3) → unauthorised (to-start (to-1 (to-2 (to-3 (c .before .before .before .before .before))))) ≡ not (c .has3 .result)
+found-5 c = ap not (ap (λ (w : Walk). has (w .roles) (role (to-start (to-1 (to-2 (to-3 (c .before .before .before .before .before))))))) (walked (c .before)) ∙ sym (c .has3 .ensures))
 
-breaking : (c : tie.After-breaks-some) → dynamicBroken (activeSet (view (c .before .before .before .before .before .before .before .before .before .before .before .before .before .before .before .before .before .before .before .before .before .before .before .before .before .args .t1)) (c .before .before .before .before .before .before .before .before .before .before .before .before .before .before .before .before .before .before .before .before .before .before .before .before .before .args .x .number) (with (view (c .before .before .before .before .before .before .before .before .before .before .before .before .before .before .before .before .before .before .before .before .before .before .before .before .before .args .t1) .sessions (c .before .before .before .before .before .before .before .before .before .before .before .before .before .before .before .before .before .before .before .before .before .before .before .before .before .args .x .number) .active) (c .before .before .before .before .before .before .before .before .before .before .before .before .before .before .before .before .before .before .before .before .before .before .before .before .before .args .r .number))) (c .before .before .before .before .before .before .before .before .before .before .before .before .before .before .before .before .before .before .before .before .before .before .before .before .before .args .x .number) ≡ c .breaks-some .result
+clear-5 : (c : tie.Else5) → unauthorised (to-start (to-1 (to-2 (to-3 (to-4 c))))) ≡ false
+clear-5 c = found-5 (c .before) ∙ c .if5 .left
+
+found-6 : (c : tie.After-breaks-some) → breaking (to-start (to-1 (to-2 (to-3 (to-4 (c .before .before .before)))))) ≡ c .breaks-some .result
 unfolding view
-breaking c = active-dynamic (view (c .before .before .before .before .before .before .before .before .before .before .before .before .before .before .before .before .before .before .before .before .before .before .before .before .before .args .t1)) (c .before .before .before .before .before .before .before .before .before .before .before .before .before .before .before .before .before .before .before .before .before .before .before .before .before .args .x .number) _ ∙ ap (breaksSome (view (c .before .before .before .before .before .before .before .before .before .before .before .before .before .before .before .before .before .before .before .before .before .before .before .before .before .args .t1) .dsd)) (sym (c .before .before .with .ensures .is)) ∙ sym (c .breaks-some .ensures)
+found-6 c =
+    let s = to-start (to-1 (to-2 (to-3 (to-4 (c .before .before .before))))) in
+    active-dynamic (m s) (number s) _ ∙ ap (breaksSome (m s .dsd)) (sym (c .before .before .with .ensures .is)) ∙ sym (c .breaks-some .ensures)
+
+clear-6 : (c : tie.Else6) → breaking (to-start (to-1 (to-2 (to-3 (to-4 (to-5 c)))))) ≡ false
+clear-6 c = found-6 (c .before) ∙ c .if6 .left
+
+found-7 : (c : tie.Then7) → tooLong (to-start (to-1 (to-2 (to-3 (to-4 (to-5 (c .before))))))) ≡ true
+found-7 c = ap (λ (w : Walk). w .cut) (walked (c .before .before .before .before .before .before .before)) ∙ c .if7 .taken
+
+clear-7 : (c : tie.Else7) → tooLong (to-start (to-1 (to-2 (to-3 (to-4 (to-5 (to-6 c))))))) ≡ false
+clear-7 c = ap (λ (w : Walk). w .cut) (walked (c .before .before .before .before .before .before .before)) ∙ c .if7 .left
 
 -- the user and the session are within their ranges, and there are 64 places for sessions
-within-user : (c : tie.Else1) → entry1 (c .before) .args .u .number < 256
-within-user c = leb-false 256 (entry1 (c .before) .args .u .number) (or-clear _ _ (beyond (c .before) ∙ c .if1 .left) .0)
+user-within : (c : tie.Else1) → user (to-start c) < 256
+user-within c = leb-false 256 (user (to-start c)) (or-clear _ _ (clear-1 c) .0)
 
-within-session : (c : tie.Else1) → entry1 (c .before) .args .x .number < 64
-within-session c = leb-false 64 (entry1 (c .before) .args .x .number) (or-clear (noSession (entry1 (c .before) .args .x .number)) _ (or-clear (noUser (entry1 (c .before) .args .u .number)) _ (beyond (c .before) ∙ c .if1 .left) .1) .0)
+session-within : (c : tie.Else1) → number (to-start c) < 64
+session-within c = let s = to-start c in leb-false 64 (number s) (or-clear _ (noRole (role s)) (or-clear (noUser (user s)) (noSession (number s) || noRole (role s)) (clear-1 c) .1) .0)
 
 whole : (c : tie.Start) → length (c .args .t1 .sessions) ≡ 64
-whole c = simp length-map at (c .good .0 .1 .1 .1 .1 .1 .1 .1 .1 .1 .0 .1 .0 .1)
+whole c = sized (c .args .t1) _ (c .good .0) .sessions
 
 activation-beyond-requires : tie.Need-activation-beyond-requires
 activation-beyond-requires c κs = search needs
 
+refused-requires : tie.Need-refused-requires
+refused-requires c κs = search needs
+
 returns : tie.Need-returns
 unfolding seen activate settle verdict
-returns c = rw (beyond (c .before) ∙ c .if1 .taken)
+returns c = rw (c .refused .ensures, found-1 (c .before .before) ∙ c .before .if1 .taken)
 
 cast-user : tie.Need-cast-user
 cast-user c = search needs
@@ -90,13 +161,13 @@ mul-old : tie.Need-mul-old
 mul-old c = search needs
 
 element-copy-out-old : tie.Need-element-copy-out-old
-element-copy-out-old c = within-session (c .before .before)
-
-element-copy-out-either : tie.Need-element-copy-out-either
-element-copy-out-either c = within-user (c .before .before .before)
+element-copy-out-old c = session-within (c .before .before)
 
 has-requires : tie.Need-has-requires
 has-requires c κs = search needs
+
+element-copy-out-either : tie.Need-element-copy-out-either
+element-copy-out-either c = user-within (c .before .before .before .before)
 
 either-requires : tie.Need-either-requires
 either-requires c κs = search needs
@@ -104,23 +175,37 @@ either-requires c κs = search needs
 either-requires-2 : tie.Need-either-requires-2
 either-requires-2 c κs = search needs
 
+refused-requires-2 : tie.Need-refused-requires-2
+refused-requires-2 c κs = search needs
+
 returns-2 : tie.Need-returns-2
 unfolding seen activate settle verdict
-returns-2 c = rw (beyond (c .before .before .before .before .before .before .before .before .before .before) ∙ c .before .before .before .before .before .before .before .before .before .if1 .left, missing (c .before) ∙ c .if2 .taken)
+returns-2 c = rw (c .refused2 .ensures, clear-1 (c .before .before .before .before .before .before .before .before .before .before), found-2 (c .before .before) ∙ c .before .if2 .taken)
 
 cast-if3 : tie.Need-cast-if3
 cast-if3 c = search needs
 
+refused-requires-3 : tie.Need-refused-requires-3
+refused-requires-3 c κs = search needs
+
 returns-3 : tie.Need-returns-3
 unfolding seen activate settle verdict
-returns-3 c = rw (beyond (c .before .before .before .before .before .before .before .before .before .before .before .before .before) ∙ c .before .before .before .before .before .before .before .before .before .before .before .before .if1 .left, missing (c .before .before .before .before) ∙ c .before .before .before .if2 .left, other c)
+returns-3 c =
+    let c2 = c .before .before .before .before in
+    rw (c .refused3 .ensures, clear-1 (to-1 c2), clear-2 c2, found-3 (c .before))
 
 has-requires-2 : tie.Need-has-requires-2
 has-requires-2 c κs = search needs
 
+refused-requires-4 : tie.Need-refused-requires-4
+refused-requires-4 c κs = search needs
+
 returns-4 : tie.Need-returns-4
 unfolding seen activate settle verdict
-returns-4 c = rw (beyond (c .before .before .before .before .before .before .before .before .before .before .before .before .before .before .before) ∙ c .before .before .before .before .before .before .before .before .before .before .before .before .before .before .if1 .left, missing (c .before .before .before .before .before .before) ∙ c .before .before .before .before .before .if2 .left, own (c .before .before), there (c .before) ∙ c .if4 .taken)
+returns-4 c =
+    let c3 = c .before .before .before in
+    let c2 = to-2 c3 in
+    rw (c .refused4 .ensures, clear-1 (to-1 c2), clear-2 c2, clear-3 c3, found-4 (c .before .before) ∙ c .before .if4 .taken)
 
 mul-assigned : tie.Need-mul-assigned
 mul-assigned c = search needs
@@ -134,9 +219,16 @@ reach-requires c κs = search needs
 has-requires-3 : tie.Need-has-requires-3
 has-requires-3 c κs = search needs
 
+refused-requires-5 : tie.Need-refused-requires-5
+refused-requires-5 c κs = search needs
+
 returns-5 : tie.Need-returns-5
 unfolding seen activate settle verdict
-returns-5 c = rw (beyond (c .before .before .before .before .before .before .before .before .before .before .before .before .before .before .before .before .before .before .before .before .before) ∙ c .before .before .before .before .before .before .before .before .before .before .before .before .before .before .before .before .before .before .before .before .if1 .left, missing (c .before .before .before .before .before .before .before .before .before .before .before .before) ∙ c .before .before .before .before .before .before .before .before .before .before .before .if2 .left, own (c .before .before .before .before .before .before .before .before), there (c .before .before .before .before .before .before .before) ∙ c .before .before .before .before .before .before .if4 .left, allowed (c .before), c .if5 .taken)
+returns-5 c =
+    let c4 = c .before .before .before .before .before .before .before in
+    let c3 = to-3 c4 in
+    let c2 = to-2 c3 in
+    rw (c .refused5 .ensures, clear-1 (to-1 c2), clear-2 c2, clear-3 c3, clear-4 c4, found-5 (c .before .before) ∙ c .before .if5 .taken)
 
 with-requires : tie.Need-with-requires
 with-requires c κs = search needs
@@ -144,55 +236,85 @@ with-requires c κs = search needs
 breaks-some-requires : tie.Need-breaks-some-requires
 breaks-some-requires c κs = search needs
 
+refused-requires-6 : tie.Need-refused-requires-6
+refused-requires-6 c κs = search needs
+
 returns-6 : tie.Need-returns-6
 unfolding seen activate settle verdict
-returns-6 c = rw (beyond (c .before .before .before .before .before .before .before .before .before .before .before .before .before .before .before .before .before .before .before .before .before .before .before .before .before) ∙ c .before .before .before .before .before .before .before .before .before .before .before .before .before .before .before .before .before .before .before .before .before .before .before .before .if1 .left, missing (c .before .before .before .before .before .before .before .before .before .before .before .before .before .before .before .before) ∙ c .before .before .before .before .before .before .before .before .before .before .before .before .before .before .before .if2 .left, own (c .before .before .before .before .before .before .before .before .before .before .before .before), there (c .before .before .before .before .before .before .before .before .before .before .before) ∙ c .before .before .before .before .before .before .before .before .before .before .if4 .left, allowed (c .before .before .before .before .before), c .before .before .before .before .if5 .left, breaking (c .before) ∙ c .if6 .taken)
+returns-6 c =
+    let c5 = c .before .before .before .before .before in
+    let c4 = to-4 c5 in
+    let c3 = to-3 c4 in
+    let c2 = to-2 c3 in
+    rw (c .refused6 .ensures, clear-1 (to-1 c2), clear-2 c2, clear-3 c3, clear-4 c4, clear-5 c5, found-6 (c .before .before) ∙ c .before .if6 .taken)
+
+refused-requires-7 : tie.Need-refused-requires-7
+refused-requires-7 c κs = search needs
 
 returns-7 : tie.Need-returns-7
 unfolding seen activate settle verdict
-returns-7 c = rw (beyond (c .before .before .before .before .before .before .before .before .before .before .before .before .before .before .before .before .before .before .before .before .before .before .before .before .before .before) ∙ c .before .before .before .before .before .before .before .before .before .before .before .before .before .before .before .before .before .before .before .before .before .before .before .before .before .if1 .left, missing (c .before .before .before .before .before .before .before .before .before .before .before .before .before .before .before .before .before) ∙ c .before .before .before .before .before .before .before .before .before .before .before .before .before .before .before .before .if2 .left, own (c .before .before .before .before .before .before .before .before .before .before .before .before .before), there (c .before .before .before .before .before .before .before .before .before .before .before .before) ∙ c .before .before .before .before .before .before .before .before .before .before .before .if4 .left, allowed (c .before .before .before .before .before .before), c .before .before .before .before .before .if5 .left, breaking (c .before .before) ∙ c .before .if6 .left, walked (c .before .before .before .before .before .before .before), c .if7 .taken)
+returns-7 c =
+    let c6 = c .before .before in
+    let c5 = to-5 c6 in
+    let c4 = to-4 c5 in
+    let c3 = to-3 c4 in
+    let c2 = to-2 c3 in
+    rw (c .refused7 .ensures, clear-1 (to-1 c2), clear-2 c2, clear-3 c3, clear-4 c4, clear-5 c5, clear-6 c6, found-7 (c .before))
 
-mul-t17 : tie.Need-mul-t17
-mul-t17 c = search needs
+mul-t18 : tie.Need-mul-t18
+mul-t18 c = search needs
 
 element-set-from-after : tie.Need-element-set-from-after
-element-set-from-after c = within-session (c .before .before .before .before .before .before .before .before .before .before .before .before .before .before .before .before .before .before .before .before .before .before .before .before .before)
+element-set-from-after c = session-within (to-1 (to-2 (to-3 (to-4 (to-5 (to-6 c))))))
 
 returns-8 : tie.Need-returns-8
 unfolding seen activate settle verdict activeSet view
 returns-8 c =
-    let start = c .before .before .before .before .before .before .before .before .before .before .before .before .before .before .before .before .before .before .before .before .before .before .before .before .before .before .before .args in
-    rw (beyond (c .before .before .before .before .before .before .before .before .before .before .before .before .before .before .before .before .before .before .before .before .before .before .before .before .before .before) ∙ c .before .before .before .before .before .before .before .before .before .before .before .before .before .before .before .before .before .before .before .before .before .before .before .before .before .if1 .left, missing (c .before .before .before .before .before .before .before .before .before .before .before .before .before .before .before .before .before) ∙ c .before .before .before .before .before .before .before .before .before .before .before .before .before .before .before .before .if2 .left, own (c .before .before .before .before .before .before .before .before .before .before .before .before .before), there (c .before .before .before .before .before .before .before .before .before .before .before .before) ∙ c .before .before .before .before .before .before .before .before .before .before .before .if4 .left, allowed (c .before .before .before .before .before .before), c .before .before .before .before .before .if5 .left, breaking (c .before .before) ∙ c .before .if6 .left, walked (c .before .before .before .before .before .before .before), c .if7 .left)
-    (ap (done []) (store-sessions (start .t1) (start .x .number) _ (rw (whole (c .before .before .before .before .before .before .before .before .before .before .before .before .before .before .before .before .before .before .before .before .before .before .before .before .before .before .before)) (within-session (c .before .before .before .before .before .before .before .before .before .before .before .before .before .before .before .before .before .before .before .before .before .before .before .before .before))) ∙ ap (activeSet (view (start .t1)) (start .x .number)) (c .before .before .before .before .with .ensures .is)))
+    let c6 = to-6 c in
+    let c5 = to-5 c6 in
+    let c4 = to-4 c5 in
+    let c3 = to-3 c4 in
+    let c2 = to-2 c3 in
+    let c1 = to-1 c2 in
+    let s = to-start c1 in
+    rw (clear-1 c1, clear-2 c2, clear-3 c3, clear-4 c4, clear-5 c5, clear-6 c6, clear-7 c)
+    (ap (done []) (store-sessions (s .args .t1) (number s) _ (rw (whole s) (session-within c1)) ∙ ap (activeSet (m s) (number s)) (c .before .before .before .before .with .ensures .is)))
 
 pub activate-spec : {M : Type 1} → statement M
 activate-spec =
     tie.close
     (tie.spec
     activation-beyond-requires
+    refused-requires
     returns
     cast-user
     cast-at
     mul-old
     element-copy-out-old
-    element-copy-out-either
     has-requires
+    element-copy-out-either
     either-requires
     either-requires-2
+    refused-requires-2
     returns-2
     cast-if3
+    refused-requires-3
     returns-3
     has-requires-2
+    refused-requires-4
     returns-4
     mul-assigned
     element-copy-out-assigned
     reach-requires
     has-requires-3
+    refused-requires-5
     returns-5
     with-requires
     breaks-some-requires
+    refused-requires-6
     returns-6
+    refused-requires-7
     returns-7
-    mul-t17
+    mul-t18
     element-set-from-after
     returns-8)

@@ -14,20 +14,21 @@ use Rattle.model.specs.Words.{permission}
 use Rattle.model.specs.commands.Naming.{noSession}
 use Rattle.model.specs.commands.Sessions.{check, permitted}
 use Rattle.policy.specs.View.{view}
-use Rattle.sessions.specs.Answering.{Checks, isDone, given, toldChecked, permits}
+use Rattle.sessions.specs.Answering.{Checks, isDone, given, toldChecked, refusals, permits}
 use Rattle.sessions.specs.declared.Checked.{Checked}
 use Rattle.sessions.proofs.check.Statement.{statement}
 use Rattle.sessions.proofs.check.Tie as tie
 
 -- An answer that is the verdict, with a yes or no that is one where the answer is 0, is what the list of refusals settles.
-settled : (m : Model) (x : Checked) (refusals : List Refusal) (allowed : Bool) → numberOf (x .answer) ≡ verdict refusals → x .yes ≡ (isDone (x .answer) && allowed) → Checks m (settle refusals m (bit allowed ∷ []) m) x
+settled : (m : Model) (x : Checked) (asked : List Refusal) (allowed : Bool) → numberOf (x .answer) ≡ verdict asked → x .yes ≡ (isDone (x .answer) && allowed) → Checks m (settle asked m (bit allowed ∷ []) m) x
 unfolding toldChecked settle
-settled m x refusals allowed p q = record { tells = rw (q, p) (go (verdict refusals)); silent = λ h. q ∙ ap (λ (d : Bool). d && allowed) h }
+settled m x asked allowed p q = record { tells = rw (q, p) (go (verdict asked)); silent = λ h. q ∙ ap (λ (d : Bool). d && allowed) h }
   where
     go : (v : ℕ) → _≡_ {A = Told} (record { answer = v; results = given (eqb v 0) (bit (eqb v 0 && allowed)); after = m }) (elim (eqb v 0) [ true ↦ done (bit allowed ∷ []) m | false ↦ refused v m ])
     go zero = refl
     go (suc v) = rw (ne-eqb (suc v) 0 (λ e. omega arith))
 
+-- what the test finds, in the words of the definition
 beyond : (c : tie.After-session-beyond) → noSession (c .before .args .x .number) ≡ c .session-beyond .result
 beyond c = sym (c .session-beyond .ensures)
 
@@ -55,7 +56,7 @@ unfolding check view permits permitted
 returns-2 c =
     let start = c .before .before .before .before .before .before .before .before .args in
     rw (beyond (c .before .before .before .before .before .before .before) ∙ c .before .before .before .before .before .before .if1 .left)
-    (settled (view (start .t1)) (c .check-lent .result) _ (permitted (view (start .t1)) (start .x .number) (permission (start .op) (start .obj))) (c .check-lent .ensures .answer) (c .check-lent .ensures .answered))
+    (settled (view (start .t1)) (c .check-lent .result) (refusals (view (start .t1) .juniors) (view (start .t1) .sessions (start .x .number)) (start .op) (start .obj)) (permitted (view (start .t1)) (start .x .number) (permission (start .op) (start .obj))) (c .check-lent .ensures .answer) (c .check-lent .ensures .answered))
 
 pub check-spec : {M : Type 1} → statement M
 check-spec = tie.close (tie.spec session-beyond-requires returns cast-at mul-session element-copy-out-session check-lent-requires returns-2)

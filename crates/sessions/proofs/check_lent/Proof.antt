@@ -1,7 +1,7 @@
 use borrow.Author.Needs.{needs}
-use mathlib.Core.Bool.{true, false, not, _||_}
+use mathlib.Core.Bool.{not}
 use mathlib.Core.Path.{_≡_, refl, sym, ap, _∙_}
-use Prim.Native.Nat.{_<_, _*_, _+_}
+use Prim.Native.Nat.{_<_}
 use native.Mathlib.Omega.{arith}
 use borrow.Author.Tests.{leb-false}
 use lib.Dec.{leb}
@@ -52,7 +52,7 @@ mul-both : tie.Need-mul-both
 mul-both c = search needs
 
 -- the permission is within its range
-within : (c : tie.Else1) → c .before .before .args .op * 256 + c .before .before .args .obj < 4096
+within : (c : tie.Else1) → permission (c .before .before .args .op) (c .before .before .args .obj) < 4096
 within c =
     let clear = or-clear (leb 16 (c .before .before .args .op)) (leb 256 (c .before .before .args .obj)) (beyond (c .before) ∙ c .if1 .left) in
     omega (arith, leb-false 16 (c .before .before .args .op) (clear .0), leb-false 256 (c .before .before .args .obj) (clear .1))
@@ -71,7 +71,7 @@ unfolding verdict permits
 returns-4 c =
     record {
       answer = rw (beyond (c .before .before .before .before .before .before .before .before) ∙ c .before .before .before .before .before .before .before .if1 .left, c .before .before .before .before .before .if2 .left, walked (c .before .before .before .before), c .before .before .before .if3 .left);
-      answered = ap not (c .is-empty .ensures .is ∙ ap isEmpty (c .before .both .ensures .is ∙ ap (λ (w : Walk). both (w .roles) (tableOf (c .before .before .before .before .before .before .before .before .before .args .holders .now) (permission (c .before .before .before .before .before .before .before .before .before .args .op) (c .before .before .before .before .before .before .before .before .before .args .obj)))) (c .before .before .before .before .reach .ensures)))
+      answered = ap not (c .is-empty .ensures .is ∙ ap isEmpty (c .before .both .ensures .is ∙ ap (λ (w : Walk). both (w .roles) (tableOf (c .before .before .before .before .before .before .before .before .before .args .holders .now) (permission (c .before .before .before .before .before .before .before .before .before .args .op) (c .before .before .before .before .before .before .before .before .before .args .obj)))) (c .before .before .before .before .reach .ensures)));
     }
 
 pub check-lent-spec : {M : Type 1} → statement M

@@ -1,10 +1,10 @@
 use borrow.Author.Needs.{needs}
 use borrow.Author.Tests.{leb-false, eq-eqb, ne-eqb}
-use mathlib.Core.Bool.{true, false, not, _||_}
+use mathlib.Core.Bool.{Bool, true, false, not, _||_}
 use mathlib.Core.List.{[]}
 use mathlib.Core.Path.{_≡_, ap, _∙_}
 use Prim.Native.Nat.{ℕ, _<_}
-use lib.ListN.{length, length-map}
+use lib.ListN.{length}
 use Rattle.roleset.proofs.BoundedLaws.{or-clear}
 use Rattle.model.specs.Model.{Model}
 use Rattle.model.specs.Model as model
@@ -13,6 +13,7 @@ use Rattle.model.specs.commands.Naming.{noUser, noSession, userMissing, session
 use Rattle.model.specs.commands.Sessions.{end, notOwner}
 use Rattle.policy.specs.View.{view, seen}
 use Rattle.policy.proofs.Stores.{store-sessions}
+use Rattle.policy.proofs.Values.{sized}
 use Rattle.sessions.proofs.end.Statement.{statement}
 use Rattle.sessions.proofs.end.Tie as tie
 
@@ -26,7 +27,17 @@ user c = c .args .u .number
 abbrev number : tie.Start → ℕ
 number c = c .args .x .number
 
--- from the place that each refusal leaves to the one before it
+-- the refusals' conditions, in the words of the definition
+abbrev beyond : tie.Start → Bool
+beyond s = noUser (user s) || noSession (number s)
+
+abbrev missing : tie.Start → Bool
+missing s = userMissing (m s) (user s) || sessionMissing (m s) (number s)
+
+abbrev other : tie.Start → Bool
+other s = notOwner (m s) (user s) (number s)
+
+-- from the place past each refusal back to the one before it
 abbrev to-start : tie.Else1 → tie.Start
 to-start c = c .before .before .before .before
 
@@ -36,26 +47,25 @@ to-1 c = c .before .before .before .before .before .before .before
 abbrev to-2 : tie.Else3 → tie.Else2
 to-2 c = c .before .before .before
 
--- what each test finds, in the words of the definition
-beyond : (c : tie.After-either) → (noUser (user (c .before .before .before)) || noSession (number (c .before .before .before))) ≡ c .either .result
-beyond c = cc
+-- what each test finds, and what is known past it
+found-1 : (c : tie.After-either) → beyond (c .before .before .before) ≡ c .either .result
+found-1 c = cc
 
-missing : (c : tie.After-either2) → let s = to-start (c .before .before .before .before .before .before) in (userMissing (m s) (user s) || sessionMissing (m s) (number s)) ≡ c .either2 .result
+clear-1 : (c : tie.Else1) → beyond (to-start c) ≡ false
+clear-1 c = found-1 (c .before) ∙ c .if1 .left
+
+found-2 : (c : tie.After-either2) → missing (to-start (c .before .before .before .before .before .before)) ≡ c .either2 .result
 unfolding view
-missing c = cc
+found-2 c = cc
 
-other : (c : tie.Then3) → let s = to-start (to-1 (c .before .before .before)) in notOwner (m s) (user s) (number s) ≡ true
+clear-2 : (c : tie.Else2) → missing (to-start (to-1 c)) ≡ false
+clear-2 c = found-2 (c .before) ∙ c .if2 .left
+
+found-3 : (c : tie.Then3) → other (to-start (to-1 (c .before .before .before))) ≡ true
 unfolding view
-other c = ap not (ne-eqb _ _ (c .if3 .taken))
+found-3 c = ap not (ne-eqb _ _ (c .if3 .taken))
 
--- what each refusal leaves
-clear-1 : (c : tie.Else1) → (noUser (user (to-start c)) || noSession (number (to-start c))) ≡ false
-clear-1 c = beyond (c .before) ∙ c .if1 .left
-
-clear-2 : (c : tie.Else2) → let s = to-start (to-1 c) in (userMissing (m s) (user s) || sessionMissing (m s) (number s)) ≡ false
-clear-2 c = missing (c .before) ∙ c .if2 .left
-
-clear-3 : (c : tie.Else3) → let s = to-start (to-1 (to-2 c)) in notOwner (m s) (user s) (number s) ≡ false
+clear-3 : (c : tie.Else3) → other (to-start (to-1 (to-2 c))) ≡ false
 unfolding view
 clear-3 c = ap not (eq-eqb _ _ (c .if3 .left))
 
@@ -67,7 +77,7 @@ session-within : (c : tie.Else1) → number (to-start c) < 64
 session-within c = leb-false 64 (number (to-start c)) (or-clear (noUser (user (to-start c))) _ (clear-1 c) .1)
 
 whole : (c : tie.Start) → length (c .args .t1 .sessions) ≡ 64
-whole c = simp length-map at (c .good .0 .1 .1 .1 .1 .1 .1 .1 .1 .1 .0 .1 .0 .1)
+whole c = sized (c .args .t1) _ (c .good .0) .sessions
 
 user-beyond-requires : tie.Need-user-beyond-requires
 user-beyond-requires c κs = search needs
@@ -78,9 +88,12 @@ session-beyond-requires c κs = search needs
 either-requires : tie.Need-either-requires
 either-requires c κs = search needs
 
+refused-requires : tie.Need-refused-requires
+refused-requires c κs = search needs
+
 returns : tie.Need-returns
 unfolding seen end settle verdict
-returns c = rw (beyond (c .before) ∙ c .if1 .taken)
+returns c = rw (c .refused .ensures, found-1 (c .before .before) ∙ c .before .if1 .taken)
 
 cast-user : tie.Need-cast-user
 cast-user c = search needs
@@ -100,16 +113,24 @@ element-copy-out-either c = user-within (c .before .before .before)
 either-requires-2 : tie.Need-either-requires-2
 either-requires-2 c κs = search needs
 
+refused-requires-2 : tie.Need-refused-requires-2
+refused-requires-2 c κs = search needs
+
 returns-2 : tie.Need-returns-2
 unfolding seen end settle verdict
-returns-2 c = rw (clear-1 (c .before .before .before .before .before .before .before), missing (c .before) ∙ c .if2 .taken)
+returns-2 c = rw (c .refused2 .ensures, clear-1 (c .before .before .before .before .before .before .before .before), found-2 (c .before .before) ∙ c .before .if2 .taken)
 
 cast-if3 : tie.Need-cast-if3
 cast-if3 c = search needs
 
+refused-requires-3 : tie.Need-refused-requires-3
+refused-requires-3 c κs = search needs
+
 returns-3 : tie.Need-returns-3
 unfolding seen end settle verdict
-returns-3 c = let c2 = c .before .before .before in rw (clear-1 (to-1 c2), clear-2 c2, other c)
+returns-3 c =
+    let c2 = c .before .before .before .before in
+    rw (c .refused3 .ensures, clear-1 (to-1 c2), clear-2 c2, found-3 (c .before))
 
 mul-t14 : tie.Need-mul-t14
 mul-t14 c = search needs
@@ -133,6 +154,7 @@ end-spec =
     user-beyond-requires
     session-beyond-requires
     either-requires
+    refused-requires
     returns
     cast-user
     cast-at
@@ -140,8 +162,10 @@ end-spec =
     element-copy-out-old
     element-copy-out-either
     either-requires-2
+    refused-requires-2
     returns-2
     cast-if3
+    refused-requires-3
     returns-3
     mul-t14
     element-set-from-after

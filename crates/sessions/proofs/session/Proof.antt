@@ -1,12 +1,12 @@
 use borrow.Author.Needs.{needs}
 use borrow.Author.Tests.{leb-false, le-leb, lt-leb}
-use mathlib.Core.Bool.{true, not, _||_}
+use mathlib.Core.Bool.{Bool, true, false, not, _||_}
 use mathlib.Core.List.{List, [], _∷_}
 use mathlib.Core.Path.{_≡_, refl, sym, ap, ap₂, _∙_}
 use Prim.Native.Nat.{ℕ, _<_}
 use native.Mathlib.Omega.{arith}
 use lib.Dec.{leb}
-use lib.ListN.{length, length-map}
+use lib.ListN.{length}
 use Rattle.roleset.specs.Roles.{subset}
 use Rattle.roleset.proofs.BoundedLaws.{or-clear, clash}
 use Rattle.hierarchy.specs.declared.Walk.{Walk}
@@ -19,6 +19,7 @@ use Rattle.model.specs.commands.Naming.{noUser, userMissing}
 use Rattle.model.specs.commands.Sessions.{session, opened, openFor, sessionSet, lowestFree}
 use Rattle.policy.specs.View.{view}
 use Rattle.policy.proofs.Stores.{store-sessions}
+use Rattle.policy.proofs.Values.{sized}
 use Rattle.sweeps.proofs.Free.{full-free}
 use Rattle.sessions.specs.Answering.{toldOpened}
 use Rattle.sessions.proofs.Rules.{opened-dynamic}
@@ -26,8 +27,8 @@ use Rattle.sessions.proofs.session.Statement.{statement}
 use Rattle.sessions.proofs.session.Tie as tie
 
 -- the policy and the sessions at entry, the user's number and the list
-abbrev before : tie.Start → Model
-before c = view (c .args .t1)
+abbrev m : tie.Start → Model
+m c = view (c .args .t1)
 
 abbrev user : tie.Start → ℕ
 user c = c .args .u .number
@@ -35,45 +36,123 @@ user c = c .args .u .number
 abbrev list : tie.Start → List ℕ
 list c = c .args .list .now
 
--- what each test finds, in the words of the definition
-formed : (c : tie.After-read) → ascending (list (c .before .before)) ≡ c .read .result .ascending
-formed c = sym (c .read .ensures .ascending)
+-- the refusals' conditions, in the words of the definition
+abbrev unordered : tie.Start → Bool
+unordered s = not (ascending (list s))
 
-beyond : (c : tie.After-either) → (noUser (user (c .before .before .before .before .before .before)) || someFrom 64 (list (c .before .before .before .before .before .before))) ≡ c .either .result
-beyond c = cc
+abbrev beyond : tie.Start → Bool
+beyond s = noUser (user s) || someFrom 64 (list s)
 
-missing : (c : tie.After-either2) → (userMissing (before (c .before .before .before .before .before .before .before .before .before .before .before)) (user (c .before .before .before .before .before .before .before .before .before .before .before)) || not (subset (setOf (list (c .before .before .before .before .before .before .before .before .before .before .before))) (before (c .before .before .before .before .before .before .before .before .before .before .before) .roles))) ≡ c .either2 .result
+abbrev missing : tie.Start → Bool
+missing s = userMissing (m s) (user s) || not (subset (setOf (list s)) (m s .roles))
+
+abbrev unauthorised : tie.Start → Bool
+unauthorised s = not (subset (setOf (list s)) (authorised (m s) (user s)))
+
+abbrev breaking : tie.Start → Bool
+breaking s = dynamicBroken (opened (m s) (user s) (setOf (list s))) (lowestFree (m s))
+
+abbrev full : tie.Start → Bool
+full s = leb sessions (sessionsOpen (m s))
+
+abbrev tooLong : tie.Start → Bool
+tooLong s = reached (m s) (m s .assigned (user s)) .cut
+
+-- from the place past each refusal back to the one before it
+abbrev to-start : tie.Else1 → tie.Start
+to-start c = c .before .before .before .before
+
+abbrev to-1 : tie.Else2 → tie.Else1
+to-1 c = c .before .before .before
+
+abbrev to-2 : tie.Else3 → tie.Else2
+to-2 c = c .before .before .before .before .before
+
+abbrev to-3 : tie.Else4 → tie.Else3
+to-3 c = c .before .before .before .before .before .before
+
+abbrev to-4 : tie.Else5 → tie.Else4
+to-4 c = c .before .before .before
+
+abbrev to-5 : tie.Else6 → tie.Else5
+to-5 c = c .before .before .before
+
+abbrev to-6 : tie.Else7 → tie.Else6
+to-6 c = c .before
+
+-- what each test finds, and what is known past it
+found-1 : (c : tie.After-read) → unordered (c .before .before) ≡ not (c .read .result .ascending)
+found-1 c = ap not (sym (c .read .ensures .ascending))
+
+clear-1 : (c : tie.Else1) → unordered (to-start c) ≡ false
+clear-1 c = found-1 (c .before .before) ∙ c .if1 .left
+
+found-2 : (c : tie.After-either) → beyond (to-start (c .before .before)) ≡ c .either .result
+found-2 c = cc
+
+clear-2 : (c : tie.Else2) → beyond (to-start (to-1 c)) ≡ false
+clear-2 c = found-2 (c .before) ∙ c .if2 .left
+
+found-3 : (c : tie.After-either2) → missing (to-start (to-1 (c .before .before .before .before))) ≡ c .either2 .result
 unfolding view
-missing c = cc
+found-3 c = cc
 
-walked : (c : tie.After-reach) → reached (before (c .before .before .before .before .before .before .before .before .before .before .before .before .before .before .before .before)) (before (c .before .before .before .before .before .before .before .before .before .before .before .before .before .before .before .before) .assigned (user (c .before .before .before .before .before .before .before .before .before .before .before .before .before .before .before .before))) ≡ c .reach .result
+clear-3 : (c : tie.Else3) → missing (to-start (to-1 (to-2 c))) ≡ false
+clear-3 c = found-3 (c .before) ∙ c .if3 .left
+
+-- the set of the listed roles
+asked : (c : tie.Else1) → setOf (list (to-start c)) ≡ c .before .before .read .result .roles
+asked c = sym (c .before .before .read .ensures .roles)
+
+walked : (c : tie.After-reach) → let s = to-start (to-1 (to-2 (c .before .before .before .before))) in reached (m s) (m s .assigned (user s)) ≡ c .reach .result
 unfolding view
 walked c = sym (c .reach .ensures)
 
-allowed : (c : tie.After-subset2) → subset (setOf (list (c .before .before .before .before .before .before .before .before .before .before .before .before .before .before .before .before .before))) (authorised (before (c .before .before .before .before .before .before .before .before .before .before .before .before .before .before .before .before .before)) (user (c .before .before .before .before .before .before .before .before .before .before .before .before .before .before .before .before .before))) ≡ c .subset2 .result
-allowed c = ap₂ (λ (roles : ℕ) (w : Walk). subset roles (w .roles)) (sym (c .before .before .before .before .before .before .before .before .before .before .before .before .before .before .before .read .ensures .roles)) (walked (c .before)) ∙ sym (c .subset2 .ensures .is)
+found-4 : (c : tie.After-subset2) → unauthorised (to-start (to-1 (to-2 (c .before .before .before .before .before)))) ≡ not (c .subset2 .result)
+found-4 c = ap not (ap₂ (λ (roles : ℕ) (w : Walk). subset roles (w .roles)) (asked (to-1 (to-2 (c .before .before .before .before .before)))) (walked (c .before)) ∙ sym (c .subset2 .ensures .is))
 
-breaking : (c : tie.After-breaks-some) → dynamicBroken (opened (before (c .before .before .before .before .before .before .before .before .before .before .before .before .before .before .before .before .before .before .before .before)) (user (c .before .before .before .before .before .before .before .before .before .before .before .before .before .before .before .before .before .before .before .before)) (setOf (list (c .before .before .before .before .before .before .before .before .before .before .before .before .before .before .before .before .before .before .before .before)))) (lowestFree (before (c .before .before .before .before .before .before .before .before .before .before .before .before .before .before .before .before .before .before .before .before))) ≡ c .breaks-some .result
+clear-4 : (c : tie.Else4) → unauthorised (to-start (to-1 (to-2 (to-3 c)))) ≡ false
+clear-4 c = found-4 (c .before) ∙ c .if4 .left
+
+found-5 : (c : tie.After-breaks-some) → breaking (to-start (to-1 (to-2 (to-3 (c .before .before))))) ≡ c .breaks-some .result
 unfolding view
-breaking c = opened-dynamic (before (c .before .before .before .before .before .before .before .before .before .before .before .before .before .before .before .before .before .before .before .before)) (user (c .before .before .before .before .before .before .before .before .before .before .before .before .before .before .before .before .before .before .before .before)) _ ∙ ap (breaksSome (before (c .before .before .before .before .before .before .before .before .before .before .before .before .before .before .before .before .before .before .before .before) .dsd)) (sym (c .before .before .before .before .before .before .before .before .before .before .before .before .before .before .before .before .before .before .read .ensures .roles)) ∙ sym (c .breaks-some .ensures)
+found-5 c =
+    let c1 = to-1 (to-2 (to-3 (c .before .before))) in
+    let s = to-start c1 in
+    opened-dynamic (m s) (user s) (setOf (list s)) ∙ ap (breaksSome (m s .dsd)) (asked c1) ∙ sym (c .breaks-some .ensures)
 
-filled : (c : tie.After-lowest-free) → leb sessions (sessionsOpen (before (c .before .before .before .before .before .before .before .before .before .before .before .before .before .before .before .before .before .before .before .before .before .before .before))) ≡ leb 64 (c .lowest-free .result)
+clear-5 : (c : tie.Else5) → breaking (to-start (to-1 (to-2 (to-3 (to-4 c))))) ≡ false
+clear-5 c = found-5 (c .before) ∙ c .if5 .left
+
+found-6 : (c : tie.After-lowest-free) → full (to-start (to-1 (to-2 (to-3 (to-4 (c .before .before)))))) ≡ leb 64 (c .lowest-free .result)
 unfolding sessionsOpen view
-filled c = full-free (before (c .before .before .before .before .before .before .before .before .before .before .before .before .before .before .before .before .before .before .before .before .before .before .before) .sessions) ∙ ap (leb 64) (sym (c .lowest-free .ensures))
+found-6 c = full-free (m (to-start (to-1 (to-2 (to-3 (to-4 (c .before .before)))))) .sessions) ∙ ap (leb 64) (sym (c .lowest-free .ensures))
+
+clear-6 : (c : tie.Else6) → full (to-start (to-1 (to-2 (to-3 (to-4 (to-5 c)))))) ≡ false
+clear-6 c = found-6 (c .before) ∙ lt-leb 64 (c .before .lowest-free .result) (c .if6 .left)
+
+found-7 : (c : tie.Then7) → tooLong (to-start (to-1 (to-2 (to-3 (to-4 (to-5 (c .before))))))) ≡ true
+found-7 c = ap (λ (w : Walk). w .cut) (walked (c .before .before .before .before .before .before .before .before .before)) ∙ c .if7 .taken
+
+clear-7 : (c : tie.Else7) → tooLong (to-start (to-1 (to-2 (to-3 (to-4 (to-5 (to-6 c))))))) ≡ false
+clear-7 c = ap (λ (w : Walk). w .cut) (walked (c .before .before .before .before .before .before .before .before .before)) ∙ c .if7 .left
 
 -- the user is within its range, and there are 64 places for sessions
-within : (c : tie.Else2) → user (c .before .before .before .before .before .before .before) < 256
-within c = leb-false 256 (user (c .before .before .before .before .before .before .before)) (or-clear _ _ (beyond (c .before) ∙ c .if2 .left) .0)
+within : (c : tie.Else2) → user (to-start (to-1 c)) < 256
+within c = leb-false 256 (user (to-start (to-1 c))) (or-clear _ _ (clear-2 c) .0)
 
 whole : (c : tie.Start) → length (c .args .t1 .sessions) ≡ 64
-whole c = simp length-map at (c .good .0 .1 .1 .1 .1 .1 .1 .1 .1 .1 .0 .1 .0 .1)
+whole c = sized (c .args .t1) _ (c .good .0) .sessions
 
 read-requires : tie.Need-read-requires
 read-requires c κs = search needs
 
+not-opened-requires : tie.Need-not-opened-requires
+not-opened-requires c κs = search needs
+
 returns : tie.Need-returns
 unfolding toldOpened session settle verdict
-returns c = record { tells = rw (formed (c .before .before), c .if1 .taken); silent = λ h. refl }
+returns c = rw (c .not-opened .ensures) (record { tells = rw (found-1 (c .before .before .before) ∙ c .before .if1 .taken); silent = λ h. refl })
 
 user-beyond-requires : tie.Need-user-beyond-requires
 user-beyond-requires c κs = search needs
@@ -81,9 +160,12 @@ user-beyond-requires c κs = search needs
 either-requires : tie.Need-either-requires
 either-requires c κs = search needs
 
+not-opened-requires-2 : tie.Need-not-opened-requires-2
+not-opened-requires-2 c κs = search needs
+
 returns-2 : tie.Need-returns-2
 unfolding toldOpened session settle verdict
-returns-2 c = record { tells = rw (formed (c .before .before .before .before .before), c .before .before .before .if1 .left, beyond (c .before) ∙ c .if2 .taken); silent = λ h. refl }
+returns-2 c = rw (c .not-opened2 .ensures) (record { tells = rw (clear-1 (c .before .before .before .before), found-2 (c .before .before) ∙ c .before .if2 .taken); silent = λ h. refl })
 
 cast-user : tie.Need-cast-user
 cast-user c = search needs
@@ -97,15 +179,20 @@ subset-requires c κs = search needs
 either-requires-2 : tie.Need-either-requires-2
 either-requires-2 c κs = search needs
 
+not-opened-requires-3 : tie.Need-not-opened-requires-3
+not-opened-requires-3 c κs = search needs
+
 returns-3 : tie.Need-returns-3
 unfolding toldOpened session settle verdict
-returns-3 c = record { tells = rw (formed (c .before .before .before .before .before .before .before .before .before .before), c .before .before .before .before .before .before .before .before .if1 .left, beyond (c .before .before .before .before .before .before) ∙ c .before .before .before .before .before .if2 .left, missing (c .before) ∙ c .if3 .taken); silent = λ h. refl }
+returns-3 c =
+    let c2 = c .before .before .before .before .before .before in
+    rw (c .not-opened3 .ensures) (record { tells = rw (clear-1 (to-1 c2), clear-2 c2, found-3 (c .before .before) ∙ c .before .if3 .taken); silent = λ h. refl })
 
 mul-assigned : tie.Need-mul-assigned
 mul-assigned c = search needs
 
 element-copy-out-assigned : tie.Need-element-copy-out-assigned
-element-copy-out-assigned c = within (c .before .before .before .before .before)
+element-copy-out-assigned c = within (to-2 c)
 
 reach-requires : tie.Need-reach-requires
 reach-requires c κs = search needs
@@ -113,72 +200,122 @@ reach-requires c κs = search needs
 subset-requires-2 : tie.Need-subset-requires-2
 subset-requires-2 c κs = search needs
 
+not-opened-requires-4 : tie.Need-not-opened-requires-4
+not-opened-requires-4 c κs = search needs
+
 returns-4 : tie.Need-returns-4
 unfolding toldOpened session settle verdict
-returns-4 c = record { tells = rw (formed (c .before .before .before .before .before .before .before .before .before .before .before .before .before .before .before .before), c .before .before .before .before .before .before .before .before .before .before .before .before .before .before .if1 .left, beyond (c .before .before .before .before .before .before .before .before .before .before .before .before) ∙ c .before .before .before .before .before .before .before .before .before .before .before .if2 .left, missing (c .before .before .before .before .before .before .before) ∙ c .before .before .before .before .before .before .if3 .left, allowed (c .before), c .if4 .taken); silent = λ h. refl }
+returns-4 c =
+    let c3 = c .before .before .before .before .before .before .before in
+    let c2 = to-2 c3 in
+    rw (c .not-opened4 .ensures) (record { tells = rw (clear-1 (to-1 c2), clear-2 c2, clear-3 c3, found-4 (c .before .before) ∙ c .before .if4 .taken); silent = λ h. refl })
 
 breaks-some-requires : tie.Need-breaks-some-requires
 breaks-some-requires c κs = search needs
 
+not-opened-requires-5 : tie.Need-not-opened-requires-5
+not-opened-requires-5 c κs = search needs
+
 returns-5 : tie.Need-returns-5
 unfolding toldOpened session settle verdict
-returns-5 c = record { tells = rw (formed (c .before .before .before .before .before .before .before .before .before .before .before .before .before .before .before .before .before .before .before), c .before .before .before .before .before .before .before .before .before .before .before .before .before .before .before .before .before .if1 .left, beyond (c .before .before .before .before .before .before .before .before .before .before .before .before .before .before .before) ∙ c .before .before .before .before .before .before .before .before .before .before .before .before .before .before .if2 .left, missing (c .before .before .before .before .before .before .before .before .before .before) ∙ c .before .before .before .before .before .before .before .before .before .if3 .left, allowed (c .before .before .before .before), c .before .before .before .if4 .left, breaking (c .before) ∙ c .if5 .taken); silent = λ h. refl }
+returns-5 c =
+    let c4 = c .before .before .before .before in
+    let c3 = to-3 c4 in
+    let c2 = to-2 c3 in
+    rw (c .not-opened5 .ensures) (record { tells = rw (clear-1 (to-1 c2), clear-2 c2, clear-3 c3, clear-4 c4, found-5 (c .before .before) ∙ c .before .if5 .taken); silent = λ h. refl })
 
 lowest-free-requires : tie.Need-lowest-free-requires
 lowest-free-requires c κs = search needs
 
+not-opened-requires-6 : tie.Need-not-opened-requires-6
+not-opened-requires-6 c κs = search needs
+
 returns-6 : tie.Need-returns-6
 unfolding toldOpened session settle verdict
-returns-6 c = record { tells = rw (formed (c .before .before .before .before .before .before .before .before .before .before .before .before .before .before .before .before .before .before .before .before .before .before), c .before .before .before .before .before .before .before .before .before .before .before .before .before .before .before .before .before .before .before .before .if1 .left, beyond (c .before .before .before .before .before .before .before .before .before .before .before .before .before .before .before .before .before .before) ∙ c .before .before .before .before .before .before .before .before .before .before .before .before .before .before .before .before .before .if2 .left, missing (c .before .before .before .before .before .before .before .before .before .before .before .before .before) ∙ c .before .before .before .before .before .before .before .before .before .before .before .before .if3 .left, allowed (c .before .before .before .before .before .before .before), c .before .before .before .before .before .before .if4 .left, breaking (c .before .before .before .before) ∙ c .before .before .before .if5 .left, filled (c .before) ∙ le-leb 64 _ (c .if6 .taken)); silent = λ h. refl }
+returns-6 c =
+    let c5 = c .before .before .before .before in
+    let c4 = to-4 c5 in
+    let c3 = to-3 c4 in
+    let c2 = to-2 c3 in
+    rw (c .not-opened6 .ensures) (record { tells = rw (clear-1 (to-1 c2), clear-2 c2, clear-3 c3, clear-4 c4, clear-5 c5, found-6 (c .before .before) ∙ le-leb 64 (c .before .before .lowest-free .result) (c .before .if6 .taken)); silent = λ h. refl })
+
+not-opened-requires-7 : tie.Need-not-opened-requires-7
+not-opened-requires-7 c κs = search needs
 
 returns-7 : tie.Need-returns-7
 unfolding toldOpened session settle verdict
-returns-7 c = record { tells = rw (formed (c .before .before .before .before .before .before .before .before .before .before .before .before .before .before .before .before .before .before .before .before .before .before .before), c .before .before .before .before .before .before .before .before .before .before .before .before .before .before .before .before .before .before .before .before .before .if1 .left, beyond (c .before .before .before .before .before .before .before .before .before .before .before .before .before .before .before .before .before .before .before) ∙ c .before .before .before .before .before .before .before .before .before .before .before .before .before .before .before .before .before .before .if2 .left, missing (c .before .before .before .before .before .before .before .before .before .before .before .before .before .before) ∙ c .before .before .before .before .before .before .before .before .before .before .before .before .before .if3 .left, allowed (c .before .before .before .before .before .before .before .before), c .before .before .before .before .before .before .before .if4 .left, breaking (c .before .before .before .before .before) ∙ c .before .before .before .before .if5 .left, filled (c .before .before) ∙ lt-leb 64 _ (c .before .if6 .left), walked (c .before .before .before .before .before .before .before .before .before), c .if7 .taken); silent = λ h. refl }
+returns-7 c =
+    let c6 = c .before .before in
+    let c5 = to-5 c6 in
+    let c4 = to-4 c5 in
+    let c3 = to-3 c4 in
+    let c2 = to-2 c3 in
+    rw (c .not-opened7 .ensures) (record { tells = rw (clear-1 (to-1 c2), clear-2 c2, clear-3 c3, clear-4 c4, clear-5 c5, clear-6 c6, found-7 (c .before)); silent = λ h. refl })
 
 cast-at : tie.Need-cast-at
 cast-at c = search needs
 
-cast-t44 : tie.Need-cast-t44
-cast-t44 c = let h = within (c .before .before .before .before .before .before .before .before .before .before .before .before .before .before .before .before .before .before .before) in omega arith
+cast-t43 : tie.Need-cast-t43
+cast-t43 c = let h = within (to-2 (to-3 (to-4 (to-5 (to-6 (c .before)))))) in omega arith
 
-mul-t30 : tie.Need-mul-t30
-mul-t30 c = search needs
+mul-t29 : tie.Need-mul-t29
+mul-t29 c = search needs
 
 element-set-from-after : tie.Need-element-set-from-after
 element-set-from-after c = search needs
 
 returns-8 : tie.Need-returns-8
 unfolding toldOpened session settle verdict opened view
-returns-8 c = record { tells = rw (formed (c .before .before .before .before .before .before .before .before .before .before .before .before .before .before .before .before .before .before .before .before .before .before .before .before), c .before .before .before .before .before .before .before .before .before .before .before .before .before .before .before .before .before .before .before .before .before .before .if1 .left, beyond (c .before .before .before .before .before .before .before .before .before .before .before .before .before .before .before .before .before .before .before .before) ∙ c .before .before .before .before .before .before .before .before .before .before .before .before .before .before .before .before .before .before .before .if2 .left, missing (c .before .before .before .before .before .before .before .before .before .before .before .before .before .before .before) ∙ c .before .before .before .before .before .before .before .before .before .before .before .before .before .before .if3 .left, allowed (c .before .before .before .before .before .before .before .before .before), c .before .before .before .before .before .before .before .before .if4 .left, breaking (c .before .before .before .before .before .before) ∙ c .before .before .before .before .before .if5 .left, filled (c .before .before .before) ∙ lt-leb 64 _ (c .before .before .if6 .left), walked (c .before .before .before .before .before .before .before .before .before .before), c .before .if7 .left)
-    (ap (done (c .before .before .before .lowest-free .result ∷ [])) (store-sessions (c .before .before .before .before .before .before .before .before .before .before .before .before .before .before .before .before .before .before .before .before .before .before .before .before .before .before .args .t1) (c .before .before .before .lowest-free .result) (openFor (user (c .before .before .before .before .before .before .before .before .before .before .before .before .before .before .before .before .before .before .before .before .before .before .before .before .before .before)) (c .before .before .before .before .before .before .before .before .before .before .before .before .before .before .before .before .before .before .before .before .before .before .before .before .read .result .roles)) (rw (whole (c .before .before .before .before .before .before .before .before .before .before .before .before .before .before .before .before .before .before .before .before .before .before .before .before .before .before)) (c .before .before .if6 .left)))
-    ∙ ap₂ (λ (n roles : ℕ). done (n ∷ []) (sessionSet (before (c .before .before .before .before .before .before .before .before .before .before .before .before .before .before .before .before .before .before .before .before .before .before .before .before .before .before)) n (openFor (user (c .before .before .before .before .before .before .before .before .before .before .before .before .before .before .before .before .before .before .before .before .before .before .before .before .before .before)) roles))) (c .before .before .before .lowest-free .ensures) (c .before .before .before .before .before .before .before .before .before .before .before .before .before .before .before .before .before .before .before .before .before .before .before .before .read .ensures .roles)); silent = λ h. clash true refl h }
+returns-8 c =
+    let c7 = c .before in
+    let c6 = to-6 c7 in
+    let c5 = to-5 c6 in
+    let c4 = to-4 c5 in
+    let c3 = to-3 c4 in
+    let c2 = to-2 c3 in
+    let c1 = to-1 c2 in
+    let s = to-start c1 in
+    let free = c .before .before .before .lowest-free in
+    record {
+      tells = rw (clear-1 c1, clear-2 c2, clear-3 c3, clear-4 c4, clear-5 c5, clear-6 c6, clear-7 c7)
+          (ap (done (free .result ∷ [])) (store-sessions (s .args .t1) (free .result) _ (rw (whole s) (c6 .if6 .left)))
+          ∙ ap₂ (λ (n roles : ℕ). done (n ∷ []) (sessionSet (m s) n (openFor (user s) roles))) (free .ensures) (sym (asked c1)));
+      silent = λ h. clash true refl h;
+    }
 
 pub session-spec : {M : Type 1} → statement M
 session-spec =
     tie.close
     (tie.spec
     read-requires
+    not-opened-requires
     returns
     user-beyond-requires
     either-requires
+    not-opened-requires-2
     returns-2
     cast-user
     element-copy-out-either
     subset-requires
     either-requires-2
+    not-opened-requires-3
     returns-3
     mul-assigned
     element-copy-out-assigned
     reach-requires
     subset-requires-2
+    not-opened-requires-4
     returns-4
     breaks-some-requires
+    not-opened-requires-5
     returns-5
     lowest-free-requires
+    not-opened-requires-6
     returns-6
+    not-opened-requires-7
     returns-7
     cast-at
-    cast-t44
-    mul-t30
+    cast-t43
+    mul-t29
     element-set-from-after
     returns-8)

@@ -15,14 +15,14 @@ use Rattle.sets.proofs.add_member.Tie as tie
 
 -- what each test finds, in the words of the definition
 beyond : (c : tie.After-either) → (noSet (c .before .before .before .args .name .number) || noRole (c .before .before .before .args .r .number)) ≡ c .either .result
-beyond c = cc
+beyond c = rw (← c .before .before .set-beyond .ensures, ← c .before .role-beyond .ensures) (sym (c .either .ensures))
 
 found : (c : tie.After-set-at) → setsOf (c .before .before .before .before .before .before .before .args .kind) (view (c .before .before .before .before .before .before .before .args .s)) (c .before .before .before .before .before .before .before .args .name .number) ≡ c .set-at .result
 found c = sets-among (c .before .before .before .before .before .before .before .args .s) (c .before .before .before .before .before .before .before .args .kind) (c .before .before .before .before .before .before .before .args .name .number) ∙ sym (c .set-at .ensures)
 
 missing : (c : tie.After-either2) → (not (c .before .before .before .set-at .result .there) || roleMissing (view (c .before .before .before .before .before .before .before .before .before .before .args .s)) (c .before .before .before .before .before .before .before .before .before .before .args .r .number)) ≡ c .either2 .result
 unfolding view
-missing c = cc
+missing c = rw (← c .before .has .ensures) (sym (c .either2 .ensures))
 
 member : (c : tie.After-has2) → has (c .before .before .before .before .before .set-at .result .roles) (c .before .before .before .before .before .before .before .before .before .before .before .before .args .r .number) ≡ c .has2 .result
 member c = sym (c .has2 .ensures)

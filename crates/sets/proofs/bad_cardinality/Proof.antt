@@ -9,7 +9,7 @@ either-requires : tie.Need-either-requires
 either-requires c κs = search needs
 
 returns : tie.Need-returns
-returns c = cc
+returns c = rw (← c .before .count .ensures .0) (c .either .ensures)
 
 pub bad-cardinality-spec : {M : Type 1} → statement M
 bad-cardinality-spec = tie.close (tie.spec count-requires either-requires returns)

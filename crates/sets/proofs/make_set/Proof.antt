@@ -19,7 +19,7 @@ ordered : (c : tie.After-read) → ascending (c .before .before .args .list .now
 ordered c = sym (c .read .ensures .ascending)
 
 beyond : (c : tie.After-either) → (noSet (c .before .before .before .before .before .before .args .name .number) || someFrom 64 (c .before .before .before .before .before .before .args .list .now)) ≡ c .either .result
-beyond c = cc
+beyond c = rw (← c .before .set-beyond .ensures, ← c .before .before .before .before .read .ensures .beyond) (sym (c .either .ensures))
 
 known : (c : tie.After-subset) → subset (c .before .before .before .before .before .before .read .result .roles) (view (c .before .before .before .before .before .before .before .before .args .s) .roles) ≡ c .subset .result
 unfolding view
