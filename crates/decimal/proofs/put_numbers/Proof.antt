@@ -1,0 +1,76 @@
+use borrow.Author.Needs.{needs}
+use mathlib.Core.List.{List, [], _∷_, _++_}
+use mathlib.Core.Path.{_≡_, refl, sym, ap, _∙_}
+use Prim.Native.Nat.{ℕ, _+_, _*_, _≤_, _<_, _-_, _^_}
+use native.Mathlib.Numerals.{add-one}
+use native.Mathlib.Omega.{arith}
+use lib.ListN.{length, getD, take, drop}
+use lib.Seq.{take-all}
+use Rattle.decimal.specs.Decimal.{decimal, numbered}
+use Rattle.decimal.specs.Putting.{Put}
+use Rattle.decimal.proofs.Laws.{decimal-short, numbered-short, put-then, put-none, numbered-next, put-length, before-next}
+use Rattle.decimal.proofs.put_numbers.Statement.{statement}
+use Rattle.decimal.proofs.put_numbers.Tie as tie
+
+abbrev Inv-loop : tie.InvT-loop
+Inv-loop buf₀ at numbers next₀ i₀ buf next i = (i ≤ length numbers) × Put buf₀ at (numbered (take i numbers)) buf next
+
+abbrev μ-loop : tie.MeasureT-loop
+μ-loop buf₀ at numbers next₀ i₀ buf next i = length numbers - i
+
+loop-holds : tie.Need-loop-holds Inv-loop μ-loop
+unfolding numbered
+loop-holds c = (omega arith, put-none _ _)
+
+-- the number read is a 16-bit one, and the place is far from the end of what a place can be
+put-requires : tie.Need-put-requires Inv-loop μ-loop
+put-requires c κs =
+    let l : c .before .before .loop .i < length (c .before .before .before .before .before .args .numbers .now) = omega arith in
+    omega (arith, c .before .before .before .before .before .pre, c .before .before .loop .inv .1 .ends, before-next (c .before .before .before .before .before .args .numbers .now) (c .before .before .loop .i) l)
+
+mul-put-number : tie.Need-mul-put-number Inv-loop μ-loop
+mul-put-number c = search needs
+
+shared-slice-read-put-number : tie.Need-shared-slice-read-put-number Inv-loop μ-loop
+shared-slice-read-put-number c = search needs
+
+put-number-requires : tie.Need-put-number-requires Inv-loop μ-loop
+put-number-requires c κs =
+    let l : c .before .before .before .before .before .before .before .loop .i < length (c .before .before .before .before .before .before .before .before .before .before .args .numbers .now) = omega arith in
+    omega (arith, c .before .before .before .before .before .before .before .before .before .before .pre, c .before .before .before .before .before .before .before .loop .inv .1 .ends, c .before .before .before .before .put .ensures .ends, before-next (c .before .before .before .before .before .before .before .before .before .before .args .numbers .now) (c .before .before .before .before .before .before .before .loop .i) l)
+
+add-i : tie.Need-add-i Inv-loop μ-loop
+add-i c = search needs
+
+loop-less : tie.Need-loop-less Inv-loop μ-loop
+loop-less c = search needs
+
+loop-again : tie.Need-loop-again Inv-loop μ-loop
+loop-again c =
+    let l : c .before .before .before .before .before .before .before .before .before .before .loop .i < length (c .before .before .before .before .before .before .before .before .before .before .before .before .before .args .numbers .now) = omega arith in
+    (search needs, rw (numbered-next (c .before .before .before .before .before .before .before .before .before .before .before .before .before .args .numbers .now) (c .before .before .before .before .before .before .before .before .before .before .loop .i) l) (put-then (c .before .before .before .before .before .before .before .before .before .before .loop .inv .1) (put-then (c .before .before .before .before .before .before .before .put .ensures) (c .before .before .put-number .ensures))))
+
+same-length : tie.Need-same-length Inv-loop μ-loop
+same-length c = put-length (c .before .loop .inv .1)
+
+returns : tie.Need-returns Inv-loop μ-loop
+returns c =
+    let l : length (c .before .before .before .before .args .numbers .now) ≤ c .before .loop .i = omega arith in
+    rw (take-all (c .before .loop .i) (c .before .before .before .before .args .numbers .now) l) at (c .before .loop .inv .1)
+
+pub put-numbers-spec : {M : Type 1} → statement M
+put-numbers-spec =
+    tie.close
+    (tie.spec
+    Inv-loop
+    μ-loop
+    loop-holds
+    put-requires
+    mul-put-number
+    shared-slice-read-put-number
+    put-number-requires
+    add-i
+    loop-less
+    loop-again
+    same-length
+    returns)

@@ -1,0 +1,71 @@
+// Numbers in decimal: written into a lent buffer, and taken from a text. Two formats share them: a script's line and an answer.
+ghost use mathlib.Core.List.{[], _∷_};
+ghost use mathlib.Core.Path.{_≡_};
+ghost use Prim.Native.Nat.{_+_, _*_, _<_, _≤_, _^_};
+ghost use lib.ListN.{length};
+ghost use Rattle.decimal.specs.Decimal.{decimal, lead, numbered, value};
+ghost use Rattle.decimal.specs.Putting.{Put};
+
+// Puts a byte at a place, where the buffer reaches so far, and answers the next place.
+pub fn put(buf: &mut [u8], at: usize, b: u8) -> usize
+    requires { ⌜ at < 2 ^ 32 ⌝ }
+    ensures { λ r. ⌜ Put (now (buf .entry)) at (b ∷ []) (now (buf .exit)) r ⌝ }
+{
+    if at < buf.len() {
+        buf[at] = b;
+    }
+    at + 1
+}
+
+// Puts the digit of n at a place of the decimal system, where n reaches so far.
+fn put_lead(buf: &mut [u8], at: usize, n: u16, place: u16) -> usize
+    requires { ⌜ (at < 2 ^ 32) × (0 < place) ⌝ }
+    ensures { λ r. ⌜ Put (now (buf .entry)) at (lead place n) (now (buf .exit)) r ⌝ }
+{
+    if place <= n {
+        let d = (n / place % 10) as u8;
+        return put(buf, at, 48 + d);
+    }
+    at
+}
+
+// Puts a number.
+pub fn put_number(buf: &mut [u8], at: usize, n: u16) -> usize
+    requires { ⌜ at + 5 < 2 ^ 32 ⌝ }
+    ensures { λ r. ⌜ Put (now (buf .entry)) at (decimal n) (now (buf .exit)) r ⌝ }
+{
+    let b = put_lead(buf, at, n, 10000);
+    let c = put_lead(buf, b, n, 1000);
+    let d = put_lead(buf, c, n, 100);
+    let e = put_lead(buf, d, n, 10);
+    let last = (n % 10) as u8;
+    put(buf, e, 48 + last)
+}
+
+// Puts each of some numbers after one space.
+pub fn put_numbers(buf: &mut [u8], at: usize, numbers: &[u16]) -> usize
+    requires { ⌜ at + 6 * length (now numbers) < 2 ^ 32 ⌝ }
+    ensures { λ r. ⌜ Put (now (buf .entry)) at (numbered (now (numbers .entry))) (now (buf .exit)) r ⌝ }
+{
+    let mut next = at;
+    let mut i: usize = 0;
+    while i < numbers.len() {
+        let digits = put(buf, next, 32);
+        next = put_number(buf, digits, numbers[i]);
+        i += 1;
+    }
+    next
+}
+
+// The number that a text stands for, taken leniently.
+pub fn value(text: &[u8]) -> u16
+    ensures { λ r. ⌜ r ≡ value (now (text .entry)) ⌝ }
+{
+    let mut v: u32 = 0;
+    let mut i: usize = 0;
+    while i < text.len() {
+        v = (10 * v + (text[i] % 16) as u32) % 65536;
+        i += 1;
+    }
+    v as u16
+}

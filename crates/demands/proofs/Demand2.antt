@@ -1,0 +1,243 @@
+-- Demand 2 holds. Assumes nothing.
+use mathlib.Core.Bool.{Bool, true, false}
+use mathlib.Core.List.{List, [], _∷_, List·Memᴰ, List·Memᴰ·head, List·Memᴰ·tail, List·Memᴰ·not-nil, Memᴰ·cast}
+use mathlib.Core.Logic.{_⊎_, inl, inr, _↔_}
+use mathlib.Core.Path.{_≡_, refl, sym, ap, subst, _∙_}
+use Prim.Native.Nat.{ℕ, _≤_, _<_}
+use native.Mathlib.Omega.{arith}
+use lib.Dec.{eqb}
+use borrow.Author.Tests.{eqb-true, eqb-false}
+use Rattle.roleset.specs.Bounded.{some, bit}
+use Rattle.roleset.specs.Roles.{has}
+use Rattle.roleset.proofs.BoundedLaws.{clash, never, some-intro, some-elim}
+use Rattle.model.specs.Model.{Model}
+use Rattle.model.specs.Sheet.{Refusal, _when_, Told, verdict, settle}
+use Rattle.model.specs.Sound.{Sound}
+use Rattle.model.specs.Step.{step}
+use Rattle.model.specs.Words.{authorised, effective, counted, breaks, breaksSome, staticBroken, dynamicBroken, permission}
+use Rattle.model.specs.commands.Users.{user, role, nouser}
+use Rattle.model.specs.commands.Assigning.{grant, revoke}
+use Rattle.model.specs.commands.Sets.{setsOf, dropSet, dropMember}
+use Rattle.model.specs.commands.Sessions.{permitted, check, drop, end}
+use Rattle.model.specs.declared.Command.{Command}
+use Rattle.model.specs.declared.Command.the-variants.{AddUser, AddRole, NoUser, NoRole, Assign, Deassign, Grant, Revoke, Inherit, Disinherit, MakeSet, DropSet, AddMember, DropMember, SetCardinality, OpenSession, Activate, DropActive, EndSession}
+use Rattle.model.specs.declared.Kind.{Kind}
+use Rattle.model.specs.declared.Kind.the-variants.{Static, Dynamic}
+use Rattle.sound.proofs.Asked.{opened-asks-all, room-asks-all}
+use Rattle.sound.proofs.Breaking.{breaks-exact}
+use Rattle.sound.proofs.Inheriting.{circle-exact}
+use Rattle.sound.proofs.Listed.{assign-listed, deassign-listed, inherit-listed, disinherit-listed, norole-listed, makeSet-listed, addMember-listed, setCardinality-listed, session-listed, activate-listed, check-listed}
+use Rattle.sound.proofs.Sessions.{lowest-free}
+use Rattle.sound.proofs.Sets.{shape-of}
+use Rattle.sound.proofs.Shedding.{inSet-exact}
+use Rattle.sound.proofs.Sheet.{AllClear, positive, ordered, clear-done, done-clear, verdict-here, verdict-later, verdict-lowest, settle-answer, settle-done, settle-refused, settle-same}
+use Rattle.sound.proofs.Words.{effective-exact, permitted-exact, listed-within}
+use Rattle.demands.specs.Authorised.{Effective}
+use Rattle.demands.specs.Demand2.{Demand2, Exactly, Obeys, Answers, Applies, FirstToApply, place, refusals, results, effect, checkRefusals, Checked, Granted, Conditions, wouldBreak, StaticBroken, DynamicBroken}
+use Rattle.demands.specs.Reachable.{Reachable}
+use Rattle.demands.proofs.Kept.{reachable-sound}
+
+-- ---- the answer sheet: the verdict is the first number that applies
+
+-- Where no condition holds no number applies,
+none-applies : (list : List Refusal) → AllClear list → (n : ℕ) → Applies list n → ⊥
+none-applies [] c n m = List·Memᴰ·not-nil m
+none-applies (r ∷ rest) c n (List·Memᴰ·head e) = clash (r .holds) (sym (ap (λ (x : Refusal). x .holds) e)) (c .0)
+none-applies (r ∷ rest) c n (List·Memᴰ·tail m) = none-applies rest (c .1) n m
+
+-- and where no number applies no condition holds.
+applies-none : (list : List Refusal) → ((n : ℕ) → Applies list n → ⊥) → AllClear list
+applies-none [] f = tt
+applies-none (r ∷ rest) f = (never (r .holds) (λ h. f (r .number) (List·Memᴰ·head (λ i. record { number = r .number; holds = sym h i }))), applies-none rest (λ n m. f n (List·Memᴰ·tail m)))
+
+-- An answer other than 0 applies.
+verdict-applies : (list : List Refusal) → (verdict list ≡ 0 → ⊥) → Applies list (verdict list)
+verdict-applies [] h = absurd (h (clear-done [] tt))
+verdict-applies (r ∷ rest) h = go (r .holds) refl (verdict-applies rest)
+  where
+    go : (b : Bool) → r .holds ≡ b → ((verdict rest ≡ 0 → ⊥) → Applies rest (verdict rest)) → Applies (r ∷ rest) (verdict (r ∷ rest))
+    go true e f = List·Memᴰ·head (λ i. record { number = verdict-here r rest e i; holds = sym e i })
+    go false e f = Memᴰ·cast (ap (λ (n : ℕ). n when true) (verdict-later r rest e)) (List·Memᴰ·tail (f (λ z. h (verdict-later r rest e ∙ z))))
+
+-- Two numbers with one place, neither of them 0, are one.
+place-one : (a b : ℕ) → (a ≡ 0 → ⊥) → (b ≡ 0 → ⊥) → place a ≡ place b → a ≡ b
+place-one a b na nb e = go (eqb a 14) refl (eqb b 14) refl
+  where
+    at : (n : ℕ) (x : Bool) → eqb n 14 ≡ x → place n ≡ (elim x as (λ _. ℕ) [ true ↦ 0 | false ↦ n ])
+    at n x p = ap (λ (y : Bool). elim y as (λ _. ℕ) [ true ↦ 0 | false ↦ n ]) p
+
+    go : (x : Bool) → eqb a 14 ≡ x → (y : Bool) → eqb b 14 ≡ y → a ≡ b
+    go true p true q = eqb-true a 14 p ∙ sym (eqb-true b 14 q)
+    go true p false q = absurd (nb (sym (at b false q) ∙ sym e ∙ at a true p))
+    go false p true q = absurd (na (sym (at a false p) ∙ e ∙ at b true q))
+    go false p false q = sym (at a false p) ∙ e ∙ at b false q
+
+-- One law for all commands: what is settled by a list in the sheet's order is told exactly so.
+exactly : (list : List Refusal) (m : Model) (results : List ℕ) (after : Model) (told : Told) → ordered list ≡ true → positive list ≡ true → told ≡ settle list m results after → Exactly m list results after told
+exactly list m results after told ord pos e =
+    record {
+      refused = λ n nz. (to n nz, back n nz);
+      done = (λ z. none-applies list (done-clear list pos (sym answer ∙ z)), λ f. answer ∙ clear-done list (applies-none list f));
+      gives = λ z. ap (λ (t : Told). t .results) (e ∙ settle-done list m results after (sym answer ∙ z));
+      changes = λ z. ap (λ (t : Told). t .after) (e ∙ settle-done list m results after (sym answer ∙ z));
+      silent = λ z. ap (λ (t : Told). t .results) (e ∙ settle-refused list m results after (λ v. z (answer ∙ v)));
+      unchanged = λ z. ap (λ (t : Told). t .after) (e ∙ settle-refused list m results after (λ v. z (answer ∙ v)));
+    }
+  where
+    answer : told .answer ≡ verdict list
+    answer = ap (λ (t : Told). t .answer) e ∙ settle-answer list m results after
+
+    to : (n : ℕ) → (n ≡ 0 → ⊥) → told .answer ≡ n → FirstToApply list n
+    to n nz p =
+        let q : verdict list ≡ n = sym answer ∙ p in
+        subst (λ (k : ℕ). FirstToApply list k) q (record { applies = verdict-applies list (λ z. nz (sym q ∙ z)); first = λ k a. verdict-lowest list ord (k when true) a refl })
+
+    back : (n : ℕ) → (n ≡ 0 → ⊥) → FirstToApply list n → told .answer ≡ n
+    back n nz f =
+        let some-applies : verdict list ≡ 0 → ⊥ = λ z. none-applies list (done-clear list pos z) n (f .applies) in
+        let low : place n ≤ place (verdict list) = f .first (verdict list) (verdict-applies list some-applies) in
+        let high : place (verdict list) ≤ place n = verdict-lowest list ord (n when true) (f .applies) refl in
+        answer ∙ place-one (verdict list) n some-applies nz (omega arith)
+
+-- ---- the commands
+
+-- Each command settles by its list in the paper.
+pub as-listed : (m : Model) (c : Command) (list : List ℕ) → Sound m → step m c list ≡ settle (refusals m c list) m (results m c list) (effect m c list)
+unfolding step refusals results effect user role nouser grant revoke dropSet dropMember drop end
+as-listed m (AddUser u) list s = refl
+as-listed m (AddRole r) list s = refl
+as-listed m (NoUser u) list s = refl
+as-listed m (NoRole r) list s = norole-listed m (r .number) s
+as-listed m (Assign u r) list s = assign-listed m (u .number) (r .number) s
+as-listed m (Deassign u r) list s = deassign-listed m (u .number) (r .number) s
+as-listed m (Grant op obj r) list s = refl
+as-listed m (Revoke op obj r) list s = refl
+as-listed m (Inherit senior junior) list s = inherit-listed m (senior .number) (junior .number) s
+as-listed m (Disinherit senior junior) list s = disinherit-listed m (senior .number) (junior .number) s
+as-listed m (MakeSet Static name n) list s = makeSet-listed Static m (name .number) n list s
+as-listed m (MakeSet Dynamic name n) list s = makeSet-listed Dynamic m (name .number) n list s
+as-listed m (DropSet kind name) list s = refl
+as-listed m (AddMember Static name r) list s = addMember-listed Static m (name .number) (r .number) s
+as-listed m (AddMember Dynamic name r) list s = addMember-listed Dynamic m (name .number) (r .number) s
+as-listed m (DropMember kind name r) list s = refl
+as-listed m (SetCardinality Static name n) list s = setCardinality-listed Static m (name .number) n s
+as-listed m (SetCardinality Dynamic name n) list s = setCardinality-listed Dynamic m (name .number) n s
+as-listed m (OpenSession u) list s = session-listed m (u .number) list s
+as-listed m (Activate u k r) list s = activate-listed m (u .number) (k .number) (r .number) s
+as-listed m (DropActive u k r) list s = refl
+as-listed m (EndSession u k) list s = refl
+
+-- Every list is in the order of the sheet, and none of its numbers is 0.
+pub in-order : (m : Model) (c : Command) (list : List ℕ) → (ordered (refusals m c list) ≡ true) × (positive (refusals m c list) ≡ true)
+unfolding refusals
+in-order m (AddUser u) list = (refl, refl)
+in-order m (AddRole r) list = (refl, refl)
+in-order m (NoUser u) list = (refl, refl)
+in-order m (NoRole r) list = (refl, refl)
+in-order m (Assign u r) list = (refl, refl)
+in-order m (Deassign u r) list = (refl, refl)
+in-order m (Grant op obj r) list = (refl, refl)
+in-order m (Revoke op obj r) list = (refl, refl)
+in-order m (Inherit senior junior) list = (refl, refl)
+in-order m (Disinherit senior junior) list = (refl, refl)
+in-order m (MakeSet Static name n) list = (refl, refl)
+in-order m (MakeSet Dynamic name n) list = (refl, refl)
+in-order m (DropSet kind name) list = (refl, refl)
+in-order m (AddMember Static name r) list = (refl, refl)
+in-order m (AddMember Dynamic name r) list = (refl, refl)
+in-order m (DropMember kind name r) list = (refl, refl)
+in-order m (SetCardinality Static name n) list = (refl, refl)
+in-order m (SetCardinality Dynamic name n) list = (refl, refl)
+in-order m (OpenSession u) list = (refl, refl)
+in-order m (Activate u k r) list = (refl, refl)
+in-order m (DropActive u k r) list = (refl, refl)
+in-order m (EndSession u k) list = (refl, refl)
+
+commands : Obeys step
+commands m p c list = exactly (refusals m c list) m (results m c list) (effect m c list) (step m c list) (in-order m c list .0) (in-order m c list .1) (as-listed m c list (reachable-sound p))
+
+-- ---- access
+
+first-result : List ℕ → ℕ
+first-result [] = 0
+first-result (a ∷ rest) = a
+
+one-bit : (b : Bool) → (bit b ∷ [] ≡ 1 ∷ []) ⊎ (bit b ∷ [] ≡ 0 ∷ [])
+one-bit true = inl refl
+one-bit false = inr refl
+
+bit-yes : (b : Bool) → bit b ∷ [] ≡ 1 ∷ [] → b ≡ true
+unfolding first-result
+bit-yes true e = refl
+bit-yes false e = absurd (let z : 0 ≡ 1 = ap first-result e in omega arith)
+
+access : Answers check
+access m p k op obj =
+    record {
+      refused = whole .refused;
+      done = whole .done;
+      answers = λ z. subst (λ (l : List ℕ). (l ≡ 1 ∷ []) ⊎ (l ≡ 0 ∷ [])) (sym (whole .gives z)) (one-bit (permitted m k (permission op obj)));
+      exactly = λ z. ((λ e. to (permitted-exact m k (permission op obj) .0 (bit-yes (permitted m k (permission op obj)) (sym (whole .gives z) ∙ e)))), (λ g. whole .gives z ∙ ap (λ (b : Bool). bit b ∷ []) (permitted-exact m k (permission op obj) .1 (back g))));
+      silent = whole .silent;
+      unchanged = ap (λ (t : Told). t .after) (check-listed m k op obj s) ∙ settle-same _ m _;
+    }
+  where
+    s : Sound m
+    s = reachable-sound p
+
+    whole : Exactly m (checkRefusals m k op obj) (bit (permitted m k (permission op obj)) ∷ []) m (check m k op obj)
+    whole = exactly _ m _ m (check m k op obj) refl refl (check-listed m k op obj s)
+
+    to : (r : ℕ) × (has (effective m k) r ≡ true) × (has (m .holders (permission op obj)) r ≡ true) → Granted m k (permission op obj)
+    to q = let e = effective-exact m s k (q .0) .0 (q .1) in record { role = q .0; effective = record { exists = e .0; through = e .1 }; holds = q .2 }
+
+    back : Granted m k (permission op obj) → (r : ℕ) × (has (effective m k) r ≡ true) × (has (m .holders (permission op obj)) r ≡ true)
+    back g = (g .role, effective-exact m s k (g .role) .1 (g .effective .exists, g .effective .through), g .holds)
+
+-- ---- the conditions
+
+conditions : (m : Model) → Reachable m → Conditions m
+conditions m p =
+    record {
+      circle = circle-exact m s;
+      inSome = λ kind r. inSet-exact m (setsOf kind m) (shape-of kind m (s .shape)) r;
+      listed = listed-within;
+      room = λ u roles free. sym (opened-asks-all m s u roles) ∙ room-asks-all m s u roles free;
+      lowest = λ free. let f = lowest-free m free in (f .within, f .free, λ k l. f .lowest k (omega arith) l);
+    }
+  where
+    s : Sound m
+    s = reachable-sound p
+
+static : (after : Model) → (wouldBreak Static after ≡ true) ↔ StaticBroken after
+unfolding staticBroken breaksSome
+static after = (to, back)
+  where
+    to : wouldBreak Static after ≡ true → StaticBroken after
+    to e =
+        let who = some-elim 256 (staticBroken after) e in
+        let which = some-elim 16 (λ n. breaks (after .ssd n) (authorised after (who .0))) (who .2) in
+        let broken = breaks-exact (after .ssd (which .0)) (authorised after (who .0)) .0 (which .2) in
+        record { user = who .0; name = which .0; numbered = (who .1, which .1); there = broken .0; many = broken .1 }
+
+    back : StaticBroken after → wouldBreak Static after ≡ true
+    back b = some-intro 256 (staticBroken after) (b .user) (b .numbered .0) (some-intro 16 (λ n. breaks (after .ssd n) (authorised after (b .user))) (b .name) (b .numbered .1) (breaks-exact (after .ssd (b .name)) (authorised after (b .user)) .1 (b .there, b .many)))
+
+dynamic : (after : Model) → (wouldBreak Dynamic after ≡ true) ↔ DynamicBroken after
+unfolding dynamicBroken breaksSome
+dynamic after = (to, back)
+  where
+    to : wouldBreak Dynamic after ≡ true → DynamicBroken after
+    to e =
+        let where-broken = some-elim 64 (dynamicBroken after) e in
+        let which = some-elim 16 (λ n. breaks (after .dsd n) (counted after (where-broken .0))) (where-broken .2) in
+        let broken = breaks-exact (after .dsd (which .0)) (counted after (where-broken .0)) .0 (which .2) in
+        record { session = where-broken .0; name = which .0; numbered = (where-broken .1, which .1); there = broken .0; many = broken .1 }
+
+    back : DynamicBroken after → wouldBreak Dynamic after ≡ true
+    back b = some-intro 64 (dynamicBroken after) (b .session) (b .numbered .0) (some-intro 16 (λ n. breaks (after .dsd n) (counted after (b .session))) (b .name) (b .numbered .1) (breaks-exact (after .dsd (b .name)) (counted after (b .session)) .1 (b .there, b .many)))
+
+-- each command changes exactly what the paper says and is refused exactly in the listed cases; access is granted exactly when an effective role
+-- holds the permission
+pub demand2 : Demand2
+demand2 = record { commands = commands; access = access; conditions = conditions; static = static; dynamic = dynamic }

@@ -1,0 +1,60 @@
+use borrow.Author.Needs.{needs}
+use mathlib.Core.List.{List, [], _∷_}
+use mathlib.Core.Path.{_≡_, refl, sym, ap, _∙_}
+use Prim.Native.Nat.{ℕ, _+_, _≤_, _<_, _-_}
+use native.Mathlib.Omega.{arith}
+use lib.ListN.{length, getD, drop}
+use Rattle.lines.specs.Parts.{partAt}
+use Rattle.lines.proofs.Laws.{part-stops, part-goes-on, part-none}
+use Rattle.lines.proofs.end_of.Statement.{statement}
+use Rattle.lines.proofs.end_of.Tie as tie
+
+abbrev Inv-loop : tie.InvT-loop
+Inv-loop s at stop end₀ end = (end ≤ length s) × (end + length (partAt stop s end) ≡ at + length (partAt stop s at))
+
+abbrev μ-loop : tie.MeasureT-loop
+μ-loop s at stop end₀ end = length s - end
+
+loop-holds : tie.Need-loop-holds Inv-loop μ-loop
+loop-holds c = (omega arith, refl)
+
+shared-slice-read-if1 : tie.Need-shared-slice-read-if1 Inv-loop μ-loop
+shared-slice-read-if1 c = search needs
+
+returns : tie.Need-returns Inv-loop μ-loop
+returns c =
+    let l : c .before .before .before .loop .end < length (c .before .before .before .before .args .s .now) = omega arith in
+    let e = ap length (part-stops (c .before .before .before .before .args .stop) (c .before .before .before .before .args .s .now) (c .before .before .before .loop .end) l (c .if1 .taken)) in
+    omega (arith, e, c .before .before .before .loop .inv .1)
+
+add-end : tie.Need-add-end Inv-loop μ-loop
+add-end c = search needs
+
+loop-less : tie.Need-loop-less Inv-loop μ-loop
+loop-less c = search needs
+
+loop-again : tie.Need-loop-again Inv-loop μ-loop
+loop-again c =
+    let l : c .before .before .before .loop .end < length (c .before .before .before .before .args .s .now) = omega arith in
+    let e = ap length (part-goes-on (c .before .before .before .before .args .stop) (c .before .before .before .before .args .s .now) (c .before .before .before .loop .end) l (c .if1 .left)) in
+    (search needs, omega (arith, e, c .before .before .before .loop .inv .1))
+
+returns-2 : tie.Need-returns-2 Inv-loop μ-loop
+returns-2 c =
+    let l : length (c .before .before .args .s .now) ≤ c .before .loop .end = omega arith in
+    let e = ap length (part-none (c .before .before .args .stop) (c .before .before .args .s .now) (c .before .loop .end) l) in
+    omega (arith, e, c .before .loop .inv .1)
+
+pub end-of-spec : {M : Type 1} → statement M
+end-of-spec =
+    tie.close
+    (tie.spec
+    Inv-loop
+    μ-loop
+    loop-holds
+    shared-slice-read-if1
+    returns
+    add-end
+    loop-less
+    loop-again
+    returns-2)

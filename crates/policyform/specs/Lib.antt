@@ -1,0 +1,4 @@
+pub mod Encode
+pub mod Form
+pub mod Rules
+pub mod Promises

@@ -1,0 +1,4 @@
+pub mod Loops
+pub mod Folds
+pub mod Back
+pub mod Whole

@@ -1,0 +1,21 @@
+use borrow.Author.Needs.{needs}
+use mathlib.Core.Path.{_≡_, refl, sym, ap, _∙_}
+use lib.Dec.{ltb}
+use borrow.Author.Tests.{lt-ltb, le-ltb}
+use Rattle.text.specs.Places.{atMost}
+use Rattle.policyread.proofs.count_at.Statement.{statement}
+use Rattle.policyread.proofs.count_at.Tie as tie
+
+word-at-requires : tie.Need-word-at-requires
+word-at-requires c κs = search needs
+
+returns : tie.Need-returns
+unfolding atMost
+returns c = rw (← c .before .word-at .ensures) (sym (rw (atMost, lt-ltb (c .before .before .before .args .most) (c .before .word-at .result) (c .if1 .taken))))
+
+returns-2 : tie.Need-returns-2
+unfolding atMost
+returns-2 c = rw (← c .before .word-at .ensures) (sym (rw (atMost, le-ltb (c .before .before .before .args .most) (c .before .word-at .result) (c .if1 .left))))
+
+pub count-at-spec : {M : Type 1} → statement M
+count-at-spec = tie.close (tie.spec word-at-requires returns returns-2)

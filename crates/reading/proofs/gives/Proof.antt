@@ -1,0 +1,73 @@
+use borrow.Author.Needs.{needs}
+use mathlib.Core.List.{List, [], _++_}
+use mathlib.Core.Path.{_≡_, refl, sym, ap, ap₂, _∙_}
+use Prim.Native.Nat.{ℕ, _+_, _≤_, _<_, _*_}
+use native.Mathlib.Omega.{arith}
+use lib.ListN.{length, take, drop, replicate, length-replicate, length-append}
+use lib.Seq.{sets, sets-eq, take-append-seam, length-sets, length-take-le}
+use Rattle.decimal.specs.Decimal.{numbered}
+use Rattle.decimal.specs.Putting.{Put}
+use Rattle.decimal.proofs.Laws.{put-then, put-length, numbered-short}
+use Rattle.words.specs.Words.{spelling}
+use Rattle.words.specs.Bytes.{same}
+use Rattle.words.proofs.Tables.{spelling-short}
+use Rattle.reading.specs.Form.{render}
+use Rattle.reading.proofs.gives.Statement.{statement}
+use Rattle.reading.proofs.gives.Tie as tie
+
+-- what stands in the buffer: the line, at its front
+put : (c : tie.After-put-numbers) → Put (replicate 2048 0) 0 (render (c .before .before .before .before .before .before .before .args .word) (c .before .before .before .before .before .before .before .args .numbers .now)) (c .put-numbers .last .0) (c .put-numbers .result)
+unfolding render
+put c = put-then (c .before .before .before .put-word .ensures) (c .put-numbers .ensures)
+
+room : (c : tie.After-put-numbers) → length (render (c .before .before .before .before .before .before .before .args .word) (c .before .before .before .before .before .before .before .args .numbers .now)) ≤ 2048
+unfolding render
+room c = omega (arith, c .before .before .before .before .before .before .before .pre, length-append (spelling (c .before .before .before .before .before .before .before .args .word)) (numbered (c .before .before .before .before .before .before .before .args .numbers .now)), spelling-short (c .before .before .before .before .before .before .before .args .word) (c .before .before .before .before .before .before .before .pre .0), numbered-short (c .before .before .before .before .before .before .before .args .numbers .now))
+
+ends : (c : tie.After-put-numbers) → c .put-numbers .result ≡ length (render (c .before .before .before .before .before .before .before .args .word) (c .before .before .before .before .before .before .before .args .numbers .now))
+ends c = omega (arith, put c .ends)
+
+long : (c : tie.After-put-numbers) → length (c .put-numbers .last .0) ≡ 2048
+long c = put-length (put c) ∙ length-replicate {A = ℕ} 2048 0
+
+slice-aggregate-put-word : tie.Need-slice-aggregate-put-word
+slice-aggregate-put-word c = search needs
+
+put-word-requires : tie.Need-put-word-requires
+put-word-requires c κs = search needs
+
+slice-aggregate-put-numbers : tie.Need-slice-aggregate-put-numbers
+slice-aggregate-put-numbers c = search needs
+
+put-numbers-requires : tie.Need-put-numbers-requires
+put-numbers-requires c κs = omega (arith, c .before .before .before .before .before .before .pre, c .before .before .put-word .ensures .ends, spelling-short (c .before .before .before .before .before .before .args .word) (c .before .before .before .before .before .before .pre .0))
+
+array-share-prefix-buf : tie.Need-array-share-prefix-buf
+array-share-prefix-buf c = omega (arith, long (c .before), ends (c .before), room (c .before))
+
+slice-aggregate-same : tie.Need-slice-aggregate-same
+slice-aggregate-same c = sym (length-take-le _ _ (omega (arith, long (c .before .before), ends (c .before .before), room (c .before .before))))
+
+same-requires : tie.Need-same-requires
+same-requires c κs = search needs
+
+returns : tie.Need-returns
+returns c =
+    let e = ends (c .before .before .before) in
+    let full : 0 + length (render (c .before .before .before .before .before .before .before .before .before .before .args .word) (c .before .before .before .before .before .before .before .before .before .before .args .numbers .now)) ≤ length (replicate {A = ℕ} 2048 0) = omega (arith, room (c .before .before .before), length-replicate {A = ℕ} 2048 0) in
+    c .same .ensures
+    ∙ ap (λ (l : List ℕ). same l (c .before .before .before .before .before .before .before .before .before .before .args .text .now))
+    (ap₂ (λ (n : ℕ) (l : List ℕ). take n l) e (put (c .before .before .before) .holds ∙ sets-eq (render (c .before .before .before .before .before .before .before .before .before .before .args .word) (c .before .before .before .before .before .before .before .before .before .before .args .numbers .now)) (replicate 2048 0) 0 full) ∙ take-append-seam (render (c .before .before .before .before .before .before .before .before .before .before .args .word) (c .before .before .before .before .before .before .before .before .before .before .args .numbers .now)) _)
+
+pub gives-spec : {M : Type 1} → statement M
+gives-spec =
+    tie.close
+    (tie.spec
+    slice-aggregate-put-word
+    put-word-requires
+    slice-aggregate-put-numbers
+    put-numbers-requires
+    array-share-prefix-buf
+    slice-aggregate-same
+    same-requires
+    returns)

@@ -1,0 +1,12 @@
+use borrow.Author.Needs.{needs}
+use mathlib.Core.Path.{refl}
+use Rattle.reading.specs.Holding.{blank}
+use Rattle.reading.proofs.no_line.Statement.{statement}
+use Rattle.reading.proofs.no_line.Tie as tie
+
+returns : tie.Need-returns
+unfolding blank
+returns c = refl
+
+pub no-line-spec : {M : Type 1} → statement M
+no-line-spec = tie.close (tie.spec returns)

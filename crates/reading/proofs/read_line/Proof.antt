@@ -1,0 +1,119 @@
+use borrow.Author.Needs.{needs}
+use mathlib.Core.Bool.{Bool, true, false, _&&_}
+use mathlib.Core.List.{List}
+use mathlib.Core.Path.{_≡_, refl, sym, ap, ap₂, _∙_}
+use Prim.Native.Nat.{ℕ, _≤_, _<_}
+use native.Mathlib.Omega.{arith}
+use lib.Dec.{leb, ltb}
+use lib.ListN.{length, take}
+use lib.Seq.{length-take-le}
+use borrow.Author.Tests.{le-leb, ltb-true}
+use Rattle.words.specs.Bytes.{same}
+use Rattle.words.specs.Words.{takes}
+use Rattle.reading.specs.declared.Line.{Line}
+use Rattle.reading.specs.Form.{render, wordIn, numbersIn, shaped, again, parse}
+use Rattle.reading.specs.Holding.{full, padded, held}
+use Rattle.reading.proofs.Back.{accepted, both, and-true}
+use Rattle.reading.proofs.Gathering.{good, bad, too-long, too-many, misshapen, differs, padded-front, padded-long}
+use Rattle.reading.proofs.read_line.Statement.{statement}
+use Rattle.reading.proofs.read_line.Tie as tie
+
+-- what was gathered is the word and the numbers that the text is taken for
+is-full : (c : tie.Then2) → (c .before .gather .result ≡ full (wordIn (c .before .before .before .before .args .text .now)) (numbersIn (c .before .before .before .before .args .text .now))) × (length (numbersIn (c .before .before .before .before .args .text .now)) ≤ 256)
+is-full c = good (c .before .before .before .before .args .text .now) (c .before .gather .result) (c .before .gather .ensures) (c .if2 .taken)
+
+word-is : (c : tie.Then2) → c .before .gather .result .word ≡ wordIn (c .before .before .before .before .args .text .now)
+unfolding full
+word-is c = ap (λ (l : Line). l .word) (is-full c .0)
+
+count-is : (c : tie.Then2) → c .before .gather .result .count ≡ length (numbersIn (c .before .before .before .before .args .text .now))
+unfolding full
+count-is c = ap (λ (l : Line). l .count) (is-full c .0)
+
+numbers-is : (c : tie.Then2) → c .before .gather .result .numbers ≡ padded (numbersIn (c .before .before .before .before .args .text .now))
+unfolding full
+numbers-is c = ap (λ (l : Line). l .numbers) (is-full c .0)
+
+front : (c : tie.Then2) → take (c .before .gather .result .count) (c .before .gather .result .numbers) ≡ numbersIn (c .before .before .before .before .args .text .now)
+front c = ap₂ (λ (n : ℕ) (l : List ℕ). take n l) (count-is c) (numbers-is c) ∙ padded-front (numbersIn (c .before .before .before .before .args .text .now))
+
+within : (c : tie.Then2) → c .before .gather .result .count ≤ length (c .before .gather .result .numbers)
+within c = omega (arith, count-is c, ap length (numbers-is c), padded-long (numbersIn (c .before .before .before .before .args .text .now)) (is-full c .1), is-full c .1)
+
+-- the tests, of the text
+shape : (c : tie.After-is-shaped) → c .is-shaped .result ≡ shaped (wordIn (c .before .before .before .before .before .args .text .now)) (length (numbersIn (c .before .before .before .before .before .args .text .now)))
+shape c = c .is-shaped .ensures ∙ ap₂ shaped (word-is (c .before)) (count-is (c .before))
+
+given : (c : tie.After-gives) → c .gives .result ≡ same (render (wordIn (c .before .before .before .before .before .before .before .before .before .args .text .now)) (numbersIn (c .before .before .before .before .before .before .before .before .before .args .text .now))) (c .before .before .before .before .before .before .before .before .before .args .text .now)
+given c = c .gives .ensures ∙ ap₂ (λ (k : ℕ) (ns : List ℕ). same (render k ns) (c .before .before .before .before .before .before .before .before .before .args .text .now)) (word-is (c .before .before .before .before .before)) (front (c .before .before .before .before .before))
+
+no-line-requires : tie.Need-no-line-requires
+no-line-requires c κs = search needs
+
+returns : tie.Need-returns
+returns c = c .no-line .ensures ∙ ap held (sym (too-long (c .before .before .before .args .text .now) (c .before .if1 .taken)))
+
+gather-requires : tie.Need-gather-requires
+gather-requires c κs = search needs
+
+is-shaped-requires : tie.Need-is-shaped-requires
+is-shaped-requires c κs = search needs
+
+cast-numbers : tie.Need-cast-numbers
+cast-numbers c = search needs
+
+array-share-prefix-numbers : tie.Need-array-share-prefix-numbers
+array-share-prefix-numbers c = within (c .before .before .before)
+
+slice-aggregate-gives : tie.Need-slice-aggregate-gives
+slice-aggregate-gives c = sym (length-take-le _ _ (within (c .before .before .before .before)))
+
+gives-requires : tie.Need-gives-requires
+gives-requires c κs =
+    let k : wordIn (c .before .before .before .before .before .before .before .before .args .text .now) < 41 = ltb-true _ _ (and-true (ltb (wordIn (c .before .before .before .before .before .before .before .before .args .text .now)) 41) (takes (wordIn (c .before .before .before .before .before .before .before .before .args .text .now)) (length (numbersIn (c .before .before .before .before .before .before .before .before .args .text .now)))) (sym (shape (c .before .before .before)) ∙ c .before .before .if3 .taken) .0) in
+    (omega (arith, word-is (c .before .before .before .before), k), omega (arith, ap length (front (c .before .before .before .before)), is-full (c .before .before .before .before) .1))
+
+no-line-requires-2 : tie.Need-no-line-requires-2
+no-line-requires-2 c κs = search needs
+
+no-line-requires-3 : tie.Need-no-line-requires-3
+no-line-requires-3 c κs = search needs
+
+no-line-requires-4 : tie.Need-no-line-requires-4
+no-line-requires-4 c κs = search needs
+
+returns-2 : tie.Need-returns-2
+returns-2 c =
+    let text = c .before .before .before .before .before .before .before .before .before .before .args .text .now in
+    let short : length text ≤ 512 = c .before .before .before .before .before .before .before .before .if1 .left in
+    is-full (c .before .before .before .before .before .before) .0
+    ∙ sym (ap held (accepted text (both (leb (length text) 512) _ (le-leb _ _ short) (both (shaped (wordIn text) (length (numbersIn text))) _ (sym (shape (c .before .before .before .before .before)) ∙ c .before .before .before .before .if3 .taken) (sym (given (c .before)) ∙ c .if4 .taken)))))
+
+returns-3 : tie.Need-returns-3
+returns-3 c = c .no-line2 .ensures ∙ ap held (sym (differs (c .before .before .before .before .before .before .before .before .before .before .before .args .text .now) (sym (given (c .before .before)) ∙ c .before .if4 .left)))
+
+returns-4 : tie.Need-returns-4
+returns-4 c = c .no-line3 .ensures ∙ ap held (sym (misshapen (c .before .before .before .before .before .before .before .args .text .now) (sym (shape (c .before .before)) ∙ c .before .if3 .left)))
+
+returns-5 : tie.Need-returns-5
+returns-5 c = c .no-line4 .ensures ∙ ap held (sym (too-many (c .before .before .before .before .before .args .text .now) (c .before .before .before .if1 .left) (bad (c .before .before .before .before .before .args .text .now) (c .before .before .gather .result) (c .before .before .gather .ensures) (c .before .if2 .left))))
+
+pub read-line-spec : {M : Type 1} → statement M
+read-line-spec =
+    tie.close
+    (tie.spec
+    no-line-requires
+    returns
+    gather-requires
+    is-shaped-requires
+    cast-numbers
+    array-share-prefix-numbers
+    slice-aggregate-gives
+    gives-requires
+    no-line-requires-2
+    no-line-requires-3
+    no-line-requires-4
+    returns-2
+    returns-3
+    returns-4
+    returns-5)

@@ -1,0 +1,9 @@
+pub mod ListLaws
+pub mod Listed
+pub mod Agreeing
+pub mod Promised
+mod Writing
+mod Settling
+mod Filling
+mod OfKind
+mod Fitting

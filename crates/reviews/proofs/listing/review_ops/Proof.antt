@@ -1,0 +1,35 @@
+-- `reviews::listing::review_ops` meets its contract. Assumes nothing.
+use borrow.Author.Needs.{needs}
+use mathlib.Core.Path.{_≡_, refl, sym, ap}
+use native.Mathlib.Omega.{arith}
+use lib.ListN.{length}
+use Rattle.reviews.specs.Reviewing.{meets}
+use Rattle.reviews.proofs.Filling.{meeting-members}
+use Rattle.reviews.proofs.Settling.{told-review}
+use Rattle.reviews.proofs.listing.review_ops.Statement.{statement}
+use Rattle.reviews.proofs.listing.review_ops.Tie as tie
+
+holders-on-requires : tie.Need-holders-on-requires
+holders-on-requires c κs = search needs
+
+slice-aggregate-review : tie.Need-slice-aggregate-review
+slice-aggregate-review c = search needs
+
+review-requires : tie.Need-review-requires
+review-requires c κs = search needs
+
+same-length : tie.Need-same-length
+same-length c = search needs
+
+returns : tie.Need-returns
+returns c m =
+    let table = c .before .before .before .before .before .holders-on .result in
+    let whole : length table ≡ 16 = omega arith in
+    told-review m refl refl refl
+    (λ e. meeting-members (c .before .before .before .before .before .before .before .before .args .roles) table 16 _ whole (λ op h. ap (meets (c .before .before .before .before .before .before .before .before .args .roles)) (sym (c .before .before .before .before .before .holders-on .ensures op h))))
+    (c .before .before .review .ensures)
+
+pub review-ops-spec : {M : Type 1} → statement M
+review-ops-spec =
+    tie.close
+    (tie.spec holders-on-requires slice-aggregate-review review-requires same-length returns)

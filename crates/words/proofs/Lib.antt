@@ -1,0 +1,3 @@
+pub mod Table
+pub mod Tables
+pub mod Laws

@@ -1,0 +1,62 @@
+use borrow.Author.Needs.{needs}
+use mathlib.Core.Path.{_≡_, refl, sym, ap, _∙_}
+use Prim.Native.Nat.{ℕ, suc, _+_, _≤_, _<_, _-_}
+use native.Mathlib.Omega.{arith}
+use lib.ListN.{drop}
+use Rattle.words.specs.Bytes.{same}
+use Rattle.words.specs.Words.{words, spelling, placeIn, which}
+use Rattle.words.proofs.Laws.{found, passed, none-left, which-starts}
+use Rattle.words.proofs.which.Statement.{statement}
+use Rattle.words.proofs.which.Tie as tie
+
+abbrev Inv-loop : tie.InvT-loop
+Inv-loop text k₀ k = (k ≤ 41) × (which text ≡ k + placeIn (drop k words) text)
+
+abbrev μ-loop : tie.MeasureT-loop
+μ-loop text k₀ k = 41 - k
+
+loop-holds : tie.Need-loop-holds Inv-loop μ-loop
+loop-holds c = (omega arith, let e = which-starts (c .before .args .text .now) in omega (arith, e))
+
+cast-is-word : tie.Need-cast-is-word Inv-loop μ-loop
+cast-is-word c = search needs
+
+is-word-requires : tie.Need-is-word-requires Inv-loop μ-loop
+is-word-requires c κs = search needs
+
+returns : tie.Need-returns Inv-loop μ-loop
+returns c =
+    let e = found (c .before .before .before .before .before .args .text .now) (c .before .before .before .loop .k) (c .before .before .loop-test .taken) (sym (c .before .is-word .ensures) ∙ c .if1 .taken) in
+    omega (arith, e, c .before .before .before .loop .inv .1)
+
+add-k : tie.Need-add-k Inv-loop μ-loop
+add-k c = search needs
+
+loop-less : tie.Need-loop-less Inv-loop μ-loop
+loop-less c = search needs
+
+loop-again : tie.Need-loop-again Inv-loop μ-loop
+loop-again c =
+    let e = passed (c .before .before .before .before .before .args .text .now) (c .before .before .before .loop .k) (c .before .before .loop-test .taken) (sym (c .before .is-word .ensures) ∙ c .if1 .left) in
+    (search needs, omega (arith, e, c .before .before .before .loop .inv .1))
+
+returns-2 : tie.Need-returns-2 Inv-loop μ-loop
+returns-2 c =
+    let z : c .before .loop .k ≡ 41 = omega arith in
+    let e : which (c .before .before .before .args .text .now) ≡ 41 + placeIn (drop 41 words) (c .before .before .before .args .text .now) = rw z at (c .before .loop .inv .1) in
+    omega (arith, e, none-left (c .before .before .before .args .text .now))
+
+pub which-spec : {M : Type 1} → statement M
+which-spec =
+    tie.close
+    (tie.spec
+    Inv-loop
+    μ-loop
+    loop-holds
+    cast-is-word
+    is-word-requires
+    returns
+    add-k
+    loop-less
+    loop-again
+    returns-2)

@@ -1,0 +1,551 @@
+//! The paper's engine, written plainly: sets, maps and graph search.
+//!
+//! A command takes a state and hands back the state after it, so that a refusal cannot change anything. Each command tests its
+//! refusals in rising order, so that the lowest that applies is the one given.
+//!
+//! Answer 13 is left out: a chain of more than 64 roles needs more roles than there are or a circle, and circles are refused
+//! with 6. Answer 15 is left out too: results are vectors, and no buffer is lent.
+
+use std::collections::{BTreeMap, BTreeSet};
+
+pub const MOST_ASSIGNMENTS: usize = 2048;
+pub const MOST_GRANTS: usize = 2048;
+pub const MOST_LINES: usize = 512;
+
+#[derive(Clone, Copy, PartialEq, Eq, Debug)]
+pub enum Refusal {
+    BeyondRange = 1,
+    Missing = 2,
+    OtherOwner = 3,
+    ThereAlready = 4,
+    NotThere = 5,
+    Circle = 6,
+    Cardinality = 7,
+    InSet = 8,
+    NotAuthorised = 9,
+    StaticBroken = 10,
+    DynamicBroken = 11,
+    Full = 12,
+    Form = 14,
+}
+use Refusal::*;
+
+/// A kind of number with its range; each kind is a type of its own.
+macro_rules! number {
+    ($name:ident, $highest:expr) => {
+        #[derive(Clone, Copy, PartialEq, Eq, PartialOrd, Ord, Debug)]
+        pub struct $name(u16);
+
+        impl $name {
+            pub const HIGHEST: u16 = $highest;
+
+            pub fn new(number: u16) -> Result<Self, Refusal> {
+                refuse_if(number > Self::HIGHEST, BeyondRange)?;
+                Ok(Self(number))
+            }
+
+            pub fn number(self) -> u16 {
+                self.0
+            }
+        }
+    };
+}
+
+number!(User, 255);
+number!(Role, 63);
+number!(SessionNumber, 63);
+number!(SetName, 15);
+number!(Operation, 15);
+number!(Object, 255);
+
+/// The two kinds of separation, which share all but the rule that a set lays down.
+#[derive(Clone, Copy, PartialEq, Eq, Debug)]
+pub enum Kind {
+    Ssd,
+    Dsd,
+}
+
+#[derive(Clone, PartialEq, Eq, Debug)]
+pub struct RoleSet {
+    pub cardinality: u16,
+    pub roles: BTreeSet<Role>,
+}
+
+#[derive(Clone, PartialEq, Eq, Debug)]
+pub struct Session {
+    pub owner: User,
+    pub active: BTreeSet<Role>,
+}
+
+/// The policy and the sessions.
+#[derive(Clone, Default, PartialEq, Eq, Debug)]
+pub struct State {
+    pub users: BTreeSet<User>,
+    pub roles: BTreeSet<Role>,
+    /// (senior, junior)
+    pub lines: BTreeSet<(Role, Role)>,
+    pub assignments: BTreeSet<(User, Role)>,
+    pub grants: BTreeSet<(Role, Operation, Object)>,
+    pub ssd: BTreeMap<SetName, RoleSet>,
+    pub dsd: BTreeMap<SetName, RoleSet>,
+    pub sessions: BTreeMap<SessionNumber, Session>,
+}
+
+pub type Change = Result<State, Refusal>;
+pub type Review = Result<Vec<u16>, Refusal>;
+
+fn refuse_if(applies: bool, refusal: Refusal) -> Result<(), Refusal> {
+    if applies {
+        Err(refusal)
+    } else {
+        Ok(())
+    }
+}
+
+/// A list of roles as given: 14 comes before anything else, then 1.
+fn role_list(numbers: &[u16]) -> Result<BTreeSet<Role>, Refusal> {
+    refuse_if(numbers.windows(2).any(|pair| pair[0] >= pair[1]), Form)?;
+    numbers.iter().map(|&number| Role::new(number)).collect()
+}
+
+impl RoleSet {
+    pub fn misshapen(&self) -> bool {
+        self.cardinality < 2 || usize::from(self.cardinality) > self.roles.len()
+    }
+
+    /// How many of the set's roles are among these.
+    pub fn held(&self, roles: &BTreeSet<Role>) -> usize {
+        self.roles.intersection(roles).count()
+    }
+
+    pub fn broken_by(&self, roles: &BTreeSet<Role>) -> bool {
+        self.held(roles) >= usize::from(self.cardinality)
+    }
+}
+
+// What the paper's words mean.
+impl State {
+    /// These roles and all that they inherit.
+    pub fn with_inherited(&self, roles: &BTreeSet<Role>) -> BTreeSet<Role> {
+        let mut found = roles.clone();
+        let mut to_visit: Vec<Role> = roles.iter().copied().collect();
+        while let Some(senior) = to_visit.pop() {
+            for junior in self.direct_juniors(senior) {
+                if found.insert(junior) {
+                    to_visit.push(junior);
+                }
+            }
+        }
+        found
+    }
+
+    /// All roles that the role inherits; itself among them only where it stands on a circle.
+    pub fn inherited_by(&self, role: Role) -> BTreeSet<Role> {
+        self.with_inherited(&self.direct_juniors(role))
+    }
+
+    pub fn direct_juniors(&self, role: Role) -> BTreeSet<Role> {
+        self.lines.range((role, Role(0))..=(role, Role(Role::HIGHEST))).map(|&(_, junior)| junior).collect()
+    }
+
+    pub fn roles_assigned_to(&self, user: User) -> BTreeSet<Role> {
+        self.assignments.range((user, Role(0))..=(user, Role(Role::HIGHEST))).map(|&(_, role)| role).collect()
+    }
+
+    pub fn authorised_roles(&self, user: User) -> BTreeSet<Role> {
+        self.with_inherited(&self.roles_assigned_to(user))
+    }
+
+    pub fn effective_roles(&self, session: &Session) -> BTreeSet<Role> {
+        self.with_inherited(&session.active)
+    }
+
+    /// The permissions granted to any of these roles, as operation * 256 + object.
+    fn permissions_of(&self, roles: &BTreeSet<Role>) -> BTreeSet<u16> {
+        let granted = self.grants.iter().filter(|(role, _, _)| roles.contains(role));
+        granted.map(|(_, operation, object)| operation.0 * 256 + object.0).collect()
+    }
+
+    /// The operations granted on the object to any of these roles.
+    fn operations_of(&self, roles: &BTreeSet<Role>, object: Object) -> BTreeSet<u16> {
+        let granted = self.grants.iter().filter(|(role, _, on)| roles.contains(role) && *on == object);
+        granted.map(|(_, operation, _)| operation.0).collect()
+    }
+
+    pub fn sets(&self, kind: Kind) -> &BTreeMap<SetName, RoleSet> {
+        match kind {
+            Kind::Ssd => &self.ssd,
+            Kind::Dsd => &self.dsd,
+        }
+    }
+
+    fn sets_mut(&mut self, kind: Kind) -> &mut BTreeMap<SetName, RoleSet> {
+        match kind {
+            Kind::Ssd => &mut self.ssd,
+            Kind::Dsd => &mut self.dsd,
+        }
+    }
+
+    fn shed(&mut self) {
+        let before = self.clone();
+        for session in self.sessions.values_mut() {
+            let authorised = before.authorised_roles(session.owner);
+            session.active.retain(|role| authorised.contains(role));
+        }
+    }
+}
+
+// The rules that every policy of ours obeys.
+impl State {
+    pub fn circle_stands(&self) -> bool {
+        self.roles.iter().any(|&role| self.inherited_by(role).contains(&role))
+    }
+
+    pub fn set_misshapen(&self) -> bool {
+        self.ssd.values().chain(self.dsd.values()).any(RoleSet::misshapen)
+    }
+
+    pub fn active_role_not_authorised(&self) -> bool {
+        self.sessions.values().any(|session| !session.active.is_subset(&self.authorised_roles(session.owner)))
+    }
+
+    /// Whether the rule of some set of the kind is broken: for some user (SSD) or in some session (DSD).
+    pub fn rule_broken(&self, kind: Kind) -> bool {
+        let sets = self.sets(kind);
+        if sets.is_empty() {
+            return false;
+        }
+        let breaks = |roles: &BTreeSet<Role>| sets.values().any(|set| set.broken_by(roles));
+        match kind {
+            Kind::Ssd => self.users.iter().any(|&user| breaks(&self.authorised_roles(user))),
+            Kind::Dsd => self.sessions.values().any(|session| breaks(&session.active)),
+        }
+    }
+
+    fn refuse_if_rule_broken(&self, kind: Kind) -> Result<(), Refusal> {
+        let refusal = match kind {
+            Kind::Ssd => StaticBroken,
+            Kind::Dsd => DynamicBroken,
+        };
+        refuse_if(self.rule_broken(kind), refusal)
+    }
+}
+
+// Answer 2.
+impl State {
+    fn need_user(&self, user: User) -> Result<(), Refusal> {
+        refuse_if(!self.users.contains(&user), Missing)
+    }
+
+    fn need_role(&self, role: Role) -> Result<(), Refusal> {
+        refuse_if(!self.roles.contains(&role), Missing)
+    }
+
+    fn need_session(&self, session: SessionNumber) -> Result<&Session, Refusal> {
+        self.sessions.get(&session).ok_or(Missing)
+    }
+
+    fn need_set(&self, kind: Kind, name: SetName) -> Result<&RoleSet, Refusal> {
+        self.sets(kind).get(&name).ok_or(Missing)
+    }
+}
+
+// Commands on users, roles, assignments, grants and lines.
+impl State {
+    pub fn add_user(&self, user: u16) -> Change {
+        let user = User::new(user)?;
+        refuse_if(self.users.contains(&user), ThereAlready)?;
+        let mut after = self.clone();
+        after.users.insert(user);
+        Ok(after)
+    }
+
+    pub fn delete_user(&self, user: u16) -> Change {
+        let user = User::new(user)?;
+        self.need_user(user)?;
+        let mut after = self.clone();
+        after.users.remove(&user);
+        after.assignments.retain(|&(of, _)| of != user);
+        after.sessions.retain(|_, session| session.owner != user);
+        Ok(after)
+    }
+
+    pub fn add_role(&self, role: u16) -> Change {
+        let role = Role::new(role)?;
+        refuse_if(self.roles.contains(&role), ThereAlready)?;
+        let mut after = self.clone();
+        after.roles.insert(role);
+        Ok(after)
+    }
+
+    pub fn delete_role(&self, role: u16) -> Change {
+        let role = Role::new(role)?;
+        self.need_role(role)?;
+        refuse_if(self.ssd.values().chain(self.dsd.values()).any(|set| set.roles.contains(&role)), InSet)?;
+        let mut after = self.clone();
+        after.roles.remove(&role);
+        after.assignments.retain(|&(_, of)| of != role);
+        after.grants.retain(|&(of, _, _)| of != role);
+        after.lines.retain(|&(senior, junior)| senior != role && junior != role);
+        after.shed();
+        Ok(after)
+    }
+
+    pub fn assign(&self, user: u16, role: u16) -> Change {
+        let (user, role) = (User::new(user)?, Role::new(role)?);
+        self.need_user(user)?;
+        self.need_role(role)?;
+        refuse_if(self.assignments.contains(&(user, role)), ThereAlready)?;
+        let mut after = self.clone();
+        after.assignments.insert((user, role));
+        after.refuse_if_rule_broken(Kind::Ssd)?;
+        refuse_if(self.assignments.len() >= MOST_ASSIGNMENTS, Full)?;
+        Ok(after)
+    }
+
+    pub fn deassign(&self, user: u16, role: u16) -> Change {
+        let (user, role) = (User::new(user)?, Role::new(role)?);
+        self.need_user(user)?;
+        self.need_role(role)?;
+        let mut after = self.clone();
+        refuse_if(!after.assignments.remove(&(user, role)), NotThere)?;
+        after.shed();
+        Ok(after)
+    }
+
+    pub fn grant(&self, operation: u16, object: u16, role: u16) -> Change {
+        let (operation, object, role) = (Operation::new(operation)?, Object::new(object)?, Role::new(role)?);
+        self.need_role(role)?;
+        let mut after = self.clone();
+        refuse_if(!after.grants.insert((role, operation, object)), ThereAlready)?;
+        refuse_if(self.grants.len() >= MOST_GRANTS, Full)?;
+        Ok(after)
+    }
+
+    pub fn revoke(&self, operation: u16, object: u16, role: u16) -> Change {
+        let (operation, object, role) = (Operation::new(operation)?, Object::new(object)?, Role::new(role)?);
+        self.need_role(role)?;
+        let mut after = self.clone();
+        refuse_if(!after.grants.remove(&(role, operation, object)), NotThere)?;
+        Ok(after)
+    }
+
+    pub fn inherit(&self, senior: u16, junior: u16) -> Change {
+        let (senior, junior) = (Role::new(senior)?, Role::new(junior)?);
+        self.need_role(senior)?;
+        self.need_role(junior)?;
+        refuse_if(self.lines.contains(&(senior, junior)), ThereAlready)?;
+        refuse_if(senior == junior || self.inherited_by(junior).contains(&senior), Circle)?;
+        let mut after = self.clone();
+        after.lines.insert((senior, junior));
+        after.refuse_if_rule_broken(Kind::Ssd)?;
+        refuse_if(self.lines.len() >= MOST_LINES, Full)?;
+        Ok(after)
+    }
+
+    pub fn disinherit(&self, senior: u16, junior: u16) -> Change {
+        let (senior, junior) = (Role::new(senior)?, Role::new(junior)?);
+        self.need_role(senior)?;
+        self.need_role(junior)?;
+        let mut after = self.clone();
+        refuse_if(!after.lines.remove(&(senior, junior)), NotThere)?;
+        after.shed();
+        Ok(after)
+    }
+}
+
+// Commands on SSD and DSD sets.
+impl State {
+    pub fn add_set(&self, kind: Kind, name: u16, cardinality: u16, roles: &[u16]) -> Change {
+        let roles = role_list(roles);
+        refuse_if(roles == Err(Form), Form)?;
+        let (name, roles) = (SetName::new(name)?, roles?);
+        roles.iter().try_for_each(|&role| self.need_role(role))?;
+        refuse_if(self.sets(kind).contains_key(&name), ThereAlready)?;
+        let set = RoleSet { cardinality, roles };
+        refuse_if(set.misshapen(), Cardinality)?;
+        self.with_set(kind, name, set)
+    }
+
+    pub fn delete_set(&self, kind: Kind, name: u16) -> Change {
+        let name = SetName::new(name)?;
+        self.need_set(kind, name)?;
+        let mut after = self.clone();
+        after.sets_mut(kind).remove(&name);
+        Ok(after)
+    }
+
+    pub fn add_to_set(&self, kind: Kind, name: u16, role: u16) -> Change {
+        let (name, role) = (SetName::new(name)?, Role::new(role)?);
+        let mut set = self.need_set(kind, name)?.clone();
+        self.need_role(role)?;
+        refuse_if(!set.roles.insert(role), ThereAlready)?;
+        self.with_set(kind, name, set)
+    }
+
+    pub fn drop_from_set(&self, kind: Kind, name: u16, role: u16) -> Change {
+        let (name, role) = (SetName::new(name)?, Role::new(role)?);
+        let mut set = self.need_set(kind, name)?.clone();
+        self.need_role(role)?;
+        refuse_if(!set.roles.remove(&role), NotThere)?;
+        refuse_if(set.misshapen(), Cardinality)?;
+        self.with_set(kind, name, set)
+    }
+
+    pub fn set_cardinality(&self, kind: Kind, name: u16, cardinality: u16) -> Change {
+        let name = SetName::new(name)?;
+        let mut set = self.need_set(kind, name)?.clone();
+        set.cardinality = cardinality;
+        refuse_if(set.misshapen(), Cardinality)?;
+        self.with_set(kind, name, set)
+    }
+
+    /// The set added or put in the place of the one of that name, where no rule would be broken.
+    fn with_set(&self, kind: Kind, name: SetName, set: RoleSet) -> Change {
+        let mut after = self.clone();
+        after.sets_mut(kind).insert(name, set);
+        after.refuse_if_rule_broken(kind)?;
+        Ok(after)
+    }
+}
+
+// Commands on sessions.
+impl State {
+    /// The state with the new session, and the session's number.
+    pub fn open_session(&self, user: u16, roles: &[u16]) -> Result<(State, u16), Refusal> {
+        let roles = role_list(roles);
+        refuse_if(roles == Err(Form), Form)?;
+        let (owner, active) = (User::new(user)?, roles?);
+        self.need_user(owner)?;
+        active.iter().try_for_each(|&role| self.need_role(role))?;
+        refuse_if(!active.is_subset(&self.authorised_roles(owner)), NotAuthorised)?;
+        refuse_if(self.dsd.values().any(|set| set.broken_by(&active)), DynamicBroken)?;
+        let mut numbers = (0..=SessionNumber::HIGHEST).map(SessionNumber);
+        let free = numbers.find(|number| !self.sessions.contains_key(number)).ok_or(Full)?;
+        let mut after = self.clone();
+        after.sessions.insert(free, Session { owner, active });
+        Ok((after, free.0))
+    }
+
+    pub fn activate(&self, user: u16, session: u16, role: u16) -> Change {
+        let (user, number, role) = (User::new(user)?, SessionNumber::new(session)?, Role::new(role)?);
+        let mut session = self.need_session_of(user, number, Some(role))?;
+        refuse_if(!session.active.insert(role), ThereAlready)?;
+        refuse_if(!self.authorised_roles(user).contains(&role), NotAuthorised)?;
+        let mut after = self.clone();
+        after.sessions.insert(number, session);
+        after.refuse_if_rule_broken(Kind::Dsd)?;
+        Ok(after)
+    }
+
+    pub fn drop_role(&self, user: u16, session: u16, role: u16) -> Change {
+        let (user, number, role) = (User::new(user)?, SessionNumber::new(session)?, Role::new(role)?);
+        let mut session = self.need_session_of(user, number, Some(role))?;
+        refuse_if(!session.active.remove(&role), NotThere)?;
+        let mut after = self.clone();
+        after.sessions.insert(number, session);
+        Ok(after)
+    }
+
+    pub fn end_session(&self, user: u16, session: u16) -> Change {
+        let (user, number) = (User::new(user)?, SessionNumber::new(session)?);
+        self.need_session_of(user, number, None)?;
+        let mut after = self.clone();
+        after.sessions.remove(&number);
+        Ok(after)
+    }
+
+    /// A copy of the user's session. Everything named must exist (2) before it matters whose the session is (3).
+    fn need_session_of(&self, user: User, number: SessionNumber, role: Option<Role>) -> Result<Session, Refusal> {
+        self.need_user(user)?;
+        let session = self.need_session(number)?;
+        role.map_or(Ok(()), |role| self.need_role(role))?;
+        refuse_if(session.owner != user, OtherOwner)?;
+        Ok(session.clone())
+    }
+}
+
+// Questions.
+impl State {
+    pub fn check(&self, session: u16, operation: u16, object: u16) -> Review {
+        let number = SessionNumber::new(session)?;
+        let (operation, object) = (Operation::new(operation)?, Object::new(object)?);
+        let effective = self.effective_roles(self.need_session(number)?);
+        let yes = effective.iter().any(|&role| self.grants.contains(&(role, operation, object)));
+        Ok(vec![u16::from(yes)])
+    }
+
+    pub fn assigned_users(&self, role: u16) -> Review {
+        let role = Role::new(role)?;
+        self.need_role(role)?;
+        Ok(self.users.iter().filter(|&&user| self.assignments.contains(&(user, role))).map(|user| user.0).collect())
+    }
+
+    pub fn assigned_roles(&self, user: u16) -> Review {
+        let user = User::new(user)?;
+        self.need_user(user)?;
+        Ok(numbers(&self.roles_assigned_to(user)))
+    }
+
+    pub fn auth_users(&self, role: u16) -> Review {
+        let role = Role::new(role)?;
+        self.need_role(role)?;
+        Ok(self.users.iter().filter(|&&user| self.authorised_roles(user).contains(&role)).map(|user| user.0).collect())
+    }
+
+    pub fn auth_roles(&self, user: u16) -> Review {
+        let user = User::new(user)?;
+        self.need_user(user)?;
+        Ok(numbers(&self.authorised_roles(user)))
+    }
+
+    pub fn role_perms(&self, role: u16) -> Review {
+        let role = Role::new(role)?;
+        self.need_role(role)?;
+        Ok(self.permissions_of(&self.with_inherited(&BTreeSet::from([role]))).into_iter().collect())
+    }
+
+    pub fn user_perms(&self, user: u16) -> Review {
+        let user = User::new(user)?;
+        self.need_user(user)?;
+        Ok(self.permissions_of(&self.authorised_roles(user)).into_iter().collect())
+    }
+
+    pub fn session_roles(&self, session: u16) -> Review {
+        let session = self.need_session(SessionNumber::new(session)?)?;
+        Ok(numbers(&session.active))
+    }
+
+    pub fn session_perms(&self, session: u16) -> Review {
+        let session = self.need_session(SessionNumber::new(session)?)?;
+        Ok(self.permissions_of(&self.effective_roles(session)).into_iter().collect())
+    }
+
+    pub fn role_ops(&self, role: u16, object: u16) -> Review {
+        let (role, object) = (Role::new(role)?, Object::new(object)?);
+        self.need_role(role)?;
+        Ok(self.operations_of(&self.with_inherited(&BTreeSet::from([role])), object).into_iter().collect())
+    }
+
+    pub fn user_ops(&self, user: u16, object: u16) -> Review {
+        let (user, object) = (User::new(user)?, Object::new(object)?);
+        self.need_user(user)?;
+        Ok(self.operations_of(&self.authorised_roles(user), object).into_iter().collect())
+    }
+
+    pub fn set_names(&self, kind: Kind) -> Review {
+        Ok(self.sets(kind).keys().map(|name| name.0).collect())
+    }
+
+    pub fn set_roles(&self, kind: Kind, name: u16) -> Review {
+        Ok(numbers(&self.need_set(kind, SetName::new(name)?)?.roles))
+    }
+
+    pub fn set_count(&self, kind: Kind, name: u16) -> Review {
+        Ok(vec![self.need_set(kind, SetName::new(name)?)?.cardinality])
+    }
+}
+
+pub fn numbers(roles: &BTreeSet<Role>) -> Vec<u16> {
+    roles.iter().map(|role| role.0).collect()
+}

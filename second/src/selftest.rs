@@ -1,0 +1,150 @@
+//! The paper's own examples, run by the second program.
+
+use crate::make_files::{fullest, small_state};
+use crate::policy_file::{load, save, sections_of, write, ASSIGNMENTS, DSD, LINES, SESSIONS, SSD};
+use crate::{engine::State, reload, script};
+
+const EXAMPLE: &str =
+    "user 7\nrole 0\nrole 1\nrole 2\ninherit 2 0\nssd 0 2 0 1\nassign 7 2\nassign 7 1\ngrant 4 30 0\nsession 7 2\n\
+                       check 0 4 30\ncheck 0 4 31\ninherit 0 2\ndeassign 7 2\ncheck 0 4 30\nauth-roles 7\n";
+const EXAMPLE_OUTPUT: &str = "0\n0\n0\n0\n0\n0\n0\n10\n0\n0 0\n0 1\n0 0\n6\n0\n0 0\n0\ntotal 14 2\n";
+
+/// Name, lines after the example's first ten, and their answers.
+const SHEET: &[(&str, &str, &str)] = &[
+    ("P1", "assign 7 1", "10"),
+    ("P2", "inherit 0 2", "6"),
+    ("P3", "inherit 0 0", "6"),
+    ("P4", "inherit 2 0", "4"),
+    ("P5", "inherit 2 1", "10"),
+    ("P6", "activate 7 0 0; session-roles 0", "0; 0 0 2"),
+    ("P7", "deassign 7 2; session-roles 0", "0; 0"),
+    ("P8", "disinherit 2 0; check 0 4 30; session-roles 0", "0; 0 0; 0 2"),
+    ("P9", "ssd-drop 0 1; ssd-roles 0", "7; 0 0 1"),
+    ("P10", "norole 1", "8"),
+    ("P11", "role 63; role 64", "0; 1"),
+];
+
+/// Name, lines from the empty state to begin with, lines after them, and the answers to these.
+const READINGS: &[(&str, &str, &str, &str)] = &[
+    (
+        "deleting a line keeps the lines that it implied",
+        "role 0; role 1; role 2; user 7; assign 7 2; inherit 2 0; inherit 2 1; inherit 0 1",
+        "disinherit 0 1; auth-roles 7; disinherit 2 1; auth-roles 7",
+        "0; 0 0 1 2; 0; 0 0 2",
+    ),
+    (
+        "an owner who still reaches the role named keeps it active",
+        "role 0; role 2; user 7; inherit 2 0; assign 7 0; assign 7 2; session 7 0",
+        "deassign 7 0; session-roles 0; deassign 7 2; session-roles 0",
+        "0; 0 0; 0; 0",
+    ),
+    (
+        "users of every senior above gain roles too",
+        "role 0; role 1; role 2; role 3; user 7; inherit 3 2; assign 7 3; assign 7 1; ssd 0 2 0 1",
+        "inherit 2 0; auth-roles 7",
+        "10; 0 1 2 3",
+    ),
+    (
+        "a middle role deleted is not joined up",
+        "role 0; role 1; role 2; user 7; inherit 2 1; inherit 1 0; assign 7 2; session 7 0 1 2",
+        "norole 1; session-roles 0; auth-roles 7",
+        "0; 0 2; 0 2",
+    ),
+    (
+        "the lowest free session number, and 14 before all else",
+        "user 7",
+        "session 7; session 7; session 7; end 7 1; session 7; session 999 2 1; session 999 1 2; session 7 1",
+        "0 0; 0 1; 0 2; 0; 0 1; 14; 1; 2",
+    ),
+    (
+        "numbers, spaces and empty lines",
+        "user 9",
+        "user 0; user 00; user 65535; user 65536; user 100000; user  1; user 1 ;  user 1; user; ssd 0 2; ssd 0; ; ",
+        "0; 14; 1; 14; 14; 14; 14; 14; 14; 7; 14; 14; 14",
+    ),
+];
+
+/// Name, a damaged small file, and the answer.
+fn files() -> Vec<(&'static str, Vec<u8>, &'static str)> {
+    let small = sections_of(&small_state());
+    let with = |section: usize, entries: &[&[u16]]| {
+        let mut sections = small.clone();
+        sections[section] = entries.iter().map(|entry| entry.to_vec()).collect();
+        sections
+    };
+    let mut several = with(SSD, &[&[0, 2, 0, 2]]);
+    several[DSD] = vec![vec![3, 2, 0, 2]];
+    let dynamic_and_static = several.clone();
+    several[ASSIGNMENTS] = vec![vec![9, 0]];
+    let unauthorised_too = several.clone();
+    several[DSD] = vec![vec![3, 65_535, 0, 2]];
+    let misshapen_too = several.clone();
+    several[LINES] = vec![vec![0, 2], vec![2, 0]];
+    vec![
+        ("no bytes", Vec::new(), "14"),
+        ("lines that make a circle", write(&with(LINES, &[&[0, 2], &[2, 0]])), "6"),
+        ("a line from a role to itself", write(&with(LINES, &[&[1, 1], &[2, 0]])), "6"),
+        ("a line repeated", write(&with(LINES, &[&[2, 0], &[2, 0]])), "14"),
+        ("a cardinality of 1", write(&with(SSD, &[&[0, 1, 0, 1]])), "7"),
+        ("a cardinality of 65,535", write(&with(DSD, &[&[3, 65_535, 1, 2]])), "7"),
+        ("an active role not authorised", write(&with(SESSIONS, &[&[0, 7, 1]])), "9"),
+        ("a static rule broken", write(&with(SSD, &[&[0, 2, 0, 2]])), "10"),
+        ("a dynamic rule broken", write(&with(DSD, &[&[3, 2, 0, 2]])), "11"),
+        ("10 before 11", write(&dynamic_and_static), "10"),
+        ("9 before 10", write(&unauthorised_too), "9"),
+        ("7 before 9", write(&misshapen_too), "7"),
+        ("6 before 7", write(&several), "6"),
+        ("a user not listed", write(&with(ASSIGNMENTS, &[&[7, 2], &[8, 0]])), "14"),
+        ("bytes left over", [save(&small_state()), vec![0]].concat(), "14"),
+    ]
+}
+
+/// Runs every example and says whether all are right.
+pub fn selftest() -> bool {
+    let (mut right, mut wrong) = (0, 0);
+    let mut test = |name: &str, found: &str, expected: &str| {
+        if found == expected {
+            right += 1;
+        } else {
+            wrong += 1;
+            println!("selftest: WRONG: {name}: \"{}\" and not \"{}\"", found.escape_debug(), expected.escape_debug());
+        }
+    };
+    let run = |script: &str| String::from_utf8_lossy(&script::run(script.as_bytes())).into_owned();
+
+    test("the example", &run(EXAMPLE), EXAMPLE_OUTPUT);
+    test("the example without its last LF", &run(EXAMPLE.trim_end()), EXAMPLE_OUTPUT);
+    test("the empty script", &run(""), "total 0 0\n");
+    test("a script of 32,769 bytes", &run(&"\n".repeat(32_769)), "14\ntotal 0 1\n");
+    test("a script of 32,768 bytes", run(&"\n".repeat(32_768)).lines().last().unwrap_or_default(), "total 0 32768");
+
+    // What a script prints for its last lines, the total left out.
+    let run_after = |beginning: &str, lines: &str| {
+        let beginning = beginning.replace("; ", "\n");
+        let output = run(&format!("{beginning}\n{}\n", lines.replace("; ", "\n")));
+        let answers: Vec<&str> = output.lines().skip(beginning.lines().count()).collect();
+        answers[..answers.len() - 1].join("; ")
+    };
+    let first_ten = EXAMPLE.lines().take(10).collect::<Vec<_>>().join("\n");
+    for (name, lines, answers) in SHEET {
+        test(name, &run_after(&first_ten, lines), answers);
+    }
+    let hex = |bytes: &[u8]| bytes.escape_ascii().to_string();
+    test("P12", &hex(&save(&State::default())), &hex(&[0; 16]));
+    for (name, beginning, lines, answers) in READINGS {
+        test(name, &run_after(beginning, lines), answers);
+    }
+
+    for (name, bytes, answer) in files() {
+        test(name, &hex(&reload(&bytes)), &format!("{answer}\\n"));
+    }
+    for state in [State::default(), small_state(), fullest()] {
+        let saved = save(&state);
+        test("a saved state loads as it was", &hex(&saved), &load(&saved).map_or("refused".into(), |loaded| hex(&save(&loaded))));
+        test("reload prints 0 and the file", &hex(&reload(&saved)), &("0\\n".to_string() + &hex(&saved)));
+    }
+    test("the longest file", &save(&fullest()).len().to_string(), "35920");
+
+    println!("selftest: {right} right, {wrong} wrong");
+    wrong == 0
+}
