@@ -10,52 +10,35 @@ use policy::State;
 use policy::naming::either;
 use policy::naming::has_user;
 use policy::naming::permission_beyond;
+use policy::refused;
 
 // The role is assigned to the user; 1, 2, 4, 10, 12.
 pub fn assign(s: State, u: User, r: Role) -> Outcome
     ensures { λ o. ⌜ seen o ≡ assign (view s) (u .number) (r .number) ⌝ }
 {
     if either(numbers::user_beyond(u), numbers::role_beyond(r)) {
-        return Outcome {
-            answer: Answer::BeyondRange,
-            state: s,
-        };
+        return refused(Answer::BeyondRange, s);
     }
     let users = s.users;
     if either(!has_user(users, u), !roleset::has(s.roles, r.number)) {
-        return Outcome {
-            answer: Answer::Missing,
-            state: s,
-        };
+        return refused(Answer::Missing, s);
     }
     let at = u.number as usize;
     let old = s.assigned[at];
     if roleset::has(old, r.number) {
-        return Outcome {
-            answer: Answer::AlreadyThere,
-            state: s,
-        };
+        return refused(Answer::AlreadyThere, s);
     }
     let new = roleset::with(old, r.number);
     let walk = hierarchy::reach(&s.juniors, new);
     let ssd = s.ssd;
     if separation::breaks_some(ssd, walk.roles) {
-        return Outcome {
-            answer: Answer::BreaksStatic,
-            state: s,
-        };
+        return refused(Answer::BreaksStatic, s);
     }
     if policy::full(&s.assigned, 2048) {
-        return Outcome {
-            answer: Answer::TableFull,
-            state: s,
-        };
+        return refused(Answer::TableFull, s);
     }
     if walk.cut {
-        return Outcome {
-            answer: Answer::ChainTooLong,
-            state: s,
-        };
+        return refused(Answer::ChainTooLong, s);
     }
     let mut after = s;
     after.assigned[at] = new;
@@ -70,34 +53,22 @@ pub fn deassign(s: State, u: User, r: Role) -> Outcome
     ensures { λ o. ⌜ seen o ≡ deassign (view s) (u .number) (r .number) ⌝ }
 {
     if either(numbers::user_beyond(u), numbers::role_beyond(r)) {
-        return Outcome {
-            answer: Answer::BeyondRange,
-            state: s,
-        };
+        return refused(Answer::BeyondRange, s);
     }
     let users = s.users;
     if either(!has_user(users, u), !roleset::has(s.roles, r.number)) {
-        return Outcome {
-            answer: Answer::Missing,
-            state: s,
-        };
+        return refused(Answer::Missing, s);
     }
     let at = u.number as usize;
     if !roleset::has(s.assigned[at], r.number) {
-        return Outcome {
-            answer: Answer::NotThere,
-            state: s,
-        };
+        return refused(Answer::NotThere, s);
     }
     let mut assigned = s.assigned;
     assigned[at] = roleset::without(assigned[at], r.number);
     let sessions = s.sessions;
     let kept = sweeps::shed(&s.juniors, &assigned, sessions);
     if kept.cut {
-        return Outcome {
-            answer: Answer::ChainTooLong,
-            state: s,
-        };
+        return refused(Answer::ChainTooLong, s);
     }
     let left = kept.sessions;
     let mut after = s;
@@ -114,30 +85,18 @@ pub fn grant(s: State, op: u16, obj: u16, r: Role) -> Outcome
     ensures { λ o. ⌜ seen o ≡ grant (view s) op obj (r .number) ⌝ }
 {
     if either(permission_beyond(op, obj), numbers::role_beyond(r)) {
-        return Outcome {
-            answer: Answer::BeyondRange,
-            state: s,
-        };
+        return refused(Answer::BeyondRange, s);
     }
     if !roleset::has(s.roles, r.number) {
-        return Outcome {
-            answer: Answer::Missing,
-            state: s,
-        };
+        return refused(Answer::Missing, s);
     }
     let at = op as usize * 256 + obj as usize;
     let old = s.holders[at];
     if roleset::has(old, r.number) {
-        return Outcome {
-            answer: Answer::AlreadyThere,
-            state: s,
-        };
+        return refused(Answer::AlreadyThere, s);
     }
     if policy::full(&s.holders, 2048) {
-        return Outcome {
-            answer: Answer::TableFull,
-            state: s,
-        };
+        return refused(Answer::TableFull, s);
     }
     let mut after = s;
     after.holders[at] = roleset::with(old, r.number);
@@ -152,24 +111,15 @@ pub fn revoke(s: State, op: u16, obj: u16, r: Role) -> Outcome
     ensures { λ o. ⌜ seen o ≡ revoke (view s) op obj (r .number) ⌝ }
 {
     if either(permission_beyond(op, obj), numbers::role_beyond(r)) {
-        return Outcome {
-            answer: Answer::BeyondRange,
-            state: s,
-        };
+        return refused(Answer::BeyondRange, s);
     }
     if !roleset::has(s.roles, r.number) {
-        return Outcome {
-            answer: Answer::Missing,
-            state: s,
-        };
+        return refused(Answer::Missing, s);
     }
     let at = op as usize * 256 + obj as usize;
     let old = s.holders[at];
     if !roleset::has(old, r.number) {
-        return Outcome {
-            answer: Answer::NotThere,
-            state: s,
-        };
+        return refused(Answer::NotThere, s);
     }
     let mut after = s;
     after.holders[at] = roleset::without(old, r.number);

@@ -1,13 +1,13 @@
 -- Demand 2 holds. Assumes nothing.
 use mathlib.Core.Bool.{Bool, true, false}
-use mathlib.Core.List.{List, [], _∷_, List·Memᴰ, List·Memᴰ·head, List·Memᴰ·tail, List·Memᴰ·not-nil, Memᴰ·cast}
+use mathlib.Core.List.{List, [], _∷_, List·Memᴰ·head, List·Memᴰ·tail, List·Memᴰ·not-nil, Memᴰ·cast}
 use mathlib.Core.Logic.{_⊎_, inl, inr, _↔_}
 use mathlib.Core.Path.{_≡_, refl, sym, ap, subst, _∙_}
-use Prim.Native.Nat.{ℕ, _≤_, _<_}
+use Prim.Native.Nat.{ℕ, _≤_}
 use native.Mathlib.Omega.{arith}
 use lib.Dec.{eqb}
-use borrow.Author.Tests.{eqb-true, eqb-false}
-use Rattle.roleset.specs.Bounded.{some, bit}
+use borrow.Author.Tests.{eqb-true}
+use Rattle.roleset.specs.Bounded.{bit}
 use Rattle.roleset.specs.Roles.{has}
 use Rattle.roleset.proofs.BoundedLaws.{clash, never, some-intro, some-elim}
 use Rattle.model.specs.Model.{Model}
@@ -21,7 +21,6 @@ use Rattle.model.specs.commands.Sets.{setsOf, dropSet, dropMember}
 use Rattle.model.specs.commands.Sessions.{permitted, check, drop, end}
 use Rattle.model.specs.declared.Command.{Command}
 use Rattle.model.specs.declared.Command.the-variants.{AddUser, AddRole, NoUser, NoRole, Assign, Deassign, Grant, Revoke, Inherit, Disinherit, MakeSet, DropSet, AddMember, DropMember, SetCardinality, OpenSession, Activate, DropActive, EndSession}
-use Rattle.model.specs.declared.Kind.{Kind}
 use Rattle.model.specs.declared.Kind.the-variants.{Static, Dynamic}
 use Rattle.sound.proofs.Asked.{opened-asks-all, room-asks-all}
 use Rattle.sound.proofs.Breaking.{breaks-exact}
@@ -32,8 +31,7 @@ use Rattle.sound.proofs.Sets.{shape-of}
 use Rattle.sound.proofs.Shedding.{inSet-exact}
 use Rattle.sound.proofs.Sheet.{AllClear, positive, ordered, clear-done, done-clear, verdict-here, verdict-later, verdict-lowest, settle-answer, settle-done, settle-refused, settle-same}
 use Rattle.sound.proofs.Words.{effective-exact, permitted-exact, listed-within}
-use Rattle.demands.specs.Authorised.{Effective}
-use Rattle.demands.specs.Demand2.{Demand2, Exactly, Obeys, Answers, Applies, FirstToApply, place, refusals, results, effect, checkRefusals, Checked, Granted, Conditions, wouldBreak, StaticBroken, DynamicBroken}
+use Rattle.demands.specs.Demand2.{Demand2, Exactly, Obeys, Answers, Applies, FirstToApply, place, refusals, results, effect, checkRefusals, Granted, Conditions, wouldBreak, StaticBroken, DynamicBroken}
 use Rattle.demands.specs.Reachable.{Reachable}
 use Rattle.demands.proofs.Kept.{reachable-sound}
 

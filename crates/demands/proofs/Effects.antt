@@ -1,12 +1,12 @@
 -- What each command changes, member by member. Assumes nothing.
 use mathlib.Core.Bool.{Bool, true, false, not, _&&_, _||_, and-true, and-false, or-false}
-use mathlib.Core.List.{List, [], _∷_}
+use mathlib.Core.List.{List}
 use mathlib.Core.Logic.{_↔_}
 use mathlib.Core.Path.{_≡_, refl, sym, ap, subst, _∙_}
-use Prim.Native.Nat.{ℕ, _≤_, _<_, _^_}
+use Prim.Native.Nat.{ℕ, _<_, _^_}
 use native.Mathlib.Omega.{arith}
 use native.Mathlib.Decide.{decLt}
-use lib.Dec.{eqb, leb}
+use lib.Dec.{eqb}
 use borrow.Author.Tests.{eqb-true, eqb-false, eq-eqb, ne-eqb, leb-false, not-false}
 use Rattle.roleset.specs.Roles.{has, with, without, none}
 use Rattle.roleset.proofs.BoundedLaws.{clash, agree}
@@ -24,8 +24,8 @@ use Rattle.model.specs.commands.Naming as naming
 use Rattle.model.specs.commands.Users.{endedOf, allEnded, withoutUser, withoutRole}
 use Rattle.model.specs.commands.Assigning.{assigned, deassigned, granted, revoked}
 use Rattle.model.specs.commands.Inheriting.{lined, unlined}
-use Rattle.model.specs.commands.Sets.{setsOf, withSets, aSet, setMissing}
-use Rattle.model.specs.commands.Sessions.{lowestFree, sessionSet, opened, activeSet, notOwner}
+use Rattle.model.specs.commands.Sets.{setsOf, aSet}
+use Rattle.model.specs.commands.Sessions.{lowestFree, sessionSet, opened, activeSet}
 use Rattle.model.specs.declared.Command.{Command}
 use Rattle.model.specs.declared.Command.the-variants.{AddUser, AddRole, NoUser, NoRole, Assign, Deassign, Grant, Revoke, Inherit, Disinherit, MakeSet, DropSet, AddMember, DropMember, SetCardinality, OpenSession, Activate, DropActive, EndSession}
 use Rattle.model.specs.declared.Kind.{Kind}
@@ -39,7 +39,6 @@ use Rattle.sound.proofs.Words.{authorised-exact, setOf-exact, shed-stays, shed-
 use Rattle.demands.specs.Authorised.{Authorised}
 use Rattle.demands.specs.Demand2.{refusals, results, effect, setMade}
 use Rattle.demands.specs.Effects.{Effects, Changed, Added, Removed, Shed, SetBecomes, SessionBecomes}
-use Rattle.demands.specs.Reachable.{Reachable}
 use Rattle.demands.proofs.Demand2.{demand2, as-listed, in-order}
 use Rattle.demands.proofs.Kept.{reachable-sound, step-sound}
 

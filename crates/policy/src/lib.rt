@@ -77,3 +77,10 @@ pub fn full(table: &[u64], most: u16) -> bool
     }
     most as u32 <= n
 }
+
+// A refusal: its answer, and the state as it was.
+pub fn refused(answer: Answer, state: State) -> Outcome
+    ensures { λ o. ⌜ o ≡ record { answer = answer; state = state } ⌝ }
+{
+    Outcome { answer, state }
+}

@@ -81,11 +81,7 @@ fn set_fine(set: RoleSet, roles: u64) -> bool
     if set.there {
         return roleset::subset(set.roles, roles);
     }
-    if set.card == 0 {
-        set.roles == 0
-    } else {
-        false
-    }
+    if set.card == 0 { set.roles == 0 } else { false }
 }
 
 fn sets_fine(sets: [RoleSet; 16], roles: u64) -> bool

@@ -18,7 +18,7 @@ use Rattle.text.specs.Bytes.{two, section}
 use Rattle.text.specs.Places.{wordAt, readSection}
 use Rattle.text.proofs.Reading.{Stands, stands-left, stands-right, word-back, each-member, section-back}
 use Rattle.policyform.specs.Encode.{roleList, pairEntry, pairIn, grantEntry, grantIn, setEntry, sessionEntry, usersPart, grantsPart, setsPart, sessionsPart}
-use Rattle.policyread.specs.Steps.{mark, readUser, readRole, readRoles, readPair, readGrant, readSet, readSession, Got}
+use Rattle.policyread.specs.Steps.{mark, readUser, readRole, readRoles, readPair, readGrant, readSet, readSession}
 use Rattle.policyread.proofs.Folds.{roles-back, records-back, Numbered, grid-back}
 
 -- the part was read: the place is past it, and the array holds the table
@@ -27,10 +27,10 @@ pub record Back {B : Type 0} (d : B) (at place : ℕ) (part : List ℕ) (after :
   pub is : _≡_ {A = ℕ → B} (λ k. getD after k d) table
 
 module _ (bytes : List ℕ) where
-  pub users-read : (f : ℕ → Bool) → ((k : ℕ) → f k ≡ true → k < 256) → (at most place : ℕ) (l after : List Bool) (rest : List ℕ) → length l ≡ 256 → ((k : ℕ) → getD l k false ≡ false) → Stands bytes at (usersPart f) rest → Got (readSection bytes 256 (readUser bytes) at l) at most place after → Back false at place (usersPart f) after f
+  pub users-read : (f : ℕ → Bool) → ((k : ℕ) → f k ≡ true → k < 256) → (at place : ℕ) (l after : List Bool) (rest : List ℕ) → length l ≡ 256 → ((k : ℕ) → getD l k false ≡ false) → Stands bytes at (usersPart f) rest → (place, after) ≡ readSection bytes 256 (readUser bytes) at l → Back false at place (usersPart f) after f
   unfolding readUser
-  users-read f small at most place l after rest long none s g =
-      let e = g .is ∙ section-back bytes two (λ (t : List Bool) (n : ℕ). set t n (f n)) (readUser bytes) (λ k. (k < 256) × (f k ≡ true)) one 256 (omega arith) (members 256 f) (members-most 256 f) (each-member 256 f) at l rest s in
+  users-read f small at place l after rest long none s g =
+      let e = g ∙ section-back bytes two (λ (t : List Bool) (n : ℕ). set t n (f n)) (readUser bytes) (λ k. (k < 256) × (f k ≡ true)) one 256 (omega arith) (members 256 f) (members-most 256 f) (each-member 256 f) at l rest s in
       record { next = ap (λ (q : ℕ × List Bool). q .0) e; is = ap {B = ℕ → Bool} (λ (q : ℕ × List Bool) (k : ℕ). getD (q .1) k false) e ∙ records-back false f f 256 (λ k x. x) small l long none }
     where
       one : (k at : ℕ) (a : List Bool) (rest : List ℕ) → (k < 256) × (f k ≡ true) → Stands bytes at (two k) rest → readUser bytes (at, a) ≡ (at + length (two k), set a k (f k))
@@ -45,25 +45,27 @@ module _ (bytes : List ℕ) where
       one : (k at : ℕ) (a : ℕ) (rest : List ℕ) → (k < 64) × (has r k ≡ true) → Stands bytes at (two k) rest → readRole bytes (at, a) ≡ (at + length (two k), with a k)
       one k at a rest p s = (ap (λ (i : ℕ). (at + 2, with a i)) (word-back k (omega (arith, p .0)) s))
 
-  pub pairs-read : (size limit : ℕ) → size ≤ 256 → limit < 65536 → (table : ℕ → ℕ) → ((i : ℕ) → table i < 2 ^ 64) → ((i : ℕ) → size ≤ i → table i ≡ 0) → length (members (64 * size) (pairIn table)) ≤ limit → (at most place : ℕ) (l after : List ℕ) (rest : List ℕ) → length l ≡ size → ((k : ℕ) → getD l k 0 ≡ 0) → Stands bytes at (section pairEntry (members (64 * size) (pairIn table))) rest → Got (readSection bytes limit (readPair bytes) at l) at most place after → Back 0 at place (section pairEntry (members (64 * size) (pairIn table))) after table
+  pub pairs-read : (size limit : ℕ) → size ≤ 256 → limit < 65536 → (table : ℕ → ℕ) → ((i : ℕ) → table i < 2 ^ 64) → ((i : ℕ) → size ≤ i → table i ≡ 0) → length (members (64 * size) (pairIn table)) ≤ limit → (at place : ℕ) (l after : List ℕ) (rest : List ℕ) → length l ≡ size → ((k : ℕ) → getD l k 0 ≡ 0) → Stands bytes at (section pairEntry (members (64 * size) (pairIn table))) rest → (place, after) ≡ readSection bytes limit (readPair bytes) at l → Back 0 at place (section pairEntry (members (64 * size) (pairIn table))) after table
   unfolding readPair
-  pairs-read size limit few low table small none counted at most place l after rest long empty s g =
-      let e = g .is ∙ section-back bytes pairEntry (λ (t : List ℕ) (k : ℕ). mark t (k / 64) (k % 64)) (readPair bytes) (λ k. (k < 64 * size) × (pairIn table k ≡ true)) one limit low (members (64 * size) (pairIn table)) counted (each-member (64 * size) (pairIn table)) at l rest s in
+  pairs-read size limit few low table small none counted at place l after rest long empty s g =
+      let e = g ∙ section-back bytes pairEntry (λ (t : List ℕ) (k : ℕ). mark t (k / 64) (k % 64)) (readPair bytes) (λ k. (k < 64 * size) × (pairIn table k ≡ true)) one limit low (members (64 * size) (pairIn table)) counted (each-member (64 * size) (pairIn table)) at l rest s in
       record { next = ap (λ (q : ℕ × List ℕ). q .0) e; is = ap {B = ℕ → ℕ} (λ (q : ℕ × List ℕ) (k : ℕ). getD (q .1) k 0) e ∙ grid-back size (64 * size) (λ k. k / 64) (λ k. k % 64) (λ i r. 64 * i + r) fit table small none l long empty }
     where
       fit : Numbered size (64 * size) (λ k. k / 64) (λ k. k % 64) (λ i r. 64 * i + r)
       fit = record { within = λ i r h p. omega arith; place = λ i r h p. omega arith; role = λ i r h p. omega arith; number = λ k. omega arith }
+
       one : (k at : ℕ) (a : List ℕ) (rest : List ℕ) → (k < 64 * size) × (pairIn table k ≡ true) → Stands bytes at (pairEntry k) rest → readPair bytes (at, a) ≡ (at + length (pairEntry k), mark a (k / 64) (k % 64))
       one k at a rest p s = (ap₂ (λ (i r : ℕ). (at + 4, mark a i r)) (word-back (k / 64) (omega (arith, p .0)) (stands-left (two (k / 64)) (two (k % 64)) s)) (word-back (k % 64) (omega arith) (stands-right (two (k / 64)) (two (k % 64)) s)))
 
-  pub grants-read : (table : ℕ → ℕ) → ((i : ℕ) → table i < 2 ^ 64) → ((i : ℕ) → 4096 ≤ i → table i ≡ 0) → length (members 262144 (grantIn table)) ≤ 2048 → (at most place : ℕ) (l after : List ℕ) (rest : List ℕ) → length l ≡ 4096 → ((k : ℕ) → getD l k 0 ≡ 0) → Stands bytes at (grantsPart table) rest → Got (readSection bytes 2048 (readGrant bytes) at l) at most place after → Back 0 at place (grantsPart table) after table
+  pub grants-read : (table : ℕ → ℕ) → ((i : ℕ) → table i < 2 ^ 64) → ((i : ℕ) → 4096 ≤ i → table i ≡ 0) → length (members 262144 (grantIn table)) ≤ 2048 → (at place : ℕ) (l after : List ℕ) (rest : List ℕ) → length l ≡ 4096 → ((k : ℕ) → getD l k 0 ≡ 0) → Stands bytes at (grantsPart table) rest → (place, after) ≡ readSection bytes 2048 (readGrant bytes) at l → Back 0 at place (grantsPart table) after table
   unfolding readGrant
-  grants-read table small none counted at most place l after rest long empty s g =
-      let e = g .is ∙ section-back bytes grantEntry (λ (t : List ℕ) (k : ℕ). mark t (k % 4096) (k / 4096)) (readGrant bytes) (λ k. (k < 262144) × (grantIn table k ≡ true)) one 2048 (omega arith) (members 262144 (grantIn table)) counted (each-member 262144 (grantIn table)) at l rest s in
+  grants-read table small none counted at place l after rest long empty s g =
+      let e = g ∙ section-back bytes grantEntry (λ (t : List ℕ) (k : ℕ). mark t (k % 4096) (k / 4096)) (readGrant bytes) (λ k. (k < 262144) × (grantIn table k ≡ true)) one 2048 (omega arith) (members 262144 (grantIn table)) counted (each-member 262144 (grantIn table)) at l rest s in
       record { next = ap (λ (q : ℕ × List ℕ). q .0) e; is = ap {B = ℕ → ℕ} (λ (q : ℕ × List ℕ) (k : ℕ). getD (q .1) k 0) e ∙ grid-back 4096 262144 (λ k. k % 4096) (λ k. k / 4096) (λ i r. 4096 * r + i) fit table small none l long empty }
     where
       fit : Numbered 4096 262144 (λ k. k % 4096) (λ k. k / 4096) (λ i r. 4096 * r + i)
       fit = record { within = λ i r h p. omega arith; place = λ i r h p. omega arith; role = λ i r h p. omega arith; number = λ k. omega arith }
+
       one : (k at : ℕ) (a : List ℕ) (rest : List ℕ) → (k < 262144) × (grantIn table k ≡ true) → Stands bytes at (grantEntry k) rest → readGrant bytes (at, a) ≡ (at + length (grantEntry k), mark a (k % 4096) (k / 4096))
       one k at a rest p s =
           let two-on = stands-right (two (k / 4096)) (two (k % 4096 / 256) ++ two (k % 256)) s in
@@ -79,15 +81,18 @@ module _ (bytes : List ℕ) where
   entry-read at x y r rest h k l s =
       let second = stands-right (two x) (two y ++ roleList r) s in
       let four : at + 4 ≡ at + 2 + 2 = omega arith in
-      let size : at + 2 + 2 + length (roleList r) ≡ at + length (two x ++ (two y ++ roleList r)) = omega arith in
-      (word-back x h (stands-left (two x) (two y ++ roleList r) s),
-      (word-back y k (stands-left (two y) (roleList r) second),
-      ap (readRoles bytes) four ∙ roles-read r (at + 2 + 2) rest l (stands-right (two y) (roleList r) second) ∙ ap (λ (n : ℕ). (n, r)) size))
+      let size : at + 2 + 2 + length (roleList r) ≡ at + length (two x ++ (two y ++ roleList r)) = omega arith in (
+        word-back x h (stands-left (two x) (two y ++ roleList r) s),
+        (
+          word-back y k (stands-left (two y) (roleList r) second),
+          ap (readRoles bytes) four ∙ roles-read r (at + 2 + 2) rest l (stands-right (two y) (roleList r) second) ∙ ap (λ (n : ℕ). (n, r)) size,
+        ),
+      )
 
-  pub sets-read : (sets : ℕ → RoleSet) → ((n : ℕ) → sets n .there ≡ false → sets n ≡ noSet) → ((n : ℕ) → sets n .there ≡ true → n < 16) → ((n : ℕ) → sets n .card < 65536) → ((n : ℕ) → sets n .roles < 2 ^ 64) → (at most place : ℕ) (l after : List RoleSet) (rest : List ℕ) → length l ≡ 16 → ((k : ℕ) → getD l k noSet ≡ noSet) → Stands bytes at (setsPart sets) rest → Got (readSection bytes 16 (readSet bytes) at l) at most place after → Back noSet at place (setsPart sets) after sets
+  pub sets-read : (sets : ℕ → RoleSet) → ((n : ℕ) → sets n .there ≡ false → sets n ≡ noSet) → ((n : ℕ) → sets n .there ≡ true → n < 16) → ((n : ℕ) → sets n .card < 65536) → ((n : ℕ) → sets n .roles < 2 ^ 64) → (at place : ℕ) (l after : List RoleSet) (rest : List ℕ) → length l ≡ 16 → ((k : ℕ) → getD l k noSet ≡ noSet) → Stands bytes at (setsPart sets) rest → (place, after) ≡ readSection bytes 16 (readSet bytes) at l → Back noSet at place (setsPart sets) after sets
   unfolding readSet
-  sets-read sets absent named card roles at most place l after rest long none s g =
-      let e = g .is ∙ section-back bytes (setEntry sets) (λ (t : List RoleSet) (n : ℕ). set t n (sets n)) (readSet bytes) (λ k. (k < 16) × (sets k .there ≡ true)) one 16 (omega arith) (members 16 (λ n. sets n .there)) (members-most 16 (λ n. sets n .there)) (each-member 16 (λ n. sets n .there)) at l rest s in
+  sets-read sets absent named card roles at place l after rest long none s g =
+      let e = g ∙ section-back bytes (setEntry sets) (λ (t : List RoleSet) (n : ℕ). set t n (sets n)) (readSet bytes) (λ k. (k < 16) × (sets k .there ≡ true)) one 16 (omega arith) (members 16 (λ n. sets n .there)) (members-most 16 (λ n. sets n .there)) (each-member 16 (λ n. sets n .there)) at l rest s in
       record { next = ap (λ (q : ℕ × List RoleSet). q .0) e; is = ap {B = ℕ → RoleSet} (λ (q : ℕ × List RoleSet) (k : ℕ). getD (q .1) k noSet) e ∙ records-back noSet sets (λ n. sets n .there) 16 absent named l long none }
     where
       one : (k at : ℕ) (a : List RoleSet) (rest : List ℕ) → (k < 16) × (sets k .there ≡ true) → Stands bytes at (setEntry sets k) rest → readSet bytes (at, a) ≡ (at + length (setEntry sets k), set a k (sets k))
@@ -97,10 +102,10 @@ module _ (bytes : List ℕ) where
           ∙ ap₂ (λ (i n : ℕ). (at + length (setEntry sets k), set a i (record { there = true; card = n; roles = sets k .roles }))) (e .0) (e .1 .0)
           ∙ ap (λ (b : Bool). (at + length (setEntry sets k), set a k (record { there = b; card = sets k .card; roles = sets k .roles }))) (sym (p .1)))
 
-  pub sessions-read : (sessions : ℕ → Session) → ((n : ℕ) → sessions n .live ≡ false → sessions n ≡ noSession) → ((n : ℕ) → sessions n .live ≡ true → n < 64) → ((n : ℕ) → sessions n .owner < 256) → ((n : ℕ) → sessions n .active < 2 ^ 64) → (at most place : ℕ) (l after : List Session) (rest : List ℕ) → length l ≡ 64 → ((k : ℕ) → getD l k noSession ≡ noSession) → Stands bytes at (sessionsPart sessions) rest → Got (readSection bytes 64 (readSession bytes) at l) at most place after → Back noSession at place (sessionsPart sessions) after sessions
+  pub sessions-read : (sessions : ℕ → Session) → ((n : ℕ) → sessions n .live ≡ false → sessions n ≡ noSession) → ((n : ℕ) → sessions n .live ≡ true → n < 64) → ((n : ℕ) → sessions n .owner < 256) → ((n : ℕ) → sessions n .active < 2 ^ 64) → (at place : ℕ) (l after : List Session) (rest : List ℕ) → length l ≡ 64 → ((k : ℕ) → getD l k noSession ≡ noSession) → Stands bytes at (sessionsPart sessions) rest → (place, after) ≡ readSection bytes 64 (readSession bytes) at l → Back noSession at place (sessionsPart sessions) after sessions
   unfolding readSession
-  sessions-read sessions closed numbered owner active at most place l after rest long none s g =
-      let e = g .is ∙ section-back bytes (sessionEntry sessions) (λ (t : List Session) (n : ℕ). set t n (sessions n)) (readSession bytes) (λ k. (k < 64) × (sessions k .live ≡ true)) one 64 (omega arith) (members 64 (λ n. sessions n .live)) (members-most 64 (λ n. sessions n .live)) (each-member 64 (λ n. sessions n .live)) at l rest s in
+  sessions-read sessions closed numbered owner active at place l after rest long none s g =
+      let e = g ∙ section-back bytes (sessionEntry sessions) (λ (t : List Session) (n : ℕ). set t n (sessions n)) (readSession bytes) (λ k. (k < 64) × (sessions k .live ≡ true)) one 64 (omega arith) (members 64 (λ n. sessions n .live)) (members-most 64 (λ n. sessions n .live)) (each-member 64 (λ n. sessions n .live)) at l rest s in
       record { next = ap (λ (q : ℕ × List Session). q .0) e; is = ap {B = ℕ → Session} (λ (q : ℕ × List Session) (k : ℕ). getD (q .1) k noSession) e ∙ records-back noSession sessions (λ n. sessions n .live) 64 closed numbered l long none }
     where
       one : (k at : ℕ) (a : List Session) (rest : List ℕ) → (k < 64) × (sessions k .live ≡ true) → Stands bytes at (sessionEntry sessions k) rest → readSession bytes (at, a) ≡ (at + length (sessionEntry sessions k), set a k (sessions k))

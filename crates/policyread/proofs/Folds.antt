@@ -41,6 +41,7 @@ module _ {A : Type 0} (d : A) (g : ℕ → A) (test : ℕ → Bool) (size : ℕ)
     where
       inside : n < size
       inside = small n e
+
       go : (k : ℕ) → (k ≡ n) ⊎ (k < n) → getD (set l n (g n)) k d ≡ g k
       go k (inl q) = rw q (getD-set-same l n (g n) d (omega (arith, p .long, inside)))
       go k (inr q) = getD-set-other l n k (g n) d (λ r. omega arith) ∙ p .done k q
@@ -57,9 +58,11 @@ module _ {A : Type 0} (d : A) (g : ℕ → A) (test : ℕ → Bool) (size : ℕ)
     where
       all : Placed size (foldl (λ (t : List A) (n : ℕ). set t n (g n)) l (members size test))
       all = fold-members (λ (t : List A) (n : ℕ). set t n (g n)) test Placed placed-taken placed-left size l (record { long = long; done = λ k h. absurd (omega arith); left = λ k h. none k })
+
       outside : (k : ℕ) → size ≤ k → (b : Bool) → test k ≡ b → test k ≡ false
       outside k h true e = let s = small k e in absurd (omega arith)
       outside k h false e = e
+
       go : (k : ℕ) → Dec (k < size) → getD (foldl (λ (t : List A) (n : ℕ). set t n (g n)) l (members size test)) k d ≡ g k
       go k (yes p) = all .done k p
       go k (no p) = all .left k (omega arith) ∙ sym (absent k (outside k (omega arith) (test k) refl))
@@ -103,12 +106,14 @@ roles-back r h =
   where
     start : Gathered r 0 0
     start = record { small = omega arith; each = λ k l. has-none k ∙ sym (rw (le-ltb k 0 (omega arith))) }
+
     taken : (n s : ℕ) → has r n ≡ true → Gathered r n s → Gathered r (n + 1) (with s n)
     taken n s e g = record { small = with-small s n; each = λ k l. has-with s n k l ∙ go k l (eqb k n) refl }
       where
         go : (k : ℕ) → k < 64 → (b : Bool) → eqb k n ≡ b → (has s k || eqb k n) ≡ (ltb k (n + 1) && has r k)
         go k l true q = let p = eqb-true k n q in rw q (or-yes (has s k) ∙ sym (rw (lt-ltb k (n + 1) (omega arith), p, e)))
         go k l false q = rw q (or-no (has s k) ∙ g .each k l ∙ sym (below-next k n (has r k) (eqb-false k n q)))
+
     left : (n s : ℕ) → has r n ≡ false → Gathered r n s → Gathered r (n + 1) s
     left n s e g = record { small = g .small; each = λ k l. g .each k l ∙ sym (go k (eqb k n) refl) }
       where
@@ -143,16 +148,21 @@ module _ (size all : ℕ) (row col : ℕ → ℕ) (num : ℕ → ℕ → ℕ) (f
       within : Dec (row n < size) → row n < size
       within (yes p) = p
       within (no p) = clash (has (table (row n)) (col n)) e (ap (λ (s : ℕ). has s (col n)) (none (row n) (omega arith)) ∙ has-none (col n))
+
       inside : row n < size
       inside = within (decLt (row n) size)
+
       new : ℕ
       new = with (getD t (row n) 0) (col n)
+
       fine : (i : ℕ) → i < size → (b : Bool) → eqb i (row n) ≡ b → getD (set t (row n) new) i 0 < 2 ^ 64
       fine i h true q = rw (eqb-true i (row n) q, getD-set-same t (row n) new 0 (omega (arith, m .long, inside))) (with-small (getD t (row n) 0) (col n))
       fine i h false q = rw (getD-set-other t (row n) i new 0 (eqb-false i (row n) q)) (m .fine i h)
+
       here : (r : ℕ) → r < 64 → (b : Bool) → eqb r (col n) ≡ b → (has (getD t (row n) 0) r || eqb r (col n)) ≡ (ltb (num (row n) r) (n + 1) && has (table (row n)) r)
       here r l true q = let p = eqb-true r (col n) q in rw (q, p, fit .number n, lt-ltb n (n + 1) (omega arith), e) (or-yes (has (getD t (row n) 0) (col n)))
       here r l false q = rw q (or-no (has (getD t (row n) 0) r) ∙ m .each (row n) r inside l ∙ sym (below-next (num (row n) r) n (has (table (row n)) r) (other n (row n) r inside l (λ a b. eqb-false r (col n) q (sym b)))))
+
       each : (i r : ℕ) → i < size → r < 64 → (b : Bool) → eqb i (row n) ≡ b → has (getD (set t (row n) new) i 0) r ≡ (ltb (num i r) (n + 1) && has (table i) r)
       each i r h l true q = rw (eqb-true i (row n) q, getD-set-same t (row n) new 0 (omega (arith, m .long, inside))) (has-with (getD t (row n) 0) (col n) r l ∙ here r l (eqb r (col n)) refl)
       each i r h l false q = rw (getD-set-other t (row n) i new 0 (eqb-false i (row n) q)) (m .each i r h l ∙ sym (below-next (num i r) n (has (table i) r) (other n i r h l (λ a b. eqb-false i (row n) q (sym a)))))
@@ -172,6 +182,7 @@ module _ (size all : ℕ) (row col : ℕ → ℕ) (num : ℕ → ℕ → ℕ) (f
       done : Marked all (foldl (λ (t : List ℕ) (k : ℕ). mark t (row k) (col k)) l (members all (λ k. has (table (row k)) (col k))))
       done = fold-members (λ (t : List ℕ) (k : ℕ). mark t (row k) (col k)) (λ k. has (table (row k)) (col k)) Marked marked-taken marked-left all l
           (record { long = long; fine = λ i h. rw (empty i) (omega arith); each = λ i r h p. rw (empty i, le-ltb (num i r) 0 (omega arith)) (has-none r) })
+
       go : (i : ℕ) → Dec (i < size) → getD (foldl (λ (t : List ℕ) (k : ℕ). mark t (row k) (col k)) l (members all (λ k. has (table (row k)) (col k)))) i 0 ≡ table i
       go i (yes p) = ext _ (table i) (done .fine i p) (small i) (λ r h. done .each i r p h ∙ rw (lt-ltb (num i r) all (fit .within i r p h)))
       go i (no p) = List·getD-eq-default (foldl (λ (t : List ℕ) (k : ℕ). mark t (row k) (col k)) l (members all (λ k. has (table (row k)) (col k)))) 0 {n = i} (omega (arith, done .long)) ∙ sym (none i (omega arith))

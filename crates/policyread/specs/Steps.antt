@@ -31,14 +31,16 @@ unfoldable pub readRoles : List ℕ → ℕ → ℕ × ℕ
 readRoles bytes at = readSection bytes 64 (readRole bytes) at 0
 
 unfoldable pub readSet : List ℕ → ℕ × List RoleSet → ℕ × List RoleSet
-readSet bytes p =
-    (readRoles bytes (p .0 + 4) .0,
-    set (p .1) (wordAt bytes (p .0)) (record { there = true; card = wordAt bytes (p .0 + 2); roles = readRoles bytes (p .0 + 4) .1 }))
+readSet bytes p = (
+  readRoles bytes (p .0 + 4) .0,
+  set (p .1) (wordAt bytes (p .0)) (record { there = true; card = wordAt bytes (p .0 + 2); roles = readRoles bytes (p .0 + 4) .1 }),
+)
 
 unfoldable pub readSession : List ℕ → ℕ × List Session → ℕ × List Session
-readSession bytes p =
-    (readRoles bytes (p .0 + 4) .0,
-    set (p .1) (wordAt bytes (p .0)) (record { live = true; owner = wordAt bytes (p .0 + 2) % 256; active = readRoles bytes (p .0 + 4) .1 }))
+readSession bytes p = (
+  readRoles bytes (p .0 + 4) .0,
+  set (p .1) (wordAt bytes (p .0)) (record { live = true; owner = wordAt bytes (p .0 + 2) % 256; active = readRoles bytes (p .0 + 4) .1 }),
+)
 
 -- the section was read from a place, to the next place and what it holds; the next place is at most so far on
 pub record Got {A : Type 0} (read : ℕ × A) (at most place : ℕ) (after : A) : Type 0 where

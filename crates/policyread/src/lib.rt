@@ -55,10 +55,7 @@ fn read_users(bytes: &[u8], at: usize, none: [bool; 256]) -> Users
             users[u] = true;
         }
     }
-    Users {
-        at: next,
-        users,
-    }
+    Users { at: next, users }
 }
 
 // A list of roles: the section of roles, or the roles of a set or a session.
@@ -165,10 +162,7 @@ fn read_sessions(bytes: &[u8], at: usize, none: [SessionRecord; 64]) -> Sessions
             };
         }
     }
-    Sessions {
-        at: next,
-        sessions,
-    }
+    Sessions { at: next, sessions }
 }
 
 // The state that the bytes tell. Where they are the file of a model, it is this model.

@@ -55,6 +55,15 @@ fn put_roles(set: u64, out: &mut [u8], at: usize) -> usize
     next
 }
 
+// Two numbers.
+fn put_pair(first: usize, second: usize, out: &mut [u8], at: usize) -> usize
+    requires { ⌜ at < 2 ^ 33 ⌝ }
+    ensures { λ next. ⌜ Wrote (now (out .entry)) (now (out .exit)) at next (two first ++ two second) ⌝ }
+{
+    let middle = text::put_word(out, at, first);
+    text::put_word(out, middle, second)
+}
+
 // The lines, or the assignments: each pair of a place and a member of the set there.
 fn put_pairs(table: &[u64], out: &mut [u8], at: usize) -> usize
     requires { ⌜ (at < 2 ^ 32) × (length (now table) ≤ 256) ⌝ }
@@ -68,8 +77,7 @@ fn put_pairs(table: &[u64], out: &mut [u8], at: usize) -> usize
         let right = k % 64;
         k += 1;
         if roleset::has(table[left], right as u16) {
-            let middle = text::put_word(out, next, left);
-            next = text::put_word(out, middle, right);
+            next = put_pair(left, right, out, next);
             n += 1;
         }
     }
@@ -105,8 +113,7 @@ fn put_entry(first: usize, second: usize, roles: u64, out: &mut [u8], at: usize)
     requires { ⌜ at < 2 ^ 31 ⌝ }
     ensures { λ next. ⌜ Part (now (out .entry)) (now (out .exit)) at next 134 (two first ++ (two second ++ roleList roles)) ⌝ }
 {
-    let middle = text::put_word(out, at, first);
-    let list = text::put_word(out, middle, second);
+    let list = put_pair(first, second, out, at);
     put_roles(roles, out, list)
 }
 

@@ -13,6 +13,7 @@ use policy::Outcome;
 use policy::State;
 use policy::naming::either;
 use policy::naming::permission_beyond;
+use policy::refused;
 
 // The session that was opened, and the state after it; session 0 on a refusal.
 pub struct Opened {
@@ -31,13 +32,6 @@ pub struct Checked {
 pub struct Owned {
     pub answer: Answer,
     pub owner: User,
-}
-
-// A refusal: the state is as it was.
-fn refused(answer: Answer, state: State) -> Outcome
-    ensures { λ o. ⌜ o ≡ record { answer = answer; state = state } ⌝ }
-{
-    Outcome { answer, state }
 }
 
 // A refusal of `session`: none is opened, and the state is as it was.

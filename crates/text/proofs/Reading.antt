@@ -52,6 +52,7 @@ each-member n test = go n (omega arith)
     only : (b : Bool) (i : ℕ) → i < n → test i ≡ b → Each (λ k. (k < n) × (test k ≡ true)) (onlyIf b i)
     only true i h e = ((h, e), tt)
     only false i h e = tt
+
     go : (i : ℕ) → i ≤ n → Each (λ k. (k < n) × (test k ≡ true)) (members i test)
     go zero h = tt
     go (suc i) h = each-append (λ k. (k < n) × (test k ≡ true)) (members i test) (onlyIf (test i) i) (go i (omega arith)) (only (test i) i (omega arith) refl)

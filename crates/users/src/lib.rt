@@ -10,23 +10,18 @@ use numbers::User;
 use policy::Outcome;
 use policy::State;
 use policy::naming::either;
+use policy::refused;
 
 // The user exists from now on; 1, 4.
 pub fn user(s: State, u: User) -> Outcome
     ensures { λ o. ⌜ seen o ≡ user (view s) (u .number) ⌝ }
 {
     if numbers::user_beyond(u) {
-        return Outcome {
-            answer: Answer::BeyondRange,
-            state: s,
-        };
+        return refused(Answer::BeyondRange, s);
     }
     let at = u.number as usize;
     if s.users[at] {
-        return Outcome {
-            answer: Answer::AlreadyThere,
-            state: s,
-        };
+        return refused(Answer::AlreadyThere, s);
     }
     let mut after = s;
     after.users[at] = true;
@@ -41,16 +36,10 @@ pub fn role(s: State, r: Role) -> Outcome
     ensures { λ o. ⌜ seen o ≡ role (view s) (r .number) ⌝ }
 {
     if numbers::role_beyond(r) {
-        return Outcome {
-            answer: Answer::BeyondRange,
-            state: s,
-        };
+        return refused(Answer::BeyondRange, s);
     }
     if roleset::has(s.roles, r.number) {
-        return Outcome {
-            answer: Answer::AlreadyThere,
-            state: s,
-        };
+        return refused(Answer::AlreadyThere, s);
     }
     let mut after = s;
     after.roles = roleset::with(s.roles, r.number);
@@ -65,17 +54,11 @@ pub fn nouser(s: State, u: User) -> Outcome
     ensures { λ o. ⌜ seen o ≡ nouser (view s) (u .number) ⌝ }
 {
     if numbers::user_beyond(u) {
-        return Outcome {
-            answer: Answer::BeyondRange,
-            state: s,
-        };
+        return refused(Answer::BeyondRange, s);
     }
     let at = u.number as usize;
     if !s.users[at] {
-        return Outcome {
-            answer: Answer::Missing,
-            state: s,
-        };
+        return refused(Answer::Missing, s);
     }
     let sessions = s.sessions;
     let left = sweeps::end_all(sessions, u);
@@ -109,24 +92,15 @@ pub fn norole(s: State, r: Role) -> Outcome
     ensures { λ o. ⌜ seen o ≡ norole (view s) (r .number) ⌝ }
 {
     if numbers::role_beyond(r) {
-        return Outcome {
-            answer: Answer::BeyondRange,
-            state: s,
-        };
+        return refused(Answer::BeyondRange, s);
     }
     if !roleset::has(s.roles, r.number) {
-        return Outcome {
-            answer: Answer::Missing,
-            state: s,
-        };
+        return refused(Answer::Missing, s);
     }
     let ssd = s.ssd;
     let dsd = s.dsd;
     if either(in_set(ssd, r), in_set(dsd, r)) {
-        return Outcome {
-            answer: Answer::StandsInSet,
-            state: s,
-        };
+        return refused(Answer::StandsInSet, s);
     }
     let at = r.number as usize;
     let mut juniors = s.juniors;
@@ -137,10 +111,7 @@ pub fn norole(s: State, r: Role) -> Outcome
     let sessions = s.sessions;
     let kept = sweeps::shed(&juniors, &assigned, sessions);
     if kept.cut {
-        return Outcome {
-            answer: Answer::ChainTooLong,
-            state: s,
-        };
+        return refused(Answer::ChainTooLong, s);
     }
     let mut holders = s.holders;
     sweeps::strip(&mut holders, r.number);

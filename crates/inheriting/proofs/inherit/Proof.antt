@@ -86,9 +86,12 @@ role-beyond-requires-2 c κs = search needs
 either-requires : tie.Need-either-requires
 either-requires c κs = search needs
 
+refused-requires : tie.Need-refused-requires
+refused-requires c κs = search needs
+
 returns : tie.Need-returns
 unfolding seen inherit settle verdict
-returns c = rw (beyond (c .before) ∙ c .if1 .taken)
+returns c = rw (c .refused .ensures, beyond (c .before .before) ∙ c .before .if1 .taken)
 
 has-requires : tie.Need-has-requires
 has-requires c κs = search needs
@@ -99,9 +102,12 @@ has-requires-2 c κs = search needs
 either-requires-2 : tie.Need-either-requires-2
 either-requires-2 c κs = search needs
 
+refused-requires-2 : tie.Need-refused-requires-2
+refused-requires-2 c κs = search needs
+
 returns-2 : tie.Need-returns-2
 unfolding seen inherit settle verdict
-returns-2 c = rw (beyond (c .before .before .before .before .before) ∙ c .before .before .before .before .if1 .left, missing (c .before) ∙ c .if2 .taken)
+returns-2 c = rw (c .refused2 .ensures, beyond (c .before .before .before .before .before .before) ∙ c .before .before .before .before .before .if1 .left, missing (c .before .before) ∙ c .before .if2 .taken)
 
 cast-at : tie.Need-cast-at
 cast-at c = search needs
@@ -115,9 +121,12 @@ element-copy-out-has c = within (c .before .before .before .before .before)
 has-requires-3 : tie.Need-has-requires-3
 has-requires-3 c κs = search needs
 
+refused-requires-3 : tie.Need-refused-requires-3
+refused-requires-3 c κs = search needs
+
 returns-3 : tie.Need-returns-3
 unfolding seen inherit settle verdict
-returns-3 c = rw (beyond (c .before .before .before .before .before .before .before .before .before) ∙ c .before .before .before .before .before .before .before .before .if1 .left, missing (c .before .before .before .before .before) ∙ c .before .before .before .before .if2 .left, there (c .before) ∙ c .if3 .taken)
+returns-3 c = rw (c .refused3 .ensures, beyond (c .before .before .before .before .before .before .before .before .before .before) ∙ c .before .before .before .before .before .before .before .before .before .if1 .left, missing (c .before .before .before .before .before .before) ∙ c .before .before .before .before .before .if2 .left, there (c .before .before) ∙ c .before .if3 .taken)
 
 with-requires : tie.Need-with-requires
 with-requires c κs = search needs
@@ -128,9 +137,12 @@ reach-requires c κs = search needs
 has-requires-4 : tie.Need-has-requires-4
 has-requires-4 c κs = search needs
 
+refused-requires-4 : tie.Need-refused-requires-4
+refused-requires-4 c κs = search needs
+
 returns-4 : tie.Need-returns-4
 unfolding seen inherit settle verdict
-returns-4 c = rw (beyond (c .before .before .before .before .before .before .before .before .before .before .before .before .before .before .before) ∙ c .before .before .before .before .before .before .before .before .before .before .before .before .before .before .if1 .left, missing (c .before .before .before .before .before .before .before .before .before .before .before) ∙ c .before .before .before .before .before .before .before .before .before .before .if2 .left, there (c .before .before .before .before .before .before .before) ∙ c .before .before .before .before .before .before .if3 .left, circling (c .before) ∙ c .if4 .taken)
+returns-4 c = rw (c .refused4 .ensures, beyond (c .before .before .before .before .before .before .before .before .before .before .before .before .before .before .before .before) ∙ c .before .before .before .before .before .before .before .before .before .before .before .before .before .before .before .if1 .left, missing (c .before .before .before .before .before .before .before .before .before .before .before .before) ∙ c .before .before .before .before .before .before .before .before .before .before .before .if2 .left, there (c .before .before .before .before .before .before .before .before) ∙ c .before .before .before .before .before .before .before .if3 .left, circling (c .before .before) ∙ c .before .if4 .taken)
 
 mul-with : tie.Need-mul-with
 mul-with c = search needs
@@ -156,23 +168,32 @@ slice-aggregate-some-breaks-some c = search needs
 some-breaks-some-requires : tie.Need-some-breaks-some-requires
 some-breaks-some-requires c κs = search needs
 
+refused-requires-5 : tie.Need-refused-requires-5
+refused-requires-5 c κs = search needs
+
 returns-5 : tie.Need-returns-5
 unfolding seen inherit settle verdict
-returns-5 c = rw (beyond (c .before .before .before .before .before .before .before .before .before .before .before .before .before .before .before .before .before .before .before .before .before .before .before .before .before .before) ∙ c .before .before .before .before .before .before .before .before .before .before .before .before .before .before .before .before .before .before .before .before .before .before .before .before .before .if1 .left, missing (c .before .before .before .before .before .before .before .before .before .before .before .before .before .before .before .before .before .before .before .before .before .before) ∙ c .before .before .before .before .before .before .before .before .before .before .before .before .before .before .before .before .before .before .before .before .before .if2 .left, there (c .before .before .before .before .before .before .before .before .before .before .before .before .before .before .before .before .before .before) ∙ c .before .before .before .before .before .before .before .before .before .before .before .before .before .before .before .before .before .if3 .left, circling (c .before .before .before .before .before .before .before .before .before .before .before .before) ∙ c .before .before .before .before .before .before .before .before .before .before .before .if4 .left, breaking (c .before) ∙ c .if5 .taken)
+returns-5 c = rw (c .refused5 .ensures, beyond (c .before .before .before .before .before .before .before .before .before .before .before .before .before .before .before .before .before .before .before .before .before .before .before .before .before .before .before) ∙ c .before .before .before .before .before .before .before .before .before .before .before .before .before .before .before .before .before .before .before .before .before .before .before .before .before .before .if1 .left, missing (c .before .before .before .before .before .before .before .before .before .before .before .before .before .before .before .before .before .before .before .before .before .before .before) ∙ c .before .before .before .before .before .before .before .before .before .before .before .before .before .before .before .before .before .before .before .before .before .before .if2 .left, there (c .before .before .before .before .before .before .before .before .before .before .before .before .before .before .before .before .before .before .before) ∙ c .before .before .before .before .before .before .before .before .before .before .before .before .before .before .before .before .before .before .if3 .left, circling (c .before .before .before .before .before .before .before .before .before .before .before .before .before) ∙ c .before .before .before .before .before .before .before .before .before .before .before .before .if4 .left, breaking (c .before .before) ∙ c .before .if5 .taken)
 
 full-requires : tie.Need-full-requires
 full-requires c κs = search needs
 
+refused-requires-6 : tie.Need-refused-requires-6
+refused-requires-6 c κs = search needs
+
 returns-6 : tie.Need-returns-6
 unfolding seen inherit settle verdict
-returns-6 c = rw (beyond (c .before .before .before .before .before .before .before .before .before .before .before .before .before .before .before .before .before .before .before .before .before .before .before .before .before .before .before .before .before .before .before) ∙ c .before .before .before .before .before .before .before .before .before .before .before .before .before .before .before .before .before .before .before .before .before .before .before .before .before .before .before .before .before .before .if1 .left, missing (c .before .before .before .before .before .before .before .before .before .before .before .before .before .before .before .before .before .before .before .before .before .before .before .before .before .before .before) ∙ c .before .before .before .before .before .before .before .before .before .before .before .before .before .before .before .before .before .before .before .before .before .before .before .before .before .before .if2 .left, there (c .before .before .before .before .before .before .before .before .before .before .before .before .before .before .before .before .before .before .before .before .before .before .before) ∙ c .before .before .before .before .before .before .before .before .before .before .before .before .before .before .before .before .before .before .before .before .before .before .if3 .left, circling (c .before .before .before .before .before .before .before .before .before .before .before .before .before .before .before .before .before) ∙ c .before .before .before .before .before .before .before .before .before .before .before .before .before .before .before .before .if4 .left, breaking (c .before .before .before .before .before .before) ∙ c .before .before .before .before .before .if5 .left, filled (c .before) ∙ c .if6 .taken)
+returns-6 c = rw (c .refused6 .ensures, beyond (c .before .before .before .before .before .before .before .before .before .before .before .before .before .before .before .before .before .before .before .before .before .before .before .before .before .before .before .before .before .before .before .before) ∙ c .before .before .before .before .before .before .before .before .before .before .before .before .before .before .before .before .before .before .before .before .before .before .before .before .before .before .before .before .before .before .before .if1 .left, missing (c .before .before .before .before .before .before .before .before .before .before .before .before .before .before .before .before .before .before .before .before .before .before .before .before .before .before .before .before) ∙ c .before .before .before .before .before .before .before .before .before .before .before .before .before .before .before .before .before .before .before .before .before .before .before .before .before .before .before .if2 .left, there (c .before .before .before .before .before .before .before .before .before .before .before .before .before .before .before .before .before .before .before .before .before .before .before .before) ∙ c .before .before .before .before .before .before .before .before .before .before .before .before .before .before .before .before .before .before .before .before .before .before .before .if3 .left, circling (c .before .before .before .before .before .before .before .before .before .before .before .before .before .before .before .before .before .before) ∙ c .before .before .before .before .before .before .before .before .before .before .before .before .before .before .before .before .before .if4 .left, breaking (c .before .before .before .before .before .before .before) ∙ c .before .before .before .before .before .before .if5 .left, filled (c .before .before) ∙ c .before .if6 .taken)
 
 either-requires-3 : tie.Need-either-requires-3
 either-requires-3 c κs = search needs
 
+refused-requires-7 : tie.Need-refused-requires-7
+refused-requires-7 c κs = search needs
+
 returns-7 : tie.Need-returns-7
 unfolding seen inherit settle verdict
-returns-7 c = rw (beyond (c .before .before .before .before .before .before .before .before .before .before .before .before .before .before .before .before .before .before .before .before .before .before .before .before .before .before .before .before .before .before .before .before .before) ∙ c .before .before .before .before .before .before .before .before .before .before .before .before .before .before .before .before .before .before .before .before .before .before .before .before .before .before .before .before .before .before .before .before .if1 .left, missing (c .before .before .before .before .before .before .before .before .before .before .before .before .before .before .before .before .before .before .before .before .before .before .before .before .before .before .before .before .before) ∙ c .before .before .before .before .before .before .before .before .before .before .before .before .before .before .before .before .before .before .before .before .before .before .before .before .before .before .before .before .if2 .left, there (c .before .before .before .before .before .before .before .before .before .before .before .before .before .before .before .before .before .before .before .before .before .before .before .before .before) ∙ c .before .before .before .before .before .before .before .before .before .before .before .before .before .before .before .before .before .before .before .before .before .before .before .before .if3 .left, circling (c .before .before .before .before .before .before .before .before .before .before .before .before .before .before .before .before .before .before .before) ∙ c .before .before .before .before .before .before .before .before .before .before .before .before .before .before .before .before .before .before .if4 .left, breaking (c .before .before .before .before .before .before .before .before) ∙ c .before .before .before .before .before .before .before .if5 .left, filled (c .before .before .before) ∙ c .before .before .if6 .left, cutting (c .before) ∙ c .if7 .taken)
+returns-7 c = rw (c .refused7 .ensures, beyond (c .before .before .before .before .before .before .before .before .before .before .before .before .before .before .before .before .before .before .before .before .before .before .before .before .before .before .before .before .before .before .before .before .before .before) ∙ c .before .before .before .before .before .before .before .before .before .before .before .before .before .before .before .before .before .before .before .before .before .before .before .before .before .before .before .before .before .before .before .before .before .if1 .left, missing (c .before .before .before .before .before .before .before .before .before .before .before .before .before .before .before .before .before .before .before .before .before .before .before .before .before .before .before .before .before .before) ∙ c .before .before .before .before .before .before .before .before .before .before .before .before .before .before .before .before .before .before .before .before .before .before .before .before .before .before .before .before .before .if2 .left, there (c .before .before .before .before .before .before .before .before .before .before .before .before .before .before .before .before .before .before .before .before .before .before .before .before .before .before) ∙ c .before .before .before .before .before .before .before .before .before .before .before .before .before .before .before .before .before .before .before .before .before .before .before .before .before .if3 .left, circling (c .before .before .before .before .before .before .before .before .before .before .before .before .before .before .before .before .before .before .before .before) ∙ c .before .before .before .before .before .before .before .before .before .before .before .before .before .before .before .before .before .before .before .if4 .left, breaking (c .before .before .before .before .before .before .before .before .before) ∙ c .before .before .before .before .before .before .before .before .if5 .left, filled (c .before .before .before .before) ∙ c .before .before .before .if6 .left, cutting (c .before .before) ∙ c .before .if7 .taken)
 
 returns-8 : tie.Need-returns-8
 unfolding seen inherit settle verdict view lined
@@ -187,19 +208,23 @@ inherit-spec =
     role-beyond-requires
     role-beyond-requires-2
     either-requires
+    refused-requires
     returns
     has-requires
     has-requires-2
     either-requires-2
+    refused-requires-2
     returns-2
     cast-at
     mul-has
     element-copy-out-has
     has-requires-3
+    refused-requires-3
     returns-3
     with-requires
     reach-requires
     has-requires-4
+    refused-requires-4
     returns-4
     mul-with
     array-read-with
@@ -209,9 +234,12 @@ inherit-spec =
     authorised-all-requires
     slice-aggregate-some-breaks-some
     some-breaks-some-requires
+    refused-requires-5
     returns-5
     full-requires
+    refused-requires-6
     returns-6
     either-requires-3
+    refused-requires-7
     returns-7
     returns-8)

@@ -57,15 +57,15 @@ read-sessions-requires c κs = search needs
 
 returns : tie.Need-returns
 returns c m file =
-    whole-read (c .before .before .before .before .before .before .before .before .before .before .before .before .before .before .before .before .before .before .before .before .before .before .before .before .before .before .before .args .bytes .now) m file (c .before .before .before .before .before .before .before .before .before .before .before .before .before .before .before .before .before .before .before .before .before .before .before .before .before .empty .result) (sized (c .before .before .before .before .before .before .before .before .before .before .before .before .before .before .before .before .before .before .before .before .before .before .before .before .before)) (c .before .before .before .before .before .before .before .before .before .before .before .before .before .before .before .before .before .before .before .before .before .before .before .before .before .empty .ensures) _ _ _ _ _ _ _ _ _ _ _
-    (c .before .before .before .before .before .before .before .before .before .before .before .before .before .before .before .before .before .before .before .before .before .before .before .read-users .ensures)
-    (c .before .before .before .before .before .before .before .before .before .before .before .before .before .before .before .before .before .before .before .before .before .before .read-roles .ensures)
-    (c .before .before .before .before .before .before .before .before .before .before .before .before .before .before .before .before .before .before .before .read-pairs .ensures)
-    (c .before .before .before .before .before .before .before .before .before .before .before .before .before .before .before .read-pairs2 .ensures)
-    (c .before .before .before .before .before .before .before .before .before .before .before .read-grants .ensures)
-    (c .before .before .before .before .before .before .before .before .read-sets .ensures)
-    (c .before .before .before .before .before .before .read-sets2 .ensures)
-    (c .before .before .before .before .read-sessions .ensures)
+    whole-read (c .before .before .before .before .before .before .before .before .before .before .before .before .before .before .before .before .before .before .before .before .before .before .before .before .before .before .before .args .bytes .now) m file (c .before .before .before .before .before .before .before .before .before .before .before .before .before .before .before .before .before .before .before .before .before .before .before .before .before .empty .result) (sized (c .before .before .before .before .before .before .before .before .before .before .before .before .before .before .before .before .before .before .before .before .before .before .before .before .before)) (c .before .before .before .before .before .before .before .before .before .before .before .before .before .before .before .before .before .before .before .before .before .before .before .before .before .empty .ensures) _ _ _ _ _ _ _ _ _
+    (c .before .before .before .before .before .before .before .before .before .before .before .before .before .before .before .before .before .before .before .before .before .before .before .read-users .ensures .is)
+    (c .before .before .before .before .before .before .before .before .before .before .before .before .before .before .before .before .before .before .before .before .before .before .read-roles .ensures .is)
+    (c .before .before .before .before .before .before .before .before .before .before .before .before .before .before .before .before .before .before .before .read-pairs .ensures .is)
+    (c .before .before .before .before .before .before .before .before .before .before .before .before .before .before .before .read-pairs2 .ensures .is)
+    (c .before .before .before .before .before .before .before .before .before .before .before .read-grants .ensures .is)
+    (c .before .before .before .before .before .before .before .before .read-sets .ensures .is)
+    (c .before .before .before .before .before .before .read-sets2 .ensures .is)
+    (c .before .before .before .before .read-sessions .ensures .is)
 
 pub gather-spec : {M : Type 1} → statement M
 gather-spec =

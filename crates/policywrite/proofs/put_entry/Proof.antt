@@ -11,25 +11,20 @@ use Rattle.policyform.specs.Encode.{roleList}
 use Rattle.policywrite.proofs.put_entry.Statement.{statement}
 use Rattle.policywrite.proofs.put_entry.Tie as tie
 
-whole : (c : tie.After-put-roles) → Wrote (c .before .before .before .before .before .before .before .before .before .before .before .args .out .now) (c .put-roles .last .1 .0) (c .before .before .before .before .before .before .before .before .before .before .before .args .at) (c .put-roles .result) (two (c .before .before .before .before .before .before .before .before .before .before .before .args .first) ++ (two (c .before .before .before .before .before .before .before .before .before .before .before .args .second) ++ roleList (c .before .before .before .before .before .before .before .before .before .before .before .args .roles)))
-whole c = wrote-more (c .before .before .before .before .before .before .before .before .put-word .ensures) (wrote-more (c .before .before .before .before .put-word2 .ensures) (c .put-roles .ensures .wrote))
+whole : (c : tie.After-put-roles) → Wrote (c .before .before .before .before .before .before .before .args .out .now) (c .put-roles .last .1 .0) (c .before .before .before .before .before .before .before .args .at) (c .put-roles .result) (two (c .before .before .before .before .before .before .before .args .first) ++ (two (c .before .before .before .before .before .before .before .args .second) ++ roleList (c .before .before .before .before .before .before .before .args .roles)))
+whole c = wrote-more (c .before .before .before .before .put-pair .ensures) (c .put-roles .ensures .wrote)
 
-put-word-requires : tie.Need-put-word-requires
-put-word-requires c κs = search needs
-
-put-word-requires-2 : tie.Need-put-word-requires-2
-put-word-requires-2 c κs = omega (arith, c .before .before .before .put-word .ensures .next)
+put-pair-requires : tie.Need-put-pair-requires
+put-pair-requires c κs = search needs
 
 put-roles-requires : tie.Need-put-roles-requires
-put-roles-requires c κs = omega (arith, c .before .before .before .before .before .before .before .put-word .ensures .next, c .before .before .before .put-word2 .ensures .next)
+put-roles-requires c κs = omega (arith, c .before .before .before .put-pair .ensures .next)
 
 same-length : tie.Need-same-length
 same-length c = wrote-length (whole (c .before .before))
 
 returns : tie.Need-returns
-returns c = record { wrote = whole (c .before .before); room = omega (arith, c .before .before .put-roles .ensures .room, c .before .before .before .before .before .before .before .before .before .before .put-word .ensures .next, c .before .before .before .before .before .before .put-word2 .ensures .next) }
+returns c = record { wrote = whole (c .before .before); room = omega (arith, c .before .before .put-roles .ensures .room, c .before .before .before .before .before .before .put-pair .ensures .next) }
 
 pub put-entry-spec : {M : Type 1} → statement M
-put-entry-spec =
-    tie.close
-    (tie.spec put-word-requires put-word-requires-2 put-roles-requires same-length returns)
+put-entry-spec = tie.close (tie.spec put-pair-requires put-roles-requires same-length returns)

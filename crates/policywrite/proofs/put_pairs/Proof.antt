@@ -12,7 +12,7 @@ use Rattle.policyform.specs.Encode.{pairEntry, pairIn}
 use Rattle.text.specs.Bytes.{two, section}
 use Rattle.text.specs.Places.{Wrote}
 use Rattle.text.specs.Sections.{Entries}
-use Rattle.text.proofs.Writing.{wrote-length, wrote-more, entries-start, entries-taken, entries-left, entries-section}
+use Rattle.text.proofs.Writing.{wrote-length, entries-start, entries-taken, entries-left, entries-section}
 use Rattle.policywrite.proofs.put_pairs.Statement.{statement}
 use Rattle.policywrite.proofs.put_pairs.Tie as tie
 
@@ -22,8 +22,8 @@ Inv-loop table out₀ at n₀ next₀ k₀ out n next k = (k ≤ 64 * length tab
 abbrev μ-loop : tie.MeasureT-loop
 μ-loop table out₀ at n₀ next₀ k₀ out n next k = 64 * length table - k
 
-whole : (c : tie.After-put-word3 Inv-loop μ-loop) → Wrote (c .before .before .before .before .before .before .args .out .now) (c .put-word3 .last .0) (c .before .before .before .before .before .before .args .at) (c .before .before .before .loop .next) (section pairEntry (members (c .before .before .before .loop .k) (pairIn (tableOf (c .before .before .before .before .before .before .args .table .now)))))
-whole c = entries-section pairEntry (pairIn (tableOf (c .before .before .before .before .before .before .args .table .now))) 4 (c .before .before .before .loop .inv .1) (c .put-word3 .ensures)
+whole : (c : tie.After-put-word Inv-loop μ-loop) → Wrote (c .before .before .before .before .before .before .args .out .now) (c .put-word .last .0) (c .before .before .before .before .before .before .args .at) (c .before .before .before .loop .next) (section pairEntry (members (c .before .before .before .loop .k) (pairIn (tableOf (c .before .before .before .before .before .before .args .table .now)))))
+whole c = entries-section pairEntry (pairIn (tableOf (c .before .before .before .before .before .before .args .table .now))) 4 (c .before .before .before .loop .inv .1) (c .put-word .ensures)
 
 add-next : tie.Need-add-next Inv-loop μ-loop
 add-next c = search needs
@@ -46,20 +46,17 @@ cast-has c = search needs
 has-requires : tie.Need-has-requires Inv-loop μ-loop
 has-requires c κs = search needs
 
-put-word-requires : tie.Need-put-word-requires Inv-loop μ-loop
-put-word-requires c κs = omega (arith, c .before .before .before .before .before .loop .inv .1 .room)
-
-put-word-requires-2 : tie.Need-put-word-requires-2 Inv-loop μ-loop
-put-word-requires-2 c κs = omega (arith, c .before .before .before .before .before .before .before .before .before .loop .inv .1 .room, c .before .before .before .put-word .ensures .next)
+put-pair-requires : tie.Need-put-pair-requires Inv-loop μ-loop
+put-pair-requires c κs = omega (arith, c .before .before .before .before .before .loop .inv .1 .room)
 
 add-n : tie.Need-add-n Inv-loop μ-loop
-add-n c = omega (arith, c .before .before .before .before .before .before .before .before .before .before .before .before .loop .inv .1 .few)
+add-n c = omega (arith, c .before .before .before .before .before .before .before .before .loop .inv .1 .few)
 
 loop-less : tie.Need-loop-less Inv-loop μ-loop
 loop-less c = search needs
 
 loop-again : tie.Need-loop-again Inv-loop μ-loop
-loop-again c = (omega arith, entries-taken pairEntry (pairIn (tableOf (c .before .before .before .before .before .before .before .before .before .before .before .before .before .before .before .args .table .now))) 4 (sym (c .before .before .before .before .before .before .before .before .before .has .ensures) ∙ c .before .before .before .before .before .before .before .before .if1 .taken) (omega arith) (c .before .before .before .before .before .before .before .before .before .before .before .before .loop .inv .1) (wrote-more (c .before .before .before .before .before .before .put-word .ensures) (c .before .before .put-word2 .ensures)))
+loop-again c = (omega arith, entries-taken pairEntry (pairIn (tableOf (c .before .before .before .before .before .before .before .before .before .before .before .args .table .now))) 4 (sym (c .before .before .before .before .before .has .ensures) ∙ c .before .before .before .before .if1 .taken) (omega arith) (c .before .before .before .before .before .before .before .before .loop .inv .1) (c .before .before .put-pair .ensures))
 
 loop-less-2 : tie.Need-loop-less-2 Inv-loop μ-loop
 loop-less-2 c = search needs
@@ -67,8 +64,8 @@ loop-less-2 c = search needs
 loop-again-2 : tie.Need-loop-again-2 Inv-loop μ-loop
 loop-again-2 c = (omega arith, entries-left pairEntry (pairIn (tableOf (c .before .before .before .before .before .before .before .args .table .now))) 4 (sym (c .before .has .ensures) ∙ c .if1 .left) (c .before .before .before .before .loop .inv .1))
 
-put-word-requires-3 : tie.Need-put-word-requires-3 Inv-loop μ-loop
-put-word-requires-3 c κs = search needs
+put-word-requires : tie.Need-put-word-requires Inv-loop μ-loop
+put-word-requires c κs = search needs
 
 same-length : tie.Need-same-length Inv-loop μ-loop
 same-length c = wrote-length (whole (c .before .before))
@@ -91,13 +88,12 @@ put-pairs-spec =
     shared-slice-read-has
     cast-has
     has-requires
-    put-word-requires
-    put-word-requires-2
+    put-pair-requires
     add-n
     loop-less
     loop-again
     loop-less-2
     loop-again-2
-    put-word-requires-3
+    put-word-requires
     same-length
     returns)

@@ -57,16 +57,22 @@ left-over c = shed-after (withoutRole (view (c .before .before .before .before .
 role-beyond-requires : tie.Need-role-beyond-requires
 role-beyond-requires c κs = search needs
 
+refused-requires : tie.Need-refused-requires
+refused-requires c κs = search needs
+
 returns : tie.Need-returns
 unfolding seen norole settle verdict
-returns c = rw (← c .before .role-beyond .ensures, c .if1 .taken)
+returns c = rw (c .refused .ensures, ← c .before .before .role-beyond .ensures, c .before .if1 .taken)
 
 has-requires : tie.Need-has-requires
 has-requires c κs = search needs
 
+refused-requires-2 : tie.Need-refused-requires-2
+refused-requires-2 c κs = search needs
+
 returns-2 : tie.Need-returns-2
 unfolding seen norole settle verdict view
-returns-2 c = rw (← c .before .before .before .role-beyond .ensures, c .before .before .if1 .left, ← c .before .has .ensures, c .if2 .taken)
+returns-2 c = rw (c .refused2 .ensures, ← c .before .before .before .before .role-beyond .ensures, c .before .before .before .if1 .left, ← c .before .before .has .ensures, c .before .if2 .taken)
 
 in-set-requires : tie.Need-in-set-requires
 in-set-requires c κs = search needs
@@ -77,9 +83,12 @@ in-set-requires-2 c κs = search needs
 either-requires : tie.Need-either-requires
 either-requires c κs = search needs
 
+refused-requires-3 : tie.Need-refused-requires-3
+refused-requires-3 c κs = search needs
+
 returns-3 : tie.Need-returns-3
 unfolding seen norole settle verdict view
-returns-3 c = rw (← c .before .before .before .before .before .before .before .before .before .role-beyond .ensures, c .before .before .before .before .before .before .before .before .if1 .left, ← c .before .before .before .before .before .before .before .has .ensures, c .before .before .before .before .before .before .if2 .left, standing (c .before) ∙ c .if3 .taken)
+returns-3 c = rw (c .refused3 .ensures, ← c .before .before .before .before .before .before .before .before .before .before .role-beyond .ensures, c .before .before .before .before .before .before .before .before .before .if1 .left, ← c .before .before .before .before .before .before .before .before .has .ensures, c .before .before .before .before .before .before .before .if2 .left, standing (c .before .before) ∙ c .before .if3 .taken)
 
 cast-at : tie.Need-cast-at
 cast-at c = search needs
@@ -105,9 +114,12 @@ strip-requires-2 c κs = search needs
 shed-requires : tie.Need-shed-requires
 shed-requires c κs = search needs
 
+refused-requires-4 : tie.Need-refused-requires-4
+refused-requires-4 c κs = search needs
+
 returns-4 : tie.Need-returns-4
 unfolding seen norole settle verdict view
-returns-4 c = rw (← c .before .before .before .before .before .before .before .before .before .before .before .before .before .before .before .before .before .before .before .before .before .before .before .role-beyond .ensures, c .before .before .before .before .before .before .before .before .before .before .before .before .before .before .before .before .before .before .before .before .before .before .if1 .left, ← c .before .before .before .before .before .before .before .before .before .before .before .before .before .before .before .before .before .before .before .before .before .has .ensures, c .before .before .before .before .before .before .before .before .before .before .before .before .before .before .before .before .before .before .before .before .if2 .left, standing (c .before .before .before .before .before .before .before .before .before .before .before .before .before .before .before) ∙ c .before .before .before .before .before .before .before .before .before .before .before .before .before .before .if3 .left, cutting (c .before) ∙ c .if4 .taken)
+returns-4 c = rw (c .refused4 .ensures, ← c .before .before .before .before .before .before .before .before .before .before .before .before .before .before .before .before .before .before .before .before .before .before .before .before .role-beyond .ensures, c .before .before .before .before .before .before .before .before .before .before .before .before .before .before .before .before .before .before .before .before .before .before .before .if1 .left, ← c .before .before .before .before .before .before .before .before .before .before .before .before .before .before .before .before .before .before .before .before .before .before .has .ensures, c .before .before .before .before .before .before .before .before .before .before .before .before .before .before .before .before .before .before .before .before .before .if2 .left, standing (c .before .before .before .before .before .before .before .before .before .before .before .before .before .before .before .before) ∙ c .before .before .before .before .before .before .before .before .before .before .before .before .before .before .before .if3 .left, cutting (c .before .before) ∙ c .before .if4 .taken)
 
 slice-aggregate-strip-3 : tie.Need-slice-aggregate-strip-3
 slice-aggregate-strip-3 c = sym (sized (c .before .before .before .before .before .before .before .before .before .before .before .before .before .before .before .before .before .before .before .before .before .before .before .before .before .before .args .s) _ (c .before .before .before .before .before .before .before .before .before .before .before .before .before .before .before .before .before .before .before .before .before .before .before .before .before .before .good .0) .holders)
@@ -136,12 +148,15 @@ norole-spec =
     tie.close
     (tie.spec
     role-beyond-requires
+    refused-requires
     returns
     has-requires
+    refused-requires-2
     returns-2
     in-set-requires
     in-set-requires-2
     either-requires
+    refused-requires-3
     returns-3
     cast-at
     slice-aggregate-strip
@@ -151,6 +166,7 @@ norole-spec =
     slice-aggregate-strip-2
     strip-requires-2
     shed-requires
+    refused-requires-4
     returns-4
     slice-aggregate-strip-3
     strip-requires-3

@@ -12,16 +12,22 @@ use Rattle.users.proofs.role.Tie as tie
 role-beyond-requires : tie.Need-role-beyond-requires
 role-beyond-requires c κs = search needs
 
+refused-requires : tie.Need-refused-requires
+refused-requires c κs = search needs
+
 returns : tie.Need-returns
 unfolding seen role settle verdict
-returns c = rw (← c .before .role-beyond .ensures, c .if1 .taken)
+returns c = rw (c .refused .ensures, ← c .before .before .role-beyond .ensures, c .before .if1 .taken)
 
 has-requires : tie.Need-has-requires
 has-requires c κs = search needs
 
+refused-requires-2 : tie.Need-refused-requires-2
+refused-requires-2 c κs = search needs
+
 returns-2 : tie.Need-returns-2
 unfolding seen role settle verdict view
-returns-2 c = rw (← c .before .before .before .role-beyond .ensures, c .before .before .if1 .left, ← c .before .has .ensures, c .if2 .taken)
+returns-2 c = rw (c .refused2 .ensures, ← c .before .before .before .before .role-beyond .ensures, c .before .before .before .if1 .left, ← c .before .before .has .ensures, c .before .if2 .taken)
 
 with-requires : tie.Need-with-requires
 with-requires c κs = search needs
@@ -33,4 +39,12 @@ returns-3 c = rw (← c .before .before .before .before .role-beyond .ensures, c
 pub role-spec : {M : Type 1} → statement M
 role-spec =
     tie.close
-    (tie.spec role-beyond-requires returns has-requires returns-2 with-requires returns-3)
+    (tie.spec
+    role-beyond-requires
+    refused-requires
+    returns
+    has-requires
+    refused-requires-2
+    returns-2
+    with-requires
+    returns-3)

@@ -1,0 +1,75 @@
+-- The policy after the first ten lines of the example: what the other proofs look at, computed once. Assumes nothing.
+use mathlib.Core.Bool.{Bool, true, false}
+use mathlib.Core.List.{List, [], _∷_}
+use mathlib.Core.Path.{_≡_, refl, ap}
+use Prim.Native.Nat.{ℕ}
+use native.Mathlib.Omega.{arith}
+use lib.ListN.{getD}
+use Rattle.roleset.specs.Bounded.{bit, some, every, tally, total, members}
+use Rattle.roleset.specs.Roles.{has, pack, those, with, without, union, both, minus, subset, isEmpty, count}
+use Rattle.hierarchy.specs.Walks.{juniorsOf, joined, walk, reach}
+use Rattle.model.specs.Lists.{rising, someFrom, listed, setOf}
+use Rattle.model.specs.Model.{Model, empty, put}
+use Rattle.model.specs.Questions.{ask, sessionRoles}
+use Rattle.model.specs.Sheet.{verdict, settle}
+use Rattle.model.specs.Step.{step}
+use Rattle.model.specs.Words.{permission, breaks, breaksSome, staticBroken, dynamicBroken, assignments, grants, linesStanding, sessionsOpen}
+use Rattle.model.specs.commands.Users.{user, role}
+use Rattle.model.specs.commands.Assigning.{assign, assigned, grant, granted}
+use Rattle.model.specs.commands.Inheriting.{inherit, lined, usersCut}
+use Rattle.model.specs.commands.Sets.{broken, makeSet}
+use Rattle.model.specs.commands.Sessions.{freeFrom, opened, session, permitted, check}
+use Rattle.model.specs.declared.Kind.the-variants.{Static}
+use Rattle.demands.specs.BenchSheet.{Answers, answers, afterwards, atTheBench}
+use Rattle.demands.specs.Demand2.{wouldBreak}
+use Rattle.misreadings.specs.Readings.{brokenByAssigned, accessAtTheBench, InheritedGrant}
+
+-- what is looked at in a policy
+pub record Looked (m : Model) : Type 0 where
+  -- session 0 is open with role 2 active, role 0 exists, the line 2 over 0 stands
+  pub live : m .sessions 0 .live ≡ true
+  pub active : has (m .sessions 0 .active) 2 ≡ true
+  pub exists : has (m .roles) 0 ≡ true
+  pub lower : has (m .juniors 2) 0 ≡ true
+  -- role 0 holds operation 4 on object 30, and no role holds 4 on 31
+  pub holds : has (m .holders (permission 4 30)) 0 ≡ true
+  pub unheld : m .holders (permission 4 31) ≡ 0
+  -- the static rule with a line 2 over 1, asked of assigned roles only and as the paper says
+  pub passed : brokenByAssigned (lined m 2 1) ≡ false
+  pub refused : wouldBreak Static (lined m 2 1) ≡ true
+
+-- all of it as numbers, and the answers for access: one computation
+unfoldable look : Model → Answers
+look m = (bit (m .sessions 0 .live) ∷ bit (has (m .sessions 0 .active) 2) ∷ bit (has (m .roles) 0) ∷ bit (has (m .juniors 2) 0) ∷ bit (has (m .holders (permission 4 30)) 0) ∷ m .holders (permission 4 31) ∷ bit (brokenByAssigned (lined m 2 1)) ∷ bit (wouldBreak Static (lined m 2 1)) ∷ []) ∷ answers m accessAtTheBench
+
+computed : look atTheBench ≡ (1 ∷ 1 ∷ 1 ∷ 1 ∷ 1 ∷ 0 ∷ 0 ∷ 1 ∷ []) ∷ (0 ∷ 2 ∷ []) ∷ (0 ∷ 1 ∷ []) ∷ (0 ∷ 0 ∷ []) ∷ []
+unfolding some every tally total members has pack those with without union both minus subset isEmpty count juniorsOf joined walk reach rising someFrom listed setOf empty put ask sessionRoles verdict settle step breaks breaksSome staticBroken dynamicBroken assignments grants linesStanding sessionsOpen user role assign assigned grant granted inherit lined usersCut broken makeSet freeFrom opened session permitted check answers afterwards atTheBench brokenByAssigned look
+computed = refl
+
+first : Answers → List ℕ
+first [] = []
+first (a ∷ rest) = a
+
+later : Answers → Answers
+later [] = []
+later (a ∷ rest) = rest
+
+bit-yes : (b : Bool) → bit b ≡ 1 → b ≡ true
+bit-yes true e = refl
+bit-yes false e = absurd (omega arith)
+
+bit-no : (b : Bool) → bit b ≡ 0 → b ≡ false
+bit-no true e = absurd (omega arith)
+bit-no false e = refl
+
+pub bench : Looked atTheBench
+unfolding look first
+bench = record { live = bit-yes _ (at 0); active = bit-yes _ (at 1); exists = bit-yes _ (at 2); lower = bit-yes _ (at 3); holds = bit-yes _ (at 4); unheld = at 5; passed = bit-no _ (at 6); refused = bit-yes _ (at 7) }
+  where
+    at : (k : ℕ) → getD (first (look atTheBench)) k 0 ≡ getD (1 ∷ 1 ∷ 1 ∷ 1 ∷ 1 ∷ 0 ∷ 0 ∷ 1 ∷ []) k 0
+    at k = ap (λ (x : Answers). getD (first x) k 0) computed
+
+-- at the bench access is granted through an inherited role
+pub inherited-grant : InheritedGrant
+unfolding look later
+inherited-grant = ap later computed

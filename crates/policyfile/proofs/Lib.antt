@@ -1,0 +1,4 @@
+mod Front
+mod Settling
+pub mod Sounding
+pub mod Laws

@@ -1,0 +1,309 @@
+-- Every public function's promise leaves one outcome. Assumes nothing.
+use mathlib.Core.Bool.{Bool, true, false, _&&_}
+use mathlib.Core.List.{List, [], _∷_}
+use mathlib.Core.Path.{_≡_, refl, sym, ap, _∙_}
+use Prim.Native.Nat.{ℕ, _≤_, _<_}
+use native.Mathlib.Omega.{arith}
+use native.Mathlib.Decide.{decLt}
+use lib.ListN.{length, length-map, getD}
+use lib.Seq.{ext-getD}
+use denote.Struct.Declared.{row}
+use Rattle.roleset.specs.Bounded.{bit}
+use Rattle.roleset.specs.Roles.{has, isEmpty}
+use Rattle.roleset.specs.Promises.{Lowest}
+use Rattle.roleset.proofs.BoundedLaws.{clash, agree}
+use Rattle.numbers.specs.declared.Answer.{Answer}
+use Rattle.numbers.proofs.Answers.{number-one-to-one}
+use Rattle.model.specs.Model.{Model, noSession}
+use Rattle.model.specs.Sheet.{Told}
+use Rattle.policy.specs.Sized.{Sized}
+use Rattle.policy.specs.declared.Outcome.{Outcome}
+use Rattle.policy.proofs.Outcome as OutcomeType
+use Rattle.policy.proofs.Tables.{table-one}
+use Rattle.policy.proofs.Values.{sized, one-outcome, view-one-to-one}
+use Rattle.sessions.specs.Answering.{Opens, Checks, ChecksLent, Owns, isDone, given, toldOpened, toldChecked, toldOwned}
+use Rattle.sessions.specs.declared.Opened.{Opened}
+use Rattle.sessions.specs.declared.Checked.{Checked}
+use Rattle.sessions.specs.declared.Owned.{Owned}
+use Rattle.sessions.proofs.Opened as OpenedType
+use Rattle.engine.specs.Stepping.{Steps}
+use Rattle.engine.specs.declared.Stepped.{Stepped}
+use Rattle.reviews.specs.Reviewing.{Reviewed}
+use Rattle.reviews.specs.declared.Review.{Review}
+use Rattle.unique.specs.Promises as promises
+use Rattle.unique.specs.Unique.{Value}
+
+-- ---- what the type of a result says of it
+
+outcome-sized : (o : Outcome) → Value (row OutcomeType.the-type) o → Sized (o .state)
+outcome-sized o v = sized (o .state) _ (v .1 .1 .1 .1 .0)
+
+opened-sized : (o : Opened) → Value (row OpenedType.the-type) o → Sized (o .state)
+opened-sized o v = sized (o .state) _ (v .1 .1 .1 .1 .1 .0)
+
+-- two outcomes that tell the same are one: the general law, for every command
+outcomes : (told : Told) (x y : Outcome) → Value (row OutcomeType.the-type) x → Value (row OutcomeType.the-type) y → Rattle.policy.specs.View.seen x ≡ told → Rattle.policy.specs.View.seen y ≡ told → x ≡ y
+outcomes told x y vx vy = one-outcome told x y (outcome-sized x vx) (outcome-sized y vy)
+
+-- two arrays with the same places are one
+arrays : (n : ℕ) (x y : List ℕ) (f : ℕ → ℕ) → length x ≡ n → length y ≡ n → ((k : ℕ) → k < n → getD x k 0 ≡ f k) → ((k : ℕ) → k < n → getD y k 0 ≡ f k) → x ≡ y
+arrays n x y f lx ly p q = ext-getD 0 x y (lx ∙ sym ly) (λ k h. let l : k < n = omega arith in p k l ∙ sym (q k l))
+
+-- ---- sets of roles
+
+one-lowest : (s a b : ℕ) → Lowest s a → Lowest s b → a ≡ b
+one-lowest s a b x y = go (decLt a b) (decLt b a)
+  where
+    go : Dec (a < b) → Dec (b < a) → a ≡ b
+    go (yes l) r = clash (has s a) (x .member) (y .first a l)
+    go (no l) (yes r) = clash (has s b) (y .member) (x .first b r)
+    go (no l) (no r) = omega arith
+
+lowest-one : (s a b : ℕ) → (a ≤ 64) × ((isEmpty s ≡ false → Lowest s a) × (isEmpty s ≡ true → a ≡ 64)) → (b ≤ 64) × ((isEmpty s ≡ false → Lowest s b) × (isEmpty s ≡ true → b ≡ 64)) → a ≡ b
+lowest-one s a b p q = go (isEmpty s) refl
+  where
+    go : (e : Bool) → isEmpty s ≡ e → a ≡ b
+    go true e = p .1 .1 e ∙ sym (q .1 .1 e)
+    go false e = one-lowest s a b (p .1 .0 e) (q .1 .0 e)
+
+pub roleset : promises.Roleset
+roleset =
+    record {
+      has = λ κs a x y e f vx vy p q. p ∙ sym q;
+      with = λ κs a x y e f vx vy p q. p .is ∙ sym (q .is);
+      without = λ κs a x y e f vx vy p q. p .is ∙ sym (q .is);
+      union = λ κs a x y e f vx vy p q. p .is ∙ sym (q .is);
+      both = λ κs a x y e f vx vy p q. p .is ∙ sym (q .is);
+      minus = λ κs a x y e f vx vy p q. p .is ∙ sym (q .is);
+      subset = λ κs a x y e f vx vy p q. p .is ∙ sym (q .is);
+      is-empty = λ κs a x y e f vx vy p q. p .is ∙ sym (q .is);
+      count = λ κs a x y e f vx vy p q. p .0 ∙ sym (q .0);
+      lowest = λ κs a x y e f vx vy p q. lowest-one (a .0) x y p q;
+    }
+
+pub numbers : promises.Numbers
+numbers =
+    record {
+      number-of = λ κs a x y e f vx vy p q. p ∙ sym q;
+      answer-of = λ κs a x y e f vx vy p q. p ∙ sym q;
+      is-done = λ κs a x y e f vx vy p q. p ∙ sym q;
+      user-beyond = λ κs a x y e f vx vy p q. p ∙ sym q;
+      role-beyond = λ κs a x y e f vx vy p q. p ∙ sym q;
+      session-beyond = λ κs a x y e f vx vy p q. p ∙ sym q;
+      set-beyond = λ κs a x y e f vx vy p q. p ∙ sym q;
+      activation-beyond = λ κs a x y e f vx vy p q. p ∙ sym q;
+    }
+
+pub hierarchy : promises.Hierarchy
+hierarchy =
+    record {
+      reach = λ κs a x y e f vx vy p q. p ∙ sym q;
+      circular = λ κs a x y e f vx vy p q. p ∙ sym q;
+      turned = λ κs a x y e f vx vy p q. arrays 64 x y _ (vx .1 .1 .0 .1) (vy .1 .1 .0 .1) p q;
+      at-or-above = λ κs a x y e f vx vy p q. p ∙ sym q;
+    }
+
+pub separation : promises.Separation
+separation =
+    record {
+      breaks = λ κs a x y e f vx vy p q. p ∙ sym q;
+      breaks-some = λ κs a x y e f vx vy p q. p ∙ sym q;
+      some-breaks = λ κs a x y e f vx vy p q. p ∙ sym q;
+      some-breaks-some = λ κs a x y e f vx vy p q. p ∙ sym q;
+    }
+
+-- ---- the state, lists and sweeps
+
+pub policy : promises.Policy
+policy =
+    record {
+      empty-state = λ κs a x y e f vx vy p q. view-one-to-one x y (sized x _ (vx .1)) (sized y _ (vy .1)) (p ∙ sym q);
+      full = λ κs a x y e f vx vy p q. p ∙ sym q;
+      has-user = λ κs a x y e f vx vy p q. p ∙ sym q;
+      session-at = λ κs a x y e f vx vy p q. p ∙ sym q;
+      either = λ κs a x y e f vx vy p q. p ∙ sym q;
+      permission-beyond = λ κs a x y e f vx vy p q. p ∙ sym q;
+    }
+
+pub lists : promises.Lists
+lists = record { read = λ κs a x y e f vx vy p q i. record { ascending = (p .ascending ∙ sym (q .ascending)) i; beyond = (p .beyond ∙ sym (q .beyond)) i; roles = (p .roles ∙ sym (q .roles)) i } }
+
+pub sweeps : promises.Sweeps
+sweeps =
+    record {
+      authorised-all = λ κs a x y e f vx vy p q i. record { roles = arrays 256 (x .roles) (y .roles) _ (sym (length-map (x .roles) _) ∙ vx .1 .1 .1 .0 .1 .0 .1) (sym (length-map (y .roles) _) ∙ vy .1 .1 .1 .0 .1 .0 .1) (p .each) (q .each) i; cut = (p .cut ∙ sym (q .cut)) i };
+      shed = λ κs a x y e f vx vy p q i. record { sessions = table-one (x .sessions) (y .sessions) noSession (sym (length-map (x .sessions) _) ∙ vx .1 .1 .1 .0 .1 .0 .1 ∙ sym (vy .1 .1 .1 .0 .1 .0 .1) ∙ length-map (y .sessions) _) (p .each ∙ sym (q .each)) i; cut = (p .cut ∙ sym (q .cut)) i };
+      end-all = λ κs a x y e f vx vy p q. table-one x y noSession (vx .1 .1 .0 .1 ∙ sym (vy .1 .1 .0 .1)) (p ∙ sym q);
+      active-roles = λ κs a x y e f vx vy p q. table-one x y 0 (vx .1 .1 .0 .1 ∙ sym (vy .1 .1 .0 .1)) (p ∙ sym q);
+      lowest-free = λ κs a x y e f vx vy p q. p ∙ sym q;
+      strip = λ κs a x y e f vx vy p q. (refl, p ∙ sym q);
+    }
+
+-- ---- the commands
+
+pub users : promises.Users
+users =
+    record {
+      user = λ κs a x y e f vx vy p q. outcomes _ x y vx vy p q;
+      role = λ κs a x y e f vx vy p q. outcomes _ x y vx vy p q;
+      nouser = λ κs a x y e f vx vy p q. outcomes _ x y vx vy p q;
+      norole = λ κs a x y e f vx vy p q. outcomes _ x y vx vy p q;
+    }
+
+pub assigning : promises.Assigning
+assigning =
+    record {
+      assign = λ κs a x y e f vx vy p q. outcomes _ x y vx vy p q;
+      deassign = λ κs a x y e f vx vy p q. outcomes _ x y vx vy p q;
+      grant = λ κs a x y e f vx vy p q. outcomes _ x y vx vy p q;
+      revoke = λ κs a x y e f vx vy p q. outcomes _ x y vx vy p q;
+    }
+
+pub inheriting : promises.Inheriting
+inheriting =
+    record {
+      inherit = λ κs a x y e f vx vy p q. outcomes _ x y vx vy p q;
+      disinherit = λ κs a x y e f vx vy p q. outcomes _ x y vx vy p q;
+    }
+
+pub sets : promises.Sets
+sets =
+    record {
+      make-set = λ κs a x y e f vx vy p q. outcomes _ x y vx vy p q;
+      drop-set = λ κs a x y e f vx vy p q. outcomes _ x y vx vy p q;
+      add-member = λ κs a x y e f vx vy p q. outcomes _ x y vx vy p q;
+      drop-member = λ κs a x y e f vx vy p q. outcomes _ x y vx vy p q;
+      set-cardinality = λ κs a x y e f vx vy p q. outcomes _ x y vx vy p q;
+    }
+
+-- ---- the functions with a result
+
+first : List ℕ → ℕ
+first [] = 0
+first (a ∷ rest) = a
+
+-- Two results, each given where its answer is 0 and 0 where it is not, are one where what is told is.
+results-one : (a b : Answer) (m n : ℕ) → a ≡ b → given (isDone a) m ≡ given (isDone b) n → (isDone a ≡ false → m ≡ 0) → (isDone b ≡ false → n ≡ 0) → m ≡ n
+unfolding first
+results-one a b m n e g sm sn = go (isDone a) refl
+  where
+    same : given (isDone a) m ≡ given (isDone a) n
+    same = g ∙ ap (λ (c : Answer). given (isDone c) n) (sym e)
+
+    go : (d : Bool) → isDone a ≡ d → m ≡ n
+    go true h = ap first (sym (ap (λ (x : Bool). given x m) h) ∙ same ∙ ap (λ (x : Bool). given x n) h)
+    go false h = sm h ∙ sym (sn (ap isDone (sym e) ∙ h))
+
+bits-one : (a b : Bool) → bit a ≡ bit b → a ≡ b
+bits-one true true e = refl
+bits-one true false e = absurd (omega arith)
+bits-one false true e = absurd (omega arith)
+bits-one false false e = refl
+
+opened-one : (told : Told) (x y : Opened) → Sized (x .state) → Sized (y .state) → Opens told x → Opens told y → x ≡ y
+unfolding toldOpened
+opened-one told x y sx sy p q = λ i. record { answer = answers i; session = record { number = numbers-one i }; state = states i }
+  where
+    same : toldOpened x ≡ toldOpened y
+    same = p .tells ∙ sym (q .tells)
+
+    answers : x .answer ≡ y .answer
+    answers = number-one-to-one (x .answer) (y .answer) (ap (λ (t : Told). t .answer) same)
+
+    numbers-one : x .session .number ≡ y .session .number
+    numbers-one = results-one (x .answer) (y .answer) (x .session .number) (y .session .number) answers (ap (λ (t : Told). t .results) same) (p .silent) (q .silent)
+
+    states : x .state ≡ y .state
+    states = view-one-to-one (x .state) (y .state) sx sy (ap (λ (t : Told). t .after) same)
+
+checked-one : (m : Model) (told : Told) (x y : Checked) → Checks m told x → Checks m told y → x ≡ y
+unfolding toldChecked
+checked-one m told x y p q = λ i. record { answer = answers i; yes = bits-one (x .yes) (y .yes) (results-one (x .answer) (y .answer) (bit (x .yes)) (bit (y .yes)) answers (ap (λ (t : Told). t .results) same) (λ h. ap bit (p .silent h)) (λ h. ap bit (q .silent h))) i }
+  where
+    same : toldChecked m x ≡ toldChecked m y
+    same = p .tells ∙ sym (q .tells)
+
+    answers : x .answer ≡ y .answer
+    answers = number-one-to-one (x .answer) (y .answer) (ap (λ (t : Told). t .answer) same)
+
+owned-one : (m : Model) (told : Told) (x y : Owned) → Owns m told x → Owns m told y → x ≡ y
+unfolding toldOwned
+owned-one m told x y p q = λ i. record { answer = answers i; owner = record { number = results-one (x .answer) (y .answer) (x .owner .number) (y .owner .number) answers (ap (λ (t : Told). t .results) same) (p .silent) (q .silent) i } }
+  where
+    same : toldOwned m x ≡ toldOwned m y
+    same = p .tells ∙ sym (q .tells)
+
+    answers : x .answer ≡ y .answer
+    answers = number-one-to-one (x .answer) (y .answer) (ap (λ (t : Told). t .answer) same)
+
+lent-one : (juniors holders : ℕ → ℕ) (session : Rattle.model.specs.Model.Session) (op obj : ℕ) (x y : Checked) → ChecksLent juniors holders session op obj x → ChecksLent juniors holders session op obj y → x ≡ y
+lent-one juniors holders session op obj x y p q = λ i. record { answer = answers i; yes = (p .answered ∙ ap (λ (c : Answer). isDone c && Rattle.sessions.specs.Answering.permits juniors holders (session .active) (Rattle.model.specs.Words.permission op obj)) answers ∙ sym (q .answered)) i }
+  where
+    answers : x .answer ≡ y .answer
+    answers = number-one-to-one (x .answer) (y .answer) (p .answer ∙ sym (q .answer))
+
+pub sessions : promises.Sessions
+sessions =
+    record {
+      session = λ κs a x y e f vx vy p q. opened-one _ x y (opened-sized x vx) (opened-sized y vy) p q;
+      activate = λ κs a x y e f vx vy p q. outcomes _ x y vx vy p q;
+      drop-role = λ κs a x y e f vx vy p q. outcomes _ x y vx vy p q;
+      end-session = λ κs a x y e f vx vy p q. outcomes _ x y vx vy p q;
+      owner = λ κs a x y e f vx vy p q. owned-one _ _ x y p q;
+      check-lent = λ κs a x y e f vx vy p q. lent-one _ _ _ _ _ x y p q;
+      check = λ κs a x y e f vx vy p q. checked-one _ _ x y p q;
+    }
+
+-- ---- every command through one function
+
+stepped-one : (told : Told) (x y : Stepped) → Sized (x .state) → Sized (y .state) → Steps told x → Steps told y → x ≡ y
+stepped-one told x y sx sy p q = λ i. record { answer = number-one-to-one (x .answer) (y .answer) (p .answer ∙ sym (q .answer)) i; opened = record { number = (p .opened ∙ sym (q .opened)) i }; state = view-one-to-one (x .state) (y .state) sx sy (p .after ∙ sym (q .after)) i }
+
+pub engine : promises.Engine
+engine = record { step = λ κs a x y e f vx vy p q. stepped-one _ x y (sized (x .state) _ (vx .1 .1 .1 .1 .1 .0)) (sized (y .state) _ (vy .1 .1 .1 .1 .1 .0)) p q }
+
+-- ---- the reviews, with the buffer lent
+
+reviewed-one : (told : Told) (before after after′ : List ℕ) (x y : Review) → Reviewed told before after x → Reviewed told before after′ y → (x ≡ y) × (after ≡ after′)
+reviewed-one told before after after′ x y p q = ((λ i. record { answer = number-one-to-one (x .answer) (y .answer) (p .answer ∙ sym (q .answer)) i; count = (p .count ∙ sym (q .count)) i }), p .buffer ∙ sym (q .buffer))
+
+pub reviews : promises.Reviews
+reviews =
+    record {
+      assigned-users = λ κs a x y e f vx vy p q. reviewed-one _ _ _ _ x y p q;
+      assigned-roles = λ κs a x y e f vx vy p q. reviewed-one _ _ _ _ x y p q;
+      auth-users = λ κs a x y e f vx vy p q. reviewed-one _ _ _ _ x y p q;
+      auth-roles = λ κs a x y e f vx vy p q. reviewed-one _ _ _ _ x y p q;
+      role-perms = λ κs a x y e f vx vy p q. reviewed-one _ _ _ _ x y p q;
+      user-perms = λ κs a x y e f vx vy p q. reviewed-one _ _ _ _ x y p q;
+      session-roles = λ κs a x y e f vx vy p q. reviewed-one _ _ _ _ x y p q;
+      session-perms = λ κs a x y e f vx vy p q. reviewed-one _ _ _ _ x y p q;
+      role-ops = λ κs a x y e f vx vy p q. reviewed-one _ _ _ _ x y p q;
+      user-ops = λ κs a x y e f vx vy p q. reviewed-one _ _ _ _ x y p q;
+      set-names = λ κs a x y e f vx vy p q. reviewed-one _ _ _ _ x y p q;
+      set-roles = λ κs a x y e f vx vy p q. reviewed-one _ _ _ _ x y p q;
+      set-count = λ κs a x y e f vx vy p q. reviewed-one _ _ _ _ x y p q;
+    }
+
+-- ---- texts and files
+
+pub decimal : promises.Decimal
+decimal =
+    record {
+      put = λ κs a x y e f vx vy p q. (p .ends ∙ sym (q .ends), p .holds ∙ sym (q .holds));
+      put-number = λ κs a x y e f vx vy p q. (p .ends ∙ sym (q .ends), p .holds ∙ sym (q .holds));
+      put-numbers = λ κs a x y e f vx vy p q. (p .ends ∙ sym (q .ends), p .holds ∙ sym (q .holds));
+      value = λ κs a x y e f vx vy p q. p ∙ sym q;
+    }
+
+pub text : promises.Text
+text = record { word-at = λ κs a x y e f vx vy p q. p ∙ sym q; put-word = λ κs a x y e f vx vy p q. (p .next ∙ sym (q .next), p .buffer ∙ sym (q .buffer)) }
+
+pub meaning : promises.Meaning
+meaning = record { meaning = λ κs a x y e f vx vy p q. p ∙ sym q }
+
+pub policywrite : promises.Policywrite
+policywrite = record { write = λ κs a x y e f vx vy p q. (p .next ∙ sym (q .next), p .buffer ∙ sym (q .buffer)) }
+
+pub policycheck : promises.Policycheck
+policycheck = record { formed = λ κs a x y e f vx vy p q. agree x y (λ h. q .says (p .holds h)) (λ h. p .says (q .holds h)); broken = λ κs a x y e f vx vy p q. number-one-to-one x y (p ∙ sym q) }

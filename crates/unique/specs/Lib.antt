@@ -1,0 +1,3 @@
+pub mod Unique
+pub mod Promises
+pub mod Handed

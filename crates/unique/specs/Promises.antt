@@ -1,0 +1,183 @@
+-- Every public function's promise leaves one outcome. One line for each function, over its own contract. Assumes nothing.
+use Rattle.roleset.proofs as roleset
+use Rattle.numbers.proofs as numbers
+use Rattle.hierarchy.proofs as hierarchy
+use Rattle.separation.proofs as separation
+use Rattle.policy.proofs as policy
+use Rattle.lists.proofs as lists
+use Rattle.sweeps.proofs as sweeps
+use Rattle.users.proofs as users
+use Rattle.assigning.proofs as assigning
+use Rattle.inheriting.proofs as inheriting
+use Rattle.sets.proofs as sets
+use Rattle.sessions.proofs as sessions
+use Rattle.engine.proofs as engine
+use Rattle.reviews.proofs as reviews
+use Rattle.decimal.proofs as decimal
+use Rattle.text.proofs as text
+use Rattle.meaning.proofs as meaning
+use Rattle.policywrite.proofs as policywrite
+use Rattle.policycheck.proofs as policycheck
+use Rattle.unique.specs.Unique.{Unique, UniqueLent}
+
+-- ---- roleset: sets of roles
+
+pub record Roleset : Type 0 where
+  pub has : Unique roleset.has.Kinds.ps roleset.has.Kinds.r roleset.has.Reads.Post
+  pub with : Unique roleset.with.Kinds.ps roleset.with.Kinds.r roleset.with.Reads.Post
+  pub without : Unique roleset.without.Kinds.ps roleset.without.Kinds.r roleset.without.Reads.Post
+  pub union : Unique roleset.union.Kinds.ps roleset.union.Kinds.r roleset.union.Reads.Post
+  pub both : Unique roleset.both.Kinds.ps roleset.both.Kinds.r roleset.both.Reads.Post
+  pub minus : Unique roleset.minus.Kinds.ps roleset.minus.Kinds.r roleset.minus.Reads.Post
+  pub subset : Unique roleset.subset.Kinds.ps roleset.subset.Kinds.r roleset.subset.Reads.Post
+  pub is-empty : Unique roleset.is_empty.Kinds.ps roleset.is_empty.Kinds.r roleset.is_empty.Reads.Post
+  pub count : Unique roleset.count.Kinds.ps roleset.count.Kinds.r roleset.count.Reads.Post
+  pub lowest : Unique roleset.lowest.Kinds.ps roleset.lowest.Kinds.r roleset.lowest.Reads.Post
+
+-- ---- numbers: numbers and answers
+
+pub record Numbers : Type 0 where
+  pub number-of : Unique numbers.number_of.Kinds.ps numbers.number_of.Kinds.r numbers.number_of.Reads.Post
+  pub answer-of : Unique numbers.answer_of.Kinds.ps numbers.answer_of.Kinds.r numbers.answer_of.Reads.Post
+  pub is-done : Unique numbers.is_done.Kinds.ps numbers.is_done.Kinds.r numbers.is_done.Reads.Post
+  pub user-beyond : Unique numbers.user_beyond.Kinds.ps numbers.user_beyond.Kinds.r numbers.user_beyond.Reads.Post
+  pub role-beyond : Unique numbers.role_beyond.Kinds.ps numbers.role_beyond.Kinds.r numbers.role_beyond.Reads.Post
+  pub session-beyond : Unique numbers.session_beyond.Kinds.ps numbers.session_beyond.Kinds.r numbers.session_beyond.Reads.Post
+  pub set-beyond : Unique numbers.set_beyond.Kinds.ps numbers.set_beyond.Kinds.r numbers.set_beyond.Reads.Post
+  pub activation-beyond : Unique numbers.activation_beyond.Kinds.ps numbers.activation_beyond.Kinds.r numbers.activation_beyond.Reads.Post
+
+-- ---- hierarchy: inheritance
+
+pub record Hierarchy : Type 0 where
+  pub reach : Unique hierarchy.reach.Kinds.ps hierarchy.reach.Kinds.r hierarchy.reach.Reads.Post
+  pub circular : Unique hierarchy.circular.Kinds.ps hierarchy.circular.Kinds.r hierarchy.circular.Reads.Post
+  pub turned : Unique hierarchy.turned.Kinds.ps hierarchy.turned.Kinds.r hierarchy.turned.Reads.Post
+  pub at-or-above : Unique hierarchy.at_or_above.Kinds.ps hierarchy.at_or_above.Kinds.r hierarchy.at_or_above.Reads.Post
+
+-- ---- separation: separation
+
+pub record Separation : Type 0 where
+  pub breaks : Unique separation.breaks.Kinds.ps separation.breaks.Kinds.r separation.breaks.Reads.Post
+  pub breaks-some : Unique separation.breaks_some.Kinds.ps separation.breaks_some.Kinds.r separation.breaks_some.Reads.Post
+  pub some-breaks : Unique separation.some_breaks.Kinds.ps separation.some_breaks.Kinds.r separation.some_breaks.Reads.Post
+  pub some-breaks-some : Unique separation.some_breaks_some.Kinds.ps separation.some_breaks_some.Kinds.r separation.some_breaks_some.Reads.Post
+
+-- ---- policy: the state
+
+pub record Policy : Type 0 where
+  pub empty-state : Unique policy.empty.Kinds.ps policy.empty.Kinds.r policy.empty.Reads.Post
+  pub full : Unique policy.full.Kinds.ps policy.full.Kinds.r policy.full.Reads.Post
+  pub has-user : Unique policy.naming.has_user.Kinds.ps policy.naming.has_user.Kinds.r policy.naming.has_user.Reads.Post
+  pub session-at : Unique policy.naming.session_at.Kinds.ps policy.naming.session_at.Kinds.r policy.naming.session_at.Reads.Post
+  pub either : Unique policy.naming.either.Kinds.ps policy.naming.either.Kinds.r policy.naming.either.Reads.Post
+  pub permission-beyond : Unique policy.naming.permission_beyond.Kinds.ps policy.naming.permission_beyond.Kinds.r policy.naming.permission_beyond.Reads.Post
+
+-- ---- lists: lists of roles
+
+pub record Lists : Type 0 where
+  pub read : Unique lists.read.Kinds.ps lists.read.Kinds.r lists.read.Reads.Post
+
+-- ---- sweeps: sweeps over users and sessions
+
+pub record Sweeps : Type 0 where
+  pub authorised-all : Unique sweeps.authorised_all.Kinds.ps sweeps.authorised_all.Kinds.r sweeps.authorised_all.Reads.Post
+  pub shed : Unique sweeps.shed.Kinds.ps sweeps.shed.Kinds.r sweeps.shed.Reads.Post
+  pub end-all : Unique sweeps.end_all.Kinds.ps sweeps.end_all.Kinds.r sweeps.end_all.Reads.Post
+  pub active-roles : Unique sweeps.active_roles.Kinds.ps sweeps.active_roles.Kinds.r sweeps.active_roles.Reads.Post
+  pub lowest-free : Unique sweeps.lowest_free.Kinds.ps sweeps.lowest_free.Kinds.r sweeps.lowest_free.Reads.Post
+  -- its result is nothing: the table lent
+  pub strip : UniqueLent sweeps.strip.Kinds.ps sweeps.strip.Kinds.r sweeps.strip.Reads.Post (λ κs e. e .0 .now)
+
+-- ---- users: `user`, `role`, `nouser`, `norole`
+
+pub record Users : Type 0 where
+  pub user : Unique users.user.Kinds.ps users.user.Kinds.r users.user.Reads.Post
+  pub role : Unique users.role.Kinds.ps users.role.Kinds.r users.role.Reads.Post
+  pub nouser : Unique users.nouser.Kinds.ps users.nouser.Kinds.r users.nouser.Reads.Post
+  pub norole : Unique users.norole.Kinds.ps users.norole.Kinds.r users.norole.Reads.Post
+
+-- ---- assigning: `assign`, `deassign`, `grant`, `revoke`
+
+pub record Assigning : Type 0 where
+  pub assign : Unique assigning.assign.Kinds.ps assigning.assign.Kinds.r assigning.assign.Reads.Post
+  pub deassign : Unique assigning.deassign.Kinds.ps assigning.deassign.Kinds.r assigning.deassign.Reads.Post
+  pub grant : Unique assigning.grant.Kinds.ps assigning.grant.Kinds.r assigning.grant.Reads.Post
+  pub revoke : Unique assigning.revoke.Kinds.ps assigning.revoke.Kinds.r assigning.revoke.Reads.Post
+
+-- ---- inheriting: `inherit`, `disinherit`
+
+pub record Inheriting : Type 0 where
+  pub inherit : Unique inheriting.inherit.Kinds.ps inheriting.inherit.Kinds.r inheriting.inherit.Reads.Post
+  pub disinherit : Unique inheriting.disinherit.Kinds.ps inheriting.disinherit.Kinds.r inheriting.disinherit.Reads.Post
+
+-- ---- sets: the five commands of a set, of both kinds
+
+pub record Sets : Type 0 where
+  pub make-set : Unique sets.make_set.Kinds.ps sets.make_set.Kinds.r sets.make_set.Reads.Post
+  pub drop-set : Unique sets.drop_set.Kinds.ps sets.drop_set.Kinds.r sets.drop_set.Reads.Post
+  pub add-member : Unique sets.add_member.Kinds.ps sets.add_member.Kinds.r sets.add_member.Reads.Post
+  pub drop-member : Unique sets.drop_member.Kinds.ps sets.drop_member.Kinds.r sets.drop_member.Reads.Post
+  pub set-cardinality : Unique sets.set_cardinality.Kinds.ps sets.set_cardinality.Kinds.r sets.set_cardinality.Reads.Post
+
+-- ---- sessions: `session`, `activate`, `drop`, `end`, `check`, and whose a session is
+
+pub record Sessions : Type 0 where
+  pub session : Unique sessions.session.Kinds.ps sessions.session.Kinds.r sessions.session.Reads.Post
+  pub activate : Unique sessions.activate.Kinds.ps sessions.activate.Kinds.r sessions.activate.Reads.Post
+  pub drop-role : Unique sessions.drop.Kinds.ps sessions.drop.Kinds.r sessions.drop.Reads.Post
+  pub end-session : Unique sessions.end.Kinds.ps sessions.end.Kinds.r sessions.end.Reads.Post
+  pub owner : Unique sessions.owner.Kinds.ps sessions.owner.Kinds.r sessions.owner.Reads.Post
+  pub check-lent : Unique sessions.check_lent.Kinds.ps sessions.check_lent.Kinds.r sessions.check_lent.Reads.Post
+  pub check : Unique sessions.check.Kinds.ps sessions.check.Kinds.r sessions.check.Reads.Post
+
+-- ---- engine: every command through one function
+
+pub record Engine : Type 0 where
+  pub step : Unique engine.step.Kinds.ps engine.step.Kinds.r engine.step.Reads.Post
+
+-- ---- reviews: the reviews, with the buffer lent
+
+pub record Reviews : Type 0 where
+  pub assigned-users : UniqueLent reviews.assigned_users.Kinds.ps reviews.assigned_users.Kinds.r reviews.assigned_users.Reads.Post (λ κs e. e .1 .1 .0 .now)
+  pub assigned-roles : UniqueLent reviews.assigned_roles.Kinds.ps reviews.assigned_roles.Kinds.r reviews.assigned_roles.Reads.Post (λ κs e. e .1 .1 .0 .now)
+  pub auth-users : UniqueLent reviews.auth_users.Kinds.ps reviews.auth_users.Kinds.r reviews.auth_users.Reads.Post (λ κs e. e .1 .1 .0 .now)
+  pub auth-roles : UniqueLent reviews.auth_roles.Kinds.ps reviews.auth_roles.Kinds.r reviews.auth_roles.Reads.Post (λ κs e. e .1 .1 .0 .now)
+  pub role-perms : UniqueLent reviews.role_perms.Kinds.ps reviews.role_perms.Kinds.r reviews.role_perms.Reads.Post (λ κs e. e .1 .1 .0 .now)
+  pub user-perms : UniqueLent reviews.user_perms.Kinds.ps reviews.user_perms.Kinds.r reviews.user_perms.Reads.Post (λ κs e. e .1 .1 .0 .now)
+  pub session-roles : UniqueLent reviews.session_roles.Kinds.ps reviews.session_roles.Kinds.r reviews.session_roles.Reads.Post (λ κs e. e .1 .1 .0 .now)
+  pub session-perms : UniqueLent reviews.session_perms.Kinds.ps reviews.session_perms.Kinds.r reviews.session_perms.Reads.Post (λ κs e. e .1 .1 .0 .now)
+  pub role-ops : UniqueLent reviews.role_ops.Kinds.ps reviews.role_ops.Kinds.r reviews.role_ops.Reads.Post (λ κs e. e .1 .1 .1 .0 .now)
+  pub user-ops : UniqueLent reviews.user_ops.Kinds.ps reviews.user_ops.Kinds.r reviews.user_ops.Reads.Post (λ κs e. e .1 .1 .1 .0 .now)
+  pub set-names : UniqueLent reviews.set_names.Kinds.ps reviews.set_names.Kinds.r reviews.set_names.Reads.Post (λ κs e. e .1 .1 .0 .now)
+  pub set-roles : UniqueLent reviews.set_roles.Kinds.ps reviews.set_roles.Kinds.r reviews.set_roles.Reads.Post (λ κs e. e .1 .1 .1 .0 .now)
+  pub set-count : UniqueLent reviews.set_count.Kinds.ps reviews.set_count.Kinds.r reviews.set_count.Reads.Post (λ κs e. e .1 .1 .1 .0 .now)
+
+-- ---- decimal: decimal numbers in a lent text
+
+pub record Decimal : Type 0 where
+  pub put : UniqueLent decimal.put.Kinds.ps decimal.put.Kinds.r decimal.put.Reads.Post (λ κs e. e .0 .now)
+  pub put-number : UniqueLent decimal.put_number.Kinds.ps decimal.put_number.Kinds.r decimal.put_number.Reads.Post (λ κs e. e .0 .now)
+  pub put-numbers : UniqueLent decimal.put_numbers.Kinds.ps decimal.put_numbers.Kinds.r decimal.put_numbers.Reads.Post (λ κs e. e .0 .now)
+  pub value : Unique decimal.value.Kinds.ps decimal.value.Kinds.r decimal.value.Reads.Post
+
+-- ---- text: sixteen-bit numbers in lent bytes
+
+pub record Text : Type 0 where
+  pub word-at : Unique text.word_at.Kinds.ps text.word_at.Kinds.r text.word_at.Reads.Post
+  pub put-word : UniqueLent text.put_word.Kinds.ps text.put_word.Kinds.r text.put_word.Reads.Post (λ κs e. e .0 .now)
+
+-- ---- meaning: what a line of numbers means
+
+pub record Meaning : Type 0 where
+  pub meaning : Unique meaning.meaning.Kinds.ps meaning.meaning.Kinds.r meaning.meaning.Reads.Post
+
+-- ---- policywrite: the policy file written
+
+pub record Policywrite : Type 0 where
+  pub write : UniqueLent policywrite.write.Kinds.ps policywrite.write.Kinds.r policywrite.write.Reads.Post (λ κs e. e .1 .0 .now)
+
+-- ---- policycheck: a policy that was read, asked
+
+pub record Policycheck : Type 0 where
+  pub formed : Unique policycheck.formed.Kinds.ps policycheck.formed.Kinds.r policycheck.formed.Reads.Post
+  pub broken : Unique policycheck.broken.Kinds.ps policycheck.broken.Kinds.r policycheck.broken.Reads.Post

@@ -1,0 +1,24 @@
+-- "Each public function has a promise that determines its result, the policy and sessions after it and the buffer it wrote, on refusals too. For each,
+-- prove that any two outcomes meeting it are equal". What that says of one function. Assumes nothing.
+use mathlib.Core.List.{List}
+use mathlib.Core.Path.{_≡_}
+use Prim.Native.Nat.{ℕ}
+use mir.Val.{Val}
+use contract.Lifetimes.{Lfts}
+use denote.Laws.{Is}
+use denote.RattleType.{RattleType}
+use denote.Triple.Clauses.{AtExit}
+use borrow.Fn.Kinds.{PK, RK, Dens, resT, endedOf, Out}
+
+-- x is a value of the type: some machine values are its own
+abbrev pub Value : (R : RattleType) → R .Denot → Type 0
+Value R x = (vs : List Val) × Is R x vs
+
+-- For any arguments, two values of the result's type that meet the promise are equal. `Post` is the function's own contract, as the prover has it:
+-- of the lifetimes, the arguments, the result and the parameters at exit
+abbrev pub Unique : {n : ℕ} (ps : List (PK n)) (r : RK n) → Out n ps r → Type 0
+Unique {n} ps r Post = (κs : Lfts n) (a : Dens κs ps) (x y : resT r κs .Denot) (e f : AtExit (endedOf n ps r) κs) → Value (resT r κs) x → Value (resT r κs) y → Post κs a x e → Post κs a y f → x ≡ y
+
+-- The same, and what is lent holds the same after both
+abbrev pub UniqueLent : {n : ℕ} (ps : List (PK n)) (r : RK n) → Out n ps r → ((κs : Lfts n) → AtExit (endedOf n ps r) κs → List ℕ) → Type 0
+UniqueLent {n} ps r Post buffer = (κs : Lfts n) (a : Dens κs ps) (x y : resT r κs .Denot) (e f : AtExit (endedOf n ps r) κs) → Value (resT r κs) x → Value (resT r κs) y → Post κs a x e → Post κs a y f → (x ≡ y) × (buffer κs e ≡ buffer κs f)
