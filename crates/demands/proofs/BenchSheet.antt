@@ -14,9 +14,14 @@ use Rattle.model.specs.commands.Assigning.{assign, assigned, deassign, deassign
 use Rattle.model.specs.commands.Inheriting.{inherit, lined, usersCut, disinherit, unlined}
 use Rattle.model.specs.commands.Sets.{broken, makeSet, dropMember}
 use Rattle.model.specs.commands.Sessions.{freeFrom, opened, session, activeSet, activate, permitted, check}
-use Rattle.demands.specs.BenchSheet.{answers, afterwards, atTheBench, sheet, answered, printed}
+use Rattle.demands.specs.BenchSheet.{answers, afterwards, atTheBench, sheet, answered, printed, Bench}
+use Rattle.policyfile.proofs.Laws.{empty-file}
 
--- P1 to P11, as one table
-pub bench-sheet : answered sheet ≡ printed sheet
+-- P1 to P11
+rows-answered : answered sheet ≡ printed sheet
 unfolding some every tally total members has pack those with without union both minus subset isEmpty count juniorsOf joined walk reach rising someFrom listed setOf empty put ask assignedRoles authRoles sessionRoles verdict settle step breaks breaksSome staticBroken dynamicBroken shedded shed shedCut assignments grants linesStanding sessionsOpen user role norole inSet withoutRole assign assigned deassign deassigned grant granted inherit lined usersCut disinherit unlined broken makeSet dropMember freeFrom opened session activeSet activate permitted check answers afterwards atTheBench answered printed
-bench-sheet = refl
+rows-answered = refl
+
+-- P1 to P12
+pub bench-sheet : Bench
+bench-sheet = record { rows = rows-answered; saved = empty-file }

@@ -1,7 +1,8 @@
 -- Demand 1 holds. Assumes nothing.
 use mathlib.Core.Bool.{Bool, true, false, _&&_}
 use mathlib.Core.List.{List, [], _∷_}
-use mathlib.Core.Path.{_≡_, refl, sym, _∙_}
+use mathlib.Core.Logic.{inl, inr}
+use mathlib.Core.Path.{_≡_, refl}
 use Prim.Native.Nat.{ℕ, _<_}
 use native.Mathlib.Omega.{arith}
 use lib.Dec.{ltb}
@@ -21,6 +22,8 @@ use Rattle.model.specs.declared.Command.the-variants.{AddUser, AddRole, NoUser,
 use Rattle.model.specs.declared.Kind.the-variants.{Static, Dynamic}
 use Rattle.model.specs.declared.Question.{Question}
 use Rattle.model.specs.declared.Question.the-variants.{Check, AssignedUsers, AssignedRoles, AuthUsers, AuthRoles, RolePerms, UserPerms, SessionRoles, SessionPerms, RoleOps, UserOps, Sets, SetRoles, SetCount}
+use Rattle.policyform.specs.Promises.{Loads}
+use Rattle.policyform.specs.Rules.{rulesBroken}
 use Rattle.sound.proofs.Sheet.{refusal-changes-nothing, settle-answer, settle-same}
 use Rattle.demands.specs.Demand1.{Demand1, Harmless}
 
@@ -101,6 +104,12 @@ asking m room (Sets kind) = settle-same _ m _
 asking m room (SetRoles kind name) = settle-same _ m _
 asking m room (SetCount kind name) = settle-same _ m _
 
+-- whatever a load tells is harmless: of the form, it is settled; not of the form, it is 14
+load-harmless : (m : Model) (bytes : List ℕ) (told : Told) → Loads m bytes told → Harmless m told
+unfolding rulesBroken
+load-harmless m bytes told (inl h) = rw (h .tells) (record { unchanged = λ n. refl; silent = λ n. refl; onSheet = omega arith })
+load-harmless m bytes told (inr h) = rw (h .tells) (settled (rulesBroken (h .model)) m [] (h .model) refl)
+
 -- after any answer but 0 the policy, the sessions and the results are what they were: all commands and all questions
 pub demand1 : Demand1
-demand1 = record { commands = command-harmless; questions = question-harmless; asking = asking }
+demand1 = record { commands = command-harmless; questions = question-harmless; loads = load-harmless; asking = asking }

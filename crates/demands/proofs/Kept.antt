@@ -13,7 +13,8 @@ use Rattle.sound.proofs.Assigning.{assign-sound, grant-sound, revoke-sound}
 use Rattle.sound.proofs.Inheriting.{inherit-sound}
 use Rattle.sound.proofs.Sets.{makeSet-sound, dropSet-sound, addMember-sound, dropMember-sound, setCardinality-sound}
 use Rattle.sound.proofs.Sessions.{session-sound, activate-sound, drop-sound, end-sound}
-use Rattle.demands.specs.Reachable.{Reachable, start, after}
+use Rattle.demands.specs.Reachable.{Reachable, start, after, loaded}
+use Rattle.policyfile.proofs.Laws.{load-sound}
 
 pub step-sound : (m : Model) (c : Command) (list : List ℕ) → Sound m → Sound (step m c list .after)
 unfolding step
@@ -40,3 +41,4 @@ step-sound m (EndSession u s) list = end-sound m (u .number) (s .number)
 pub reachable-sound : {m : Model} → Reachable m → Sound m
 reachable-sound start = empty-sound
 reachable-sound (after {m = m} p c list) = step-sound m c list (reachable-sound p)
+reachable-sound (loaded {m = m} p bytes told h) = load-sound m bytes told (reachable-sound p) h

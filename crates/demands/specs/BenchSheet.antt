@@ -1,5 +1,6 @@
--- "Bench sheet to prove": P1 to P11, each from the policy after the first ten lines of the example. Assumes nothing.
+-- "Bench sheet to prove": P1 to P11, each from the policy after the first ten lines of the example, and P12 from the empty one. Assumes nothing.
 use mathlib.Core.List.{List, [], _∷_}
+use mathlib.Core.Path.{_≡_}
 use Prim.Native.Nat.{ℕ}
 use Rattle.numbers.specs.declared.Role.{Role}
 use Rattle.numbers.specs.declared.Session.{Session}
@@ -13,6 +14,7 @@ use Rattle.model.specs.declared.Command.{Command}
 use Rattle.model.specs.declared.Command.the-variants.{AddUser, AddRole, Assign, Deassign, Grant, Inherit, Disinherit, MakeSet, DropMember, NoRole, OpenSession, Activate}
 use Rattle.model.specs.declared.Kind.the-variants.{Static}
 use Rattle.model.specs.declared.Question.{Question}
+use Rattle.policyform.specs.Encode.{encode}
 use Rattle.model.specs.declared.Question.the-variants.{Check, AssignedRoles, AuthRoles, SessionRoles}
 
 -- a line of the sheet: a command with its list of roles, or a question
@@ -98,3 +100,12 @@ answered (x ∷ rest) = answers atTheBench (x .lines) ∷ answered rest
 unfoldable pub printed : List Row → List Answers
 printed [] = []
 printed (x ∷ rest) = x .expected ∷ printed rest
+
+-- P12: "the empty policy saved" is "sixteen zero bytes"
+abbrev pub sixteenZeroBytes : List ℕ
+sixteenZeroBytes = 0 ∷ 0 ∷ 0 ∷ 0 ∷ 0 ∷ 0 ∷ 0 ∷ 0 ∷ 0 ∷ 0 ∷ 0 ∷ 0 ∷ 0 ∷ 0 ∷ 0 ∷ 0 ∷ []
+
+-- P1 to P12, as one table
+pub record Bench : Type 0 where
+  pub rows : answered sheet ≡ printed sheet
+  pub saved : encode empty ≡ sixteenZeroBytes

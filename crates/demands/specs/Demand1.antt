@@ -10,6 +10,7 @@ use Rattle.model.specs.Sheet.{Told}
 use Rattle.model.specs.Step.{step}
 use Rattle.model.specs.declared.Command.{Command}
 use Rattle.model.specs.declared.Question.{Question}
+use Rattle.policyform.specs.Promises.{Loads}
 
 -- Whatever is told with another answer than 0 changes nothing and has no results, and its answer is on the sheet.
 pub record Harmless (before : Model) (told : Told) : Type 0 where
@@ -17,9 +18,10 @@ pub record Harmless (before : Model) (told : Told) : Type 0 where
   pub silent : (told .answer ≡ 0 → ⊥) → told .results ≡ []
   pub onSheet : told .answer < 16
 
--- Every command, on any policy, with any numbers and any list; every question, with any room.
+-- Every command, on any policy, with any numbers and any list; every question, with any room; every load, of any bytes.
 pub record Demand1 : Type 0 where
   pub commands : (m : Model) (c : Command) (list : List ℕ) → Harmless m (step m c list)
   pub questions : (m : Model) (room : ℕ) (q : Question) → Harmless m (ask m room q)
+  pub loads : (m : Model) (bytes : List ℕ) (told : Told) → Loads m bytes told → Harmless m told
   -- a question changes nothing at all
   pub asking : (m : Model) (room : ℕ) (q : Question) → ask m room q .after ≡ m
