@@ -25,10 +25,6 @@ tells-yes P p = record { holds = λ e. p; says = λ q. refl }
 pub tells-no : (P : Type 0) → (P → ⊥) → Tells false P
 tells-no P h = record { holds = λ e. clash false e refl; says = λ p. absurd (h p) }
 
--- a test that is both
-pub both-ways : (b : Bool) → b ≡ true → b ≡ false → ⊥
-both-ways b p q = clash b p q
-
 -- nothing is inside, and what is all zero is fine
 pub inside-none : (roles : ℕ) → Inside roles 0
 inside-none roles = record { small = omega arith; each = λ r e. clash (has 0 r) e (has-none r) }
