@@ -12,15 +12,10 @@ if [ ! -x target/second ] || [ -n "$(find second/src -newer target/second)" ]; t
 fi
 target/second selftest || exit 1
 
-[ -x target/bin/reload ] || { echo "compare: there is no target/bin/reload"; exit 1; }
+for program in bench reload; do
+    [ -x target/bin/$program ] || { echo "compare: there is no target/bin/$program"; exit 1; }
+done
 [ $# -gt 0 ] || set -- --seed 1 --scripts 20 --files 800
-
-# Until there is a program bench, the second program's own script stands in for it, so that policy files are compared all the same.
-if [ ! -x target/bin/bench ]; then
-    echo "compare: there is no program bench yet: policy files only"
-    printf '#!/bin/sh\nexec target/second script\n' >target/second-script && chmod +x target/second-script || exit 1
-    exec target/second compare "$@" --bench target/second-script --reload target/bin/reload
-fi
 
 # The programs run as ./run runs them: under the toolchain's own loader and C library, and elsewhere its emulator.
 runner=

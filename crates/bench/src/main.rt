@@ -1,0 +1,64 @@
+// The bench: reads a script from standard input, and writes an answer for each line and then the total. Everything up to the bytes that it writes is proved in `script`.
+ghost use mathlib.Core.Path.{_≡_};
+ghost use Prim.Native.Nat.{_+_, _<_, _≤_};
+ghost use lib.ListN.{length};
+use libc::STDIN_FILENO;
+use libc::STDOUT_FILENO;
+use lines::Tally;
+use script::Progress;
+
+// Writes the total.
+fn write_total(t: Tally)
+    requires { ⌜ (t .done < 65536) × (t .others < 65536) ⌝ }
+{
+    let mut buf = [0u8; 64];
+    let len = script::total_text(&mut buf, t);
+    io::write_all(STDOUT_FILENO, &buf[..len]);
+}
+
+// Answers the next line.
+fn write_line(script: &[u8], p: Progress) -> Progress
+    requires { ⌜ (p .at < length (now script)) × (p .tally .done + p .tally .others < 65536) ⌝ }
+    ensures { λ r. ⌜ (p .at < r .at) × ((r .at ≤ length (now (script .entry))) × (r .tally .done + r .tally .others ≡ p .tally .done + p .tally .others + 1)) ⌝ }
+{
+    let mut buf = [0u8; 32768];
+    let t = script::turn(script, p, &mut buf);
+    let len = t.len;
+    io::write_all(STDOUT_FILENO, &buf[..len]);
+    t.next
+}
+
+// Answers each line, starting empty.
+fn run(script: &[u8])
+    requires { ⌜ length (now script) ≤ 32768 ⌝ }
+{
+    let state = policy::empty();
+    let mut p = Progress {
+        state,
+        at: 0,
+        tally: Tally { done: 0, others: 0 },
+    };
+    while p.at < script.len() {
+        p = write_line(script, p);
+    }
+    write_total(p.tally);
+}
+
+// A script over 32,768 bytes answers 14 as a whole.
+fn refuse() {
+    let mut buf = [0u8; 64];
+    let none = [0u16; 1];
+    let len = script::answer_text(&mut buf, 14, &none[..0]);
+    io::write_all(STDOUT_FILENO, &buf[..len]);
+    write_total(Tally { done: 0, others: 1 });
+}
+
+fn main() {
+    let mut input = [0u8; 32769];
+    let n = io::read_full(STDIN_FILENO, &mut input);
+    if n <= 32768 {
+        run(&input[..n]);
+    } else {
+        refuse();
+    }
+}

@@ -1,0 +1,3 @@
+mod Results
+mod Reading
+pub mod Turning

@@ -1,0 +1,81 @@
+use borrow.Author.Needs.{needs}
+use mathlib.Core.List.{List, [], _∷_, _++_}
+use mathlib.Core.Path.{_≡_, refl, sym, ap, ap₂, _∙_}
+use Prim.Native.Nat.{ℕ, _≤_}
+use native.Mathlib.Omega.{arith}
+use lib.Dec.{eqb}
+use lib.ListN.{length, take, drop, replicate, length-replicate, length-append, length-drop}
+use lib.Seq.{length-take-le, take-append-seam}
+use Rattle.model.specs.Questions.{ask}
+use Rattle.policy.specs.View.{view}
+use Rattle.reviews.specs.Reviewing.{Reviewed}
+use Rattle.reviews.proofs.Promised.{asked-with-room, results-fit}
+use Rattle.script.specs.Script.{answerText}
+use Rattle.script.proofs.Reading.{asked-same}
+use Rattle.script.proofs.ask_question.Statement.{statement}
+use Rattle.script.proofs.ask_question.Tie as tie
+
+-- the question is asked with room for every result
+reviewed : (c : tie.After-ask) → Reviewed (ask (view (c .before .before .before .args .s)) 4096 (c .before .before .before .args .q)) (replicate 4096 0) (c .ask .last .1 .1 .0) (c .ask .result)
+reviewed c = rw (asked-with-room (view (c .before .before .before .args .s)) 4096 (c .before .before .before .args .q) (omega arith)) at (rw (length-replicate {A = ℕ} 4096 0) at (c .ask .ensures))
+
+few : (c : tie.After-ask) → length (ask (view (c .before .before .before .args .s)) 4096 (c .before .before .before .args .q) .results) ≤ 4096
+few c = results-fit (view (c .before .before .before .args .s)) 4096 (c .before .before .before .args .q) (omega arith)
+
+front : (c : tie.After-ask) → take (c .ask .result .count) (c .ask .last .1 .1 .0) ≡ ask (view (c .before .before .before .args .s)) 4096 (c .before .before .before .args .q) .results
+front c = ap₂ (λ (n : ℕ) (l : List ℕ). take n l) (reviewed c .count) (reviewed c .buffer) ∙ take-append-seam _ _
+
+within : (c : tie.After-ask) → c .ask .result .count ≤ length (c .ask .last .1 .1 .0)
+within c =
+    let results = ask (view (c .before .before .before .args .s)) 4096 (c .before .before .before .args .q) .results in
+    omega (arith, few c, reviewed c .count, ap length (reviewed c .buffer), length-append results (drop (length results) (replicate 4096 0)))
+
+slice-aggregate-ask : tie.Need-slice-aggregate-ask
+slice-aggregate-ask c = search needs
+
+ask-requires : tie.Need-ask-requires
+ask-requires c κs = search needs
+
+number-of-requires : tie.Need-number-of-requires
+number-of-requires c κs = search needs
+
+is-done-requires : tie.Need-is-done-requires
+is-done-requires c κs = search needs
+
+cast-results : tie.Need-cast-results
+cast-results c = search needs
+
+array-share-prefix-results : tie.Need-array-share-prefix-results
+array-share-prefix-results c = within (c .before .before .before .before)
+
+slice-aggregate-answer-text : tie.Need-slice-aggregate-answer-text
+slice-aggregate-answer-text c = sym (length-take-le _ _ (within (c .before .before .before .before .before)))
+
+answer-text-requires : tie.Need-answer-text-requires
+answer-text-requires c κs = rw (front (c .before .before .before .before .before)) (few (c .before .before .before .before .before))
+
+same-length : tie.Need-same-length
+same-length c = search needs
+
+returns : tie.Need-returns
+returns c =
+    record {
+      text = rw (← (c .before .before .before .before .before .before .number-of .ensures ∙ reviewed (c .before .before .before .before .before .before .before .before) .answer), ← front (c .before .before .before .before .before .before .before .before)) (c .before .before .answer-text .ensures);
+      ok = c .before .before .before .before .before .is-done .ensures ∙ ap (λ (n : ℕ). eqb n 0) (reviewed (c .before .before .before .before .before .before .before .before) .answer);
+      state = sym (asked-same (view (c .before .before .before .before .before .before .before .before .before .before .before .args .s)) 4096 (c .before .before .before .before .before .before .before .before .before .before .before .args .q));
+    }
+
+pub ask-question-spec : {M : Type 1} → statement M
+ask-question-spec =
+    tie.close
+    (tie.spec
+    slice-aggregate-ask
+    ask-requires
+    number-of-requires
+    is-done-requires
+    cast-results
+    array-share-prefix-results
+    slice-aggregate-answer-text
+    answer-text-requires
+    same-length
+    returns)

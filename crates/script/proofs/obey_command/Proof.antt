@@ -1,0 +1,95 @@
+use borrow.Author.Needs.{needs}
+use mathlib.Core.Bool.{Bool, true, false, _&&_}
+use mathlib.Core.List.{List, [], _∷_}
+use mathlib.Core.Path.{_≡_, refl, sym, ap, ap₂, _∙_}
+use Prim.Native.Nat.{ℕ}
+use lib.Dec.{eqb}
+use Rattle.decimal.specs.Putting.{Put}
+use Rattle.model.specs.Step.{step}
+use Rattle.policy.specs.View.{view}
+use Rattle.sessions.specs.Answering.{given}
+use Rattle.engine.specs.Stepping.{first}
+use Rattle.script.specs.Script.{answerText}
+use Rattle.script.specs.Opening.{opensSession}
+use Rattle.script.proofs.Results.{command-results}
+use Rattle.script.proofs.obey_command.Statement.{statement}
+use Rattle.script.proofs.obey_command.Tie as tie
+
+-- the answer's number, whether it is 0, and whether there is a result
+number-is : (c : tie.After-number-of) → c .number-of .result ≡ step (view (c .before .before .before .before .before .before .before .args .s)) (c .before .before .before .before .before .before .before .args .c) (c .before .before .before .before .before .before .before .args .list .now) .answer
+number-is c = c .number-of .ensures ∙ c .before .before .before .before .step .ensures .answer
+
+ok-is : (c : tie.After-is-done) → c .is-done .result ≡ eqb (step (view (c .before .before .before .before .before .before .args .s)) (c .before .before .before .before .before .before .args .c) (c .before .before .before .before .before .before .args .list .now) .answer) 0
+ok-is c = c .is-done .ensures ∙ ap (λ (n : ℕ). eqb n 0) (c .before .before .before .step .ensures .answer)
+
+results-are : (c : tie.After-has-result) → given (c .has-result .result) (c .before .before .before .before .before .step .result .opened .number) ≡ step (view (c .before .before .before .before .before .before .before .before .args .s)) (c .before .before .before .before .before .before .before .before .args .c) (c .before .before .before .before .before .before .before .before .args .list .now) .results
+results-are c =
+    ap₂ (λ (b : Bool) (n : ℕ). given b n) (c .has-result .ensures ∙ ap (λ (b : Bool). opensSession (c .before .before .before .before .before .before .before .before .args .c) && b) (ok-is (c .before .before))) (c .before .before .before .before .before .step .ensures .opened)
+    ∙ sym (command-results (view (c .before .before .before .before .before .before .before .before .args .s)) (c .before .before .before .before .before .before .before .before .args .c) (c .before .before .before .before .before .before .before .before .args .list .now))
+
+step-requires : tie.Need-step-requires
+step-requires c κs = search needs
+
+is-done-requires : tie.Need-is-done-requires
+is-done-requires c κs = search needs
+
+number-of-requires : tie.Need-number-of-requires
+number-of-requires c κs = search needs
+
+has-result-requires : tie.Need-has-result-requires
+has-result-requires c κs = search needs
+
+slice-aggregate-answer-text : tie.Need-slice-aggregate-answer-text
+slice-aggregate-answer-text c = search needs
+
+answer-text-requires : tie.Need-answer-text-requires
+answer-text-requires c κs = search needs
+
+same-length : tie.Need-same-length
+same-length c = search needs
+
+returns : tie.Need-returns
+returns c =
+    record {
+      text = rw (← number-is (c .before .before .before .before .before .before .before), ← results-are (c .before .before .before .before .before .before), c .before .before .before .before .before .if1 .taken) (c .before .before .answer-text .ensures);
+      ok = ok-is (c .before .before .before .before .before .before .before .before);
+      state = c .before .before .before .before .before .before .before .before .before .before .before .step .ensures .after;
+    }
+
+array-share-prefix-result : tie.Need-array-share-prefix-result
+array-share-prefix-result c = search needs
+
+slice-aggregate-answer-text-2 : tie.Need-slice-aggregate-answer-text-2
+slice-aggregate-answer-text-2 c = search needs
+
+answer-text-requires-2 : tie.Need-answer-text-requires-2
+answer-text-requires-2 c κs = search needs
+
+same-length-2 : tie.Need-same-length-2
+same-length-2 c = search needs
+
+returns-2 : tie.Need-returns-2
+returns-2 c =
+    record {
+      text = rw (← number-is (c .before .before .before .before .before .before .before), ← results-are (c .before .before .before .before .before .before), c .before .before .before .before .before .if1 .left) (c .before .before .answer-text2 .ensures);
+      ok = ok-is (c .before .before .before .before .before .before .before .before);
+      state = c .before .before .before .before .before .before .before .before .before .before .before .step .ensures .after;
+    }
+
+pub obey-command-spec : {M : Type 1} → statement M
+obey-command-spec =
+    tie.close
+    (tie.spec
+    step-requires
+    is-done-requires
+    number-of-requires
+    has-result-requires
+    slice-aggregate-answer-text
+    answer-text-requires
+    same-length
+    returns
+    array-share-prefix-result
+    slice-aggregate-answer-text-2
+    answer-text-requires-2
+    same-length-2
+    returns-2)

@@ -1,0 +1,4 @@
+pub mod Script
+pub mod Opening
+pub mod Lines
+pub mod Running

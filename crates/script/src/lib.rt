@@ -1,0 +1,177 @@
+// A script: each line is read, obeyed and answered.
+ghost use mathlib.Core.Bool.{_&&_};
+ghost use mathlib.Core.List.{[], _∷_};
+ghost use mathlib.Core.Path.{_≡_};
+ghost use Prim.Native.Nat.{_+_, _<_, _≤_};
+ghost use lib.ListN.{length};
+ghost use Rattle.decimal.specs.Putting.{Put};
+ghost use Rattle.model.specs.Questions.{ask};
+ghost use Rattle.model.specs.Step.{step};
+ghost use Rattle.policy.specs.View.{view};
+ghost use Rattle.script.specs.Lines.{Answers, Turns};
+ghost use Rattle.script.specs.Opening.{opensSession};
+ghost use Rattle.script.specs.Script.{answerText, totalText, obey};
+use lines::Tally;
+use meaning::Meant;
+use model::Command;
+use model::Question;
+use policy::State;
+
+// The text of an answer stands at the front of the buffer and ends at `len`; whether it was 0; and the state after it.
+pub struct Answered {
+    pub len: usize,
+    pub ok: bool,
+    pub state: State,
+}
+
+// Puts an answer: its number, each result after one space, and LF.
+pub fn answer_text(buf: &mut [u8], answer: u16, results: &[u16]) -> usize
+    requires { ⌜ length (now results) ≤ 4096 ⌝ }
+    ensures { λ r. ⌜ Put (now (buf .entry)) 0 (answerText answer (now (results .entry))) (now (buf .exit)) r ⌝ }
+{
+    let first = decimal::put_number(buf, 0, answer);
+    let last = decimal::put_numbers(buf, first, results);
+    decimal::put(buf, last, 10)
+}
+
+// Puts the total: the number of lines answered 0, and of the others.
+pub fn total_text(buf: &mut [u8], t: Tally) -> usize
+    requires { ⌜ (t .done < 65536) × (t .others < 65536) ⌝ }
+    ensures { λ r. ⌜ Put (now (buf .entry)) 0 (totalText (t .done) (t .others)) (now (buf .exit)) r ⌝ }
+{
+    let a = decimal::put(buf, 0, 116);
+    let b = decimal::put(buf, a, 111);
+    let c = decimal::put(buf, b, 116);
+    let d = decimal::put(buf, c, 97);
+    let e = decimal::put(buf, d, 108);
+    let counts = [t.done as u16, t.others as u16];
+    let last = decimal::put_numbers(buf, e, &counts);
+    decimal::put(buf, last, 10)
+}
+
+// Is it the command that has a result?
+fn opens(c: Command) -> bool
+    ensures { λ b. ⌜ b ≡ opensSession c ⌝ }
+{
+    match c {
+        Command::AddUser(_) => false,
+        Command::AddRole(_) => false,
+        Command::NoUser(_) => false,
+        Command::NoRole(_) => false,
+        Command::Assign(_, _) => false,
+        Command::Deassign(_, _) => false,
+        Command::Grant(_, _, _) => false,
+        Command::Revoke(_, _, _) => false,
+        Command::Inherit(_, _) => false,
+        Command::Disinherit(_, _) => false,
+        Command::MakeSet(_, _, _) => false,
+        Command::DropSet(_, _) => false,
+        Command::AddMember(_, _, _) => false,
+        Command::DropMember(_, _, _) => false,
+        Command::SetCardinality(_, _, _) => false,
+        Command::OpenSession(_) => true,
+        Command::Activate(_, _, _) => false,
+        Command::DropActive(_, _, _) => false,
+        Command::EndSession(_, _) => false,
+    }
+}
+
+// Has it a result: was it done, and is it the command that has one?
+fn has_result(ok: bool, c: Command) -> bool
+    ensures { λ b. ⌜ b ≡ (opensSession c && ok) ⌝ }
+{
+    if opens(c) { ok } else { false }
+}
+
+// Obeys a command, and puts its answer.
+fn obey_command(s: State, c: Command, list: &[u16], buf: &mut [u8]) -> Answered
+    ensures { λ x. ⌜ Answers (step (view s) c (now (list .entry))) (now (buf .entry)) (now (buf .exit)) x ⌝ }
+{
+    let o = engine::step(s, c, list);
+    let answer = o.answer;
+    let opened = o.opened;
+    let state = o.state;
+    let ok = numbers::is_done(answer);
+    let number = numbers::number_of(answer);
+    let result = [opened.number];
+    if has_result(ok, c) {
+        let len = answer_text(buf, number, &result);
+        return Answered { len, ok, state };
+    }
+    let len = answer_text(buf, number, &result[..0]);
+    Answered { len, ok, state }
+}
+
+// Asks a question, and puts its answer.
+fn ask_question(s: State, q: Question, buf: &mut [u8]) -> Answered
+    ensures { λ x. ⌜ Answers (ask (view s) 4096 q) (now (buf .entry)) (now (buf .exit)) x ⌝ }
+{
+    let mut results = [0u16; 4096];
+    let r = reviews::ask(s, q, &mut results);
+    let answer = r.answer;
+    let count = r.count;
+    let number = numbers::number_of(answer);
+    let ok = numbers::is_done(answer);
+    let len = answer_text(buf, number, &results[..count as usize]);
+    Answered { len, ok, state: s }
+}
+
+// Answers a line of a script, any bytes: its text is put into the lent buffer.
+pub fn answer_line(s: State, text: &[u8], buf: &mut [u8]) -> Answered
+    ensures { λ x. ⌜ Answers (obey (view s) (now (text .entry))) (now (buf .entry)) (now (buf .exit)) x ⌝ }
+{
+    let l = reading::read_line(text);
+    let ok = l.ok;
+    let word = l.word;
+    let count = l.count;
+    let numbers = l.numbers;
+    if ok {
+        let from = words::before_list(word) as usize;
+        match meaning::meaning(word, numbers[0], numbers[1], numbers[2]) {
+            Meant::Do(c) => obey_command(s, c, &numbers[from..count as usize], buf),
+            Meant::Ask(q) => ask_question(s, q, buf),
+        }
+    } else {
+        let none = [0u16; 1];
+        let len = answer_text(buf, 14, &none[..0]);
+        Answered {
+            len,
+            ok: false,
+            state: s,
+        }
+    }
+}
+
+// How far a script has run: the state, the place past the lines that were answered, and their count.
+pub struct Progress {
+    pub state: State,
+    pub at: usize,
+    pub tally: Tally,
+}
+
+pub struct Turned {
+    pub len: usize,
+    pub next: Progress,
+}
+
+// One line of a script: its answer is put into the lent buffer, which holds the longest one.
+pub fn turn(script: &[u8], p: Progress, buf: &mut [u8]) -> Turned
+    requires { ⌜ (p .at < length (now script)) × ((p .tally .done + p .tally .others < 65536) × (32768 ≤ length (now buf))) ⌝ }
+    ensures { λ x. ⌜ Turns (now (script .entry)) p (now (buf .entry)) (now (buf .exit)) x ⌝ }
+{
+    let state = p.state;
+    let tally = p.tally;
+    let mut at = p.at;
+    let text = lines::next_from(script, &mut at, 10);
+    let a = answer_line(state, text, buf);
+    let after = a.state;
+    let counted = lines::tallied(tally, a.ok);
+    Turned {
+        len: a.len,
+        next: Progress {
+            state: after,
+            at,
+            tally: counted,
+        },
+    }
+}
