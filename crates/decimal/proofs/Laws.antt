@@ -2,14 +2,14 @@
 use mathlib.Core.Bool.{Bool, true, false}
 use mathlib.Core.List.{List, [], _∷_, _++_, append-assoc, append-nil}
 use mathlib.Core.Path.{_≡_, refl, sym, ap, ap₂, _∙_}
-use Prim.Native.Nat.{ℕ, suc, _+_, _*_, _/_, _%_, _≤_, _<_}
+use Prim.Native.Nat.{ℕ, suc, _+_, _*_, _/_, _%_, _-_, _≤_, _<_, min}
 use native.Mathlib.Nat.{add-zero, add-suc, suc-add}
 use native.Mathlib.Numerals.{add-one}
 use native.Mathlib.Omega.{arith}
-use native.Mathlib.Decide.{decLt}
+use native.Mathlib.Decide.{decLe, decLt}
 use lib.Dec.{leb}
 use lib.ListN.{length, set, getD, take, length-append, length-set, length-take}
-use lib.Seq.{sets, length-sets, take-suc, length-take-le, take-all}
+use lib.Seq.{sets, set-out, length-sets, take-suc, length-take-le, take-all}
 use borrow.Author.Tests.{le-leb, lt-leb}
 use Rattle.decimal.specs.Decimal.{digit, lead, decimal, numbered, taken, takenFrom, value, space}
 use Rattle.decimal.specs.Putting.{Put}
@@ -20,16 +20,33 @@ pub sets-append : (a b l : List ℕ) (i : ℕ) → sets l i (a ++ b) ≡ sets (s
 sets-append [] b l i = ap (λ (k : ℕ). sets l k b) (sym (add-zero i))
 sets-append (x ∷ a) b l i = sets-append a b (set l i x) (suc i) ∙ ap (λ (k : ℕ). sets (sets (set l i x) (suc i) a) k b) (suc-add i (length a) ∙ sym (add-suc i (length a)))
 
+-- past the end of a buffer nothing is stored
+sets-out : (l : List ℕ) (i : ℕ) (text : List ℕ) → length l ≤ i → sets l i text ≡ l
+sets-out l i [] h = refl
+sets-out l i (b ∷ text) h = let e : set l i b ≡ l = set-out l i b (omega arith) in ap (λ (m : List ℕ). sets m (suc i) text) e ∙ sets-out l (suc i) text (omega arith)
+
 pub put-none : (l : List ℕ) (at : ℕ) → Put l at [] l at
-put-none l at = record { holds = refl; ends = sym (add-zero at) }
+put-none l at = record { holds = refl; ends = omega arith }
 
 -- one text and then another is both, joined
 pub put-then : {l l′ l″ a b : List ℕ} {at next last : ℕ} → Put l at a l′ next → Put l′ next b l″ last → Put l at (a ++ b) l″ last
 put-then {l} {l′} {l″} {a} {b} {at} {next} {last} p q =
-    record {
-      holds = q .holds ∙ ap₂ (λ (m : List ℕ) (k : ℕ). sets m k b) (p .holds) (p .ends) ∙ sym (sets-append a b l at);
-      ends = let e : length (a ++ b) ≡ length a + length b = length-append a b in omega (arith, p .ends, q .ends);
-    }
+    record { holds = q .holds ∙ ap (λ (m : List ℕ). sets m next b) (p .holds) ∙ stored (decLe (at + length a) (length l)) ∙ sym (sets-append a b l at); ends = omega (arith, p .ends, q .ends, length-append a b, same) }
+  where
+    same : length l′ ≡ length l
+    same = ap length (p .holds) ∙ length-sets l at a
+
+    stored : Dec (at + length a ≤ length l) → sets (sets l at a) next b ≡ sets (sets l at a) (at + length a) b
+    stored (yes h) = let e : next ≡ at + length a = omega (arith, p .ends) in ap (λ (k : ℕ). sets (sets l at a) k b) e
+    stored (no h) = sets-out (sets l at a) next b (omega (arith, p .ends, length-sets l at a)) ∙ sym (sets-out (sets l at a) (at + length a) b (omega (arith, length-sets l at a)))
+
+-- where there is room for the text, the next place is the one past it
+pub put-ends : {l l′ a : List ℕ} {at next : ℕ} → Put l at a l′ next → at + length a ≤ length l → next ≡ at + length a
+put-ends {l} {l′} {a} {at} p h = omega (arith, p .ends)
+
+-- and never past the end of the buffer
+pub put-within : {l l′ a : List ℕ} {at next : ℕ} → Put l at a l′ next → at ≤ length l → next ≤ length l
+put-within {l} {l′} {a} {at} p h = omega (arith, p .ends)
 
 pub put-length : {l l′ a : List ℕ} {at next : ℕ} → Put l at a l′ next → length l′ ≡ length l
 put-length {l} {l′} {a} {at} p = ap length (p .holds) ∙ length-sets l at a
@@ -82,10 +99,6 @@ numbered-append (n ∷ a) b = ap (λ (l : List ℕ). (space ∷ decimal n) ++ l)
 pub numbered-next : (l : List ℕ) (i : ℕ) → i < length l → numbered (take (i + 1) l) ≡ numbered (take i l) ++ ((space ∷ []) ++ decimal (getD l i 0))
 unfolding numbered
 numbered-next l i h = rw (add-one i, take-suc l i 0 h) (numbered-append (take i l) (getD l i 0 ∷ []) ∙ ap (λ (x : List ℕ). numbered (take i l) ++ x) (append-nil (space ∷ decimal (getD l i 0))))
-
--- how far the numbers before one reach
-pub before-next : (l : List ℕ) (i : ℕ) → i < length l → length (numbered (take i l)) + 6 ≤ 6 * length l
-before-next l i h = let e : length (take i l) ≡ i = length-take-le i l (omega arith) in omega (arith, numbered-short (take i l))
 
 -- ---- what is written is read back
 

@@ -1,25 +1,24 @@
 // Numbers in decimal: written into a lent buffer, and taken from a text. Two formats share them: a script's line and an answer.
 ghost use mathlib.Core.List.{[], _∷_};
 ghost use mathlib.Core.Path.{_≡_};
-ghost use Prim.Native.Nat.{_+_, _*_, _<_, _≤_, _^_};
-ghost use lib.ListN.{length};
+ghost use Prim.Native.Nat.{_<_};
 ghost use Rattle.decimal.specs.Decimal.{decimal, lead, numbered, value};
 ghost use Rattle.decimal.specs.Putting.{Put};
 
-// Puts a byte at a place, where the buffer reaches so far, and answers the next place.
+// Puts a byte at a place, where the buffer reaches so far, and answers the place past what was put.
 pub fn put(buf: &mut [u8], at: usize, b: u8) -> usize
-    requires { ⌜ at < 2 ^ 32 ⌝ }
     ensures { λ r. ⌜ Put (now (buf .entry)) at (b ∷ []) (now (buf .exit)) r ⌝ }
 {
     if at < buf.len() {
         buf[at] = b;
+        return at + 1;
     }
-    at + 1
+    at
 }
 
 // Puts the digit of n at a place of the decimal system, where n reaches so far.
 fn put_lead(buf: &mut [u8], at: usize, n: u16, place: u16) -> usize
-    requires { ⌜ (at < 2 ^ 32) × (0 < place) ⌝ }
+    requires { ⌜ 0 < place ⌝ }
     ensures { λ r. ⌜ Put (now (buf .entry)) at (lead place n) (now (buf .exit)) r ⌝ }
 {
     if place <= n {
@@ -31,7 +30,6 @@ fn put_lead(buf: &mut [u8], at: usize, n: u16, place: u16) -> usize
 
 // Puts a number.
 pub fn put_number(buf: &mut [u8], at: usize, n: u16) -> usize
-    requires { ⌜ at + 5 < 2 ^ 32 ⌝ }
     ensures { λ r. ⌜ Put (now (buf .entry)) at (decimal n) (now (buf .exit)) r ⌝ }
 {
     let b = put_lead(buf, at, n, 10000);
@@ -44,7 +42,6 @@ pub fn put_number(buf: &mut [u8], at: usize, n: u16) -> usize
 
 // Puts each of some numbers after one space.
 pub fn put_numbers(buf: &mut [u8], at: usize, numbers: &[u16]) -> usize
-    requires { ⌜ at + 6 * length (now numbers) < 2 ^ 32 ⌝ }
     ensures { λ r. ⌜ Put (now (buf .entry)) at (numbered (now (numbers .entry))) (now (buf .exit)) r ⌝ }
 {
     let mut next = at;

@@ -1,3 +1,4 @@
+-- The digits one after another, from the ten thousands on. Assumes nothing.
 use borrow.Author.Needs.{needs}
 use mathlib.Core.List.{List, [], _∷_}
 use mathlib.Core.Path.{_≡_, sym, ap}
@@ -6,7 +7,7 @@ use native.Mathlib.Omega.{arith}
 use lib.ListN.{length}
 use Rattle.decimal.specs.Decimal.{decimal, lead, digit}
 use Rattle.decimal.specs.Putting.{Put}
-use Rattle.decimal.proofs.Laws.{lead-short, put-then}
+use Rattle.decimal.proofs.Laws.{put-then}
 use Rattle.decimal.proofs.put_number.Statement.{statement}
 use Rattle.decimal.proofs.put_number.Tie as tie
 
@@ -14,13 +15,13 @@ put-lead-requires : tie.Need-put-lead-requires
 put-lead-requires c κs = search needs
 
 put-lead-requires-2 : tie.Need-put-lead-requires-2
-put-lead-requires-2 c κs = omega (arith, c .before .before .before .before .before .before .pre, c .before .before .before .put-lead .ensures .ends, lead-short 10000 (c .before .before .before .before .before .before .args .n))
+put-lead-requires-2 c κs = search needs
 
 put-lead-requires-3 : tie.Need-put-lead-requires-3
-put-lead-requires-3 c κs = omega (arith, c .before .before .before .before .before .before .before .before .before .before .pre, c .before .before .before .before .before .before .before .put-lead .ensures .ends, lead-short 10000 (c .before .before .before .before .before .before .before .before .before .before .args .n), c .before .before .before .put-lead2 .ensures .ends, lead-short 1000 (c .before .before .before .before .before .before .before .before .before .before .args .n))
+put-lead-requires-3 c κs = search needs
 
 put-lead-requires-4 : tie.Need-put-lead-requires-4
-put-lead-requires-4 c κs = omega (arith, c .before .before .before .before .before .before .before .before .before .before .before .before .before .before .pre, c .before .before .before .before .before .before .before .before .before .before .before .put-lead .ensures .ends, lead-short 10000 (c .before .before .before .before .before .before .before .before .before .before .before .before .before .before .args .n), c .before .before .before .before .before .before .before .put-lead2 .ensures .ends, lead-short 1000 (c .before .before .before .before .before .before .before .before .before .before .before .before .before .before .args .n), c .before .before .before .put-lead3 .ensures .ends, lead-short 100 (c .before .before .before .before .before .before .before .before .before .before .before .before .before .before .args .n))
+put-lead-requires-4 c κs = search needs
 
 cast-last : tie.Need-cast-last
 cast-last c = search needs
@@ -29,7 +30,7 @@ add-put : tie.Need-add-put
 add-put c = search needs
 
 put-requires : tie.Need-put-requires
-put-requires c κs = omega (arith, c .before .before .before .before .before .before .before .before .before .before .before .before .before .before .before .before .before .before .pre, c .before .before .before .before .before .before .before .before .before .before .before .before .before .before .before .put-lead .ensures .ends, lead-short 10000 (c .before .before .before .before .before .before .before .before .before .before .before .before .before .before .before .before .before .before .args .n), c .before .before .before .before .before .before .before .before .before .before .before .put-lead2 .ensures .ends, lead-short 1000 (c .before .before .before .before .before .before .before .before .before .before .before .before .before .before .before .before .before .before .args .n), c .before .before .before .before .before .before .before .put-lead3 .ensures .ends, lead-short 100 (c .before .before .before .before .before .before .before .before .before .before .before .before .before .before .before .before .before .before .args .n), c .before .before .before .put-lead4 .ensures .ends, lead-short 10 (c .before .before .before .before .before .before .before .before .before .before .before .before .before .before .before .before .before .before .args .n))
+put-requires c κs = search needs
 
 same-length : tie.Need-same-length
 same-length c = search needs

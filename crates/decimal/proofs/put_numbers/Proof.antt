@@ -1,3 +1,4 @@
+-- The numbers that were put so far stand in the buffer. Assumes nothing.
 use borrow.Author.Needs.{needs}
 use mathlib.Core.List.{List, [], _∷_, _++_}
 use mathlib.Core.Path.{_≡_, refl, sym, ap, _∙_}
@@ -8,7 +9,7 @@ use lib.ListN.{length, getD, take, drop}
 use lib.Seq.{take-all}
 use Rattle.decimal.specs.Decimal.{decimal, numbered}
 use Rattle.decimal.specs.Putting.{Put}
-use Rattle.decimal.proofs.Laws.{decimal-short, numbered-short, put-then, put-none, numbered-next, put-length, before-next}
+use Rattle.decimal.proofs.Laws.{put-then, put-none, numbered-next, put-length}
 use Rattle.decimal.proofs.put_numbers.Statement.{statement}
 use Rattle.decimal.proofs.put_numbers.Tie as tie
 
@@ -22,11 +23,8 @@ loop-holds : tie.Need-loop-holds Inv-loop μ-loop
 unfolding numbered
 loop-holds c = (omega arith, put-none _ _)
 
--- the number read is a 16-bit one, and the place is far from the end of what a place can be
 put-requires : tie.Need-put-requires Inv-loop μ-loop
-put-requires c κs =
-    let l : c .before .before .loop .i < length (c .before .before .before .before .before .args .numbers .now) = omega arith in
-    omega (arith, c .before .before .before .before .before .pre, c .before .before .loop .inv .1 .ends, before-next (c .before .before .before .before .before .args .numbers .now) (c .before .before .loop .i) l)
+put-requires c κs = search needs
 
 mul-put-number : tie.Need-mul-put-number Inv-loop μ-loop
 mul-put-number c = search needs
@@ -35,9 +33,7 @@ shared-slice-read-put-number : tie.Need-shared-slice-read-put-number Inv-loop μ
 shared-slice-read-put-number c = search needs
 
 put-number-requires : tie.Need-put-number-requires Inv-loop μ-loop
-put-number-requires c κs =
-    let l : c .before .before .before .before .before .before .before .loop .i < length (c .before .before .before .before .before .before .before .before .before .before .args .numbers .now) = omega arith in
-    omega (arith, c .before .before .before .before .before .before .before .before .before .before .pre, c .before .before .before .before .before .before .before .loop .inv .1 .ends, c .before .before .before .before .put .ensures .ends, before-next (c .before .before .before .before .before .before .before .before .before .before .args .numbers .now) (c .before .before .before .before .before .before .before .loop .i) l)
+put-number-requires c κs = search needs
 
 add-i : tie.Need-add-i Inv-loop μ-loop
 add-i c = search needs
