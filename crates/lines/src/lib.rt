@@ -1,9 +1,9 @@
 // A text in parts, read one after another, and the count of a script's lines.
 ghost use mathlib.Core.Path.{_≡_};
-ghost use Prim.Native.Nat.{_+_, _<_, _≤_, _^_};
-ghost use lib.ListN.{length, drop};
+ghost use Prim.Native.Nat.{_+_, _≤_};
+ghost use lib.ListN.{length};
 ghost use Rattle.lines.specs.Parts.{partAt, placePast};
-ghost use Rattle.lines.specs.Tallies.{counted};
+ghost use Rattle.lines.specs.Tallies.{counted, oneMore};
 
 // The place where the part that starts at a place ends: the next stop byte, or the end of the text.
 fn end_of(s: &[u8], at: usize, stop: u8) -> usize
@@ -71,31 +71,36 @@ pub fn next_from<'a, 'b>(s: &'a [u8], at: &'b mut usize, stop: u8) -> &'a [u8]
 
 // How many lines were answered 0, and how many otherwise.
 pub struct Tally {
-    pub done: u32,
-    pub others: u32,
+    pub done: u16,
+    pub others: u16,
+}
+
+// One more, or the most that the counter holds.
+fn one_more(n: u16) -> u16
+    ensures { λ r. ⌜ r ≡ oneMore n ⌝ }
+{
+    if n < 65535 { n + 1 } else { n }
 }
 
 // One line more.
 pub fn bumped(t: Tally, ok: bool) -> Tally
-    requires { ⌜ (t .done + 1 < 2 ^ 32) × (t .others + 1 < 2 ^ 32) ⌝ }
     ensures { λ r. ⌜ r ≡ counted t ok ⌝ }
 {
     if ok {
         Tally {
-            done: t.done + 1,
+            done: one_more(t.done),
             others: t.others,
         }
     } else {
         Tally {
             done: t.done,
-            others: t.others + 1,
+            others: one_more(t.others),
         }
     }
 }
 
 // One line more, in a tally that is lent.
 pub fn bump(t: &mut Tally, ok: bool)
-    requires { ⌜ (now t .done + 1 < 2 ^ 32) × (now t .others + 1 < 2 ^ 32) ⌝ }
     ensures { λ _. ⌜ now (t .exit) ≡ counted (now (t .entry)) ok ⌝ }
 {
     *t = bumped(*t, ok);
@@ -103,7 +108,6 @@ pub fn bump(t: &mut Tally, ok: bool)
 
 // The tally after one line more, for callers that keep it by value.
 pub fn tallied(t: Tally, ok: bool) -> Tally
-    requires { ⌜ (t .done + 1 < 2 ^ 32) × (t .others + 1 < 2 ^ 32) ⌝ }
     ensures { λ r. ⌜ r ≡ counted t ok ⌝ }
 {
     let mut u = t;

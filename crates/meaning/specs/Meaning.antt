@@ -6,7 +6,7 @@ use Rattle.model.specs.declared.Kind.the-variants.{Static, Dynamic}
 use Rattle.model.specs.declared.Command.the-variants.{Activate, AddMember, AddRole, AddUser, Assign, Deassign, Disinherit, DropActive, DropMember, DropSet, EndSession, Grant, Inherit, MakeSet, NoRole, NoUser, OpenSession, Revoke, SetCardinality}
 use Rattle.model.specs.declared.Question.the-variants.{AssignedRoles, AssignedUsers, AuthRoles, AuthUsers, Check, RoleOps, RolePerms, SessionPerms, SessionRoles, SetCount, SetRoles, Sets, UserOps, UserPerms}
 use Rattle.meaning.specs.declared.Meant.{Meant}
-use Rattle.meaning.specs.declared.Meant.the-variants.{Do, Ask}
+use Rattle.meaning.specs.declared.Meant.the-variants.{Do, Ask, Nothing}
 
 unfoldable pub meanings : ℕ → ℕ → ℕ → List Meant
 meanings a b c =
@@ -94,5 +94,6 @@ meanings a b c =
     Ask (SetCount Dynamic (record { number = a })) ∷
     []
 
+-- past the last word there is nothing to mean
 unfoldable pub meant : ℕ → ℕ → ℕ → ℕ → Meant
-meant k a b c = getD (meanings a b c) k (Ask (Sets Static))
+meant k a b c = getD (meanings a b c) k Nothing

@@ -10,9 +10,11 @@ use numbers::Session;
 use numbers::SetName;
 use numbers::User;
 
+// A command to obey, a question to ask, or nothing: there is no such word.
 pub enum Meant {
     Do(Command),
     Ask(Question),
+    Nothing,
 }
 
 // The commands on users, roles, assignments, grants and lines.
@@ -111,7 +113,6 @@ fn set_question(word: u16, a: u16) -> Question
 
 // What the word asks for, with its first three numbers.
 pub fn meaning(word: u16, a: u16, b: u16, c: u16) -> Meant
-    requires { ⌜ word < 41 ⌝ }
     ensures { λ x. ⌜ x ≡ meant word a b c ⌝ }
 {
     if word < 10 {
@@ -126,5 +127,8 @@ pub fn meaning(word: u16, a: u16, b: u16, c: u16) -> Meant
     if word < 35 {
         return Meant::Ask(question(word, a, b, c));
     }
-    Meant::Ask(set_question(word, a))
+    if word < 41 {
+        return Meant::Ask(set_question(word, a));
+    }
+    Meant::Nothing
 }

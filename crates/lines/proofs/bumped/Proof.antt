@@ -1,22 +1,22 @@
+-- One line more, by value. Assumes nothing.
 use borrow.Author.Needs.{needs}
-use mathlib.Core.Path.{refl}
 use Rattle.lines.specs.Tallies.{counted}
 use Rattle.lines.proofs.bumped.Statement.{statement}
 use Rattle.lines.proofs.bumped.Tie as tie
 
-add-t5 : tie.Need-add-t5
-add-t5 c = search needs
+one-more-requires : tie.Need-one-more-requires
+one-more-requires c κs = search needs
 
-add-t6 : tie.Need-add-t6
-add-t6 c = search needs
+one-more-requires-2 : tie.Need-one-more-requires-2
+one-more-requires-2 c κs = search needs
 
 returns : tie.Need-returns
 unfolding counted
-returns c = rw (c .before .if1 .taken)
+returns c = rw (c .before .if1 .taken, c .one-more .ensures)
 
 returns-2 : tie.Need-returns-2
 unfolding counted
-returns-2 c = rw (c .before .if1 .left)
+returns-2 c = rw (c .before .if1 .left, c .one-more2 .ensures)
 
 pub bumped-spec : {M : Type 1} → statement M
-bumped-spec = tie.close (tie.spec add-t5 add-t6 returns returns-2)
+bumped-spec = tie.close (tie.spec one-more-requires one-more-requires-2 returns returns-2)
