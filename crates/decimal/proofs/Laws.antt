@@ -9,7 +9,7 @@ use native.Mathlib.Omega.{arith}
 use native.Mathlib.Decide.{decLe, decLt}
 use lib.Dec.{leb}
 use lib.ListN.{length, set, getD, take, length-append, length-set, length-take}
-use lib.Seq.{sets, set-out, length-sets, take-suc, length-take-le, take-all}
+use lib.Seq.{sets, set-out, sets-eq, length-sets, take-append-seam, take-suc, length-take-le, take-all}
 use borrow.Author.Tests.{le-leb, lt-leb}
 use Rattle.decimal.specs.Decimal.{digit, lead, decimal, numbered, taken, takenFrom, value, space}
 use Rattle.decimal.specs.Putting.{Put}
@@ -50,6 +50,13 @@ put-within {l} {l′} {a} {at} p h = omega (arith, p .ends)
 
 pub put-length : {l l′ a : List ℕ} {at next : ℕ} → Put l at a l′ next → length l′ ≡ length l
 put-length {l} {l′} {a} {at} p = ap length (p .holds) ∙ length-sets l at a
+
+-- a text that was put at the front of a buffer with room for it stands there
+pub put-front : {l l′ a : List ℕ} {next : ℕ} → Put l 0 a l′ next → length a ≤ length l → take next l′ ≡ a
+put-front {l} {l′} {a} {next} p h =
+    let e : next ≡ length a = omega (arith, p .ends) in
+    let r : 0 + length a ≤ length l = omega arith in
+    ap₂ (λ (n : ℕ) (x : List ℕ). take n x) e (p .holds ∙ sets-eq a l 0 r) ∙ take-append-seam a _
 
 -- ---- how long a number is
 

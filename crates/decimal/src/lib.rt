@@ -16,6 +16,19 @@ pub fn put(buf: &mut [u8], at: usize, b: u8) -> usize
     at
 }
 
+// Puts a text.
+pub fn put_text(buf: &mut [u8], at: usize, text: &[u8]) -> usize
+    ensures { λ r. ⌜ Put (now (buf .entry)) at (now (text .entry)) (now (buf .exit)) r ⌝ }
+{
+    let mut next = at;
+    let mut i: usize = 0;
+    while i < text.len() {
+        next = put(buf, next, text[i]);
+        i += 1;
+    }
+    next
+}
+
 // Puts the digit of n at a place of the decimal system, where n reaches so far.
 fn put_lead(buf: &mut [u8], at: usize, n: u16, place: u16) -> usize
     requires { ⌜ 0 < place ⌝ }

@@ -6,7 +6,6 @@ use Prim.Native.Nat.{ℕ, _+_, _*_, _≤_, _<_}
 use native.Mathlib.Omega.{arith}
 use lib.Dec.{eqb, ltb}
 use lib.ListN.{length, getD, take, drop, length-append}
-use lib.Seq.{sets, sets-eq, take-append-seam}
 use borrow.Author.Tests.{lt-ltb, le-ltb}
 use Rattle.model.specs.Model.{Model, empty}
 use Rattle.model.specs.Sheet.{Told}
@@ -15,25 +14,25 @@ use Rattle.model.specs.declared.Command.{Command}
 use Rattle.policy.specs.View.{view}
 use Rattle.decimal.specs.Decimal.{decimal, numbered}
 use Rattle.decimal.specs.Putting.{Put}
-use Rattle.decimal.proofs.Laws.{decimal-short, numbered-short}
-use Rattle.words.specs.Bytes.{bytes}
+use Rattle.decimal.proofs.Laws.{decimal-short, numbered-short, put-front}
 use Rattle.words.specs.Words.{wordOf}
 use Rattle.lines.specs.Parts.{partsOf, partAt, placePast}
-use Rattle.lines.specs.Tallies.{counted}
+use Rattle.lines.specs.Tallies.{counted, oneMore}
 use Rattle.lines.specs.declared.Tally.{Tally}
-use Rattle.lines.proofs.Laws.{parts-at, parts-none}
+use Rattle.lines.proofs.Laws.{parts-at, parts-none, past-more}
 use Rattle.reading.specs.Form.{Parsed, line, noLine, parse}
 use Rattle.meaning.specs.declared.Meant.{Meant}
-use Rattle.meaning.specs.declared.Meant.the-variants.{Do, Ask}
+use Rattle.meaning.specs.declared.Meant.the-variants.{Do, Ask, Nothing}
 use Rattle.meaning.specs.Meaning.{meant}
 use Rattle.sessions.specs.Answering.{given}
 use Rattle.engine.specs.Stepping.{first}
 use Rattle.reviews.proofs.Promised.{results-fit}
 use Rattle.script.specs.Opening.{opensSession}
-use Rattle.script.specs.Script.{room, doing, obeyed, obey, answerText, totalText, doneAfter, othersAfter, runLines, runScript, lineFeed}
-use Rattle.script.specs.Lines.{Turns, toPrint}
-use Rattle.script.specs.Running.{Runs, ends, goes}
+use Rattle.script.specs.Script.{room, doing, obeyed, obey, answerText, totalText, doneAfter, othersAfter, runLines, runScript, lineFeed, longestScript}
+use Rattle.script.specs.Lines.{Turns, toldAt}
+use Rattle.script.specs.Running.{Runs, ends, goes, bufferLength}
 use Rattle.script.specs.declared.Progress.{Progress}
+use Rattle.script.specs.declared.Turned.{Turned}
 use Rattle.script.proofs.Results.{command-results}
 
 -- ---- how long an answer is
@@ -45,6 +44,7 @@ few-given false n = omega arith
 few-done : (m : Model) (x : Meant) (list : List ℕ) → length (doing m x list .results) ≤ 4096
 few-done m (Do c) list = let e = ap length (command-results m c list) in omega (arith, e, few-given (opensSession c && eqb (step m c list .answer) 0) (first (step m c list .results)))
 few-done m (Ask q) list = results-fit m 4096 q (omega arith)
+few-done m Nothing list = omega arith
 
 few-obeyed : (m : Model) (p : Parsed) → length (obeyed m p .results) ≤ 4096
 few-obeyed m (line k ns) = few-done m (meant k (getD ns 0 0) (getD ns 1 0) (getD ns 2 0)) (drop (wordOf k .numbers) ns)
@@ -60,30 +60,28 @@ unfolding answerText
 answer-short answer results h =
     omega (arith, length-append (decimal answer) (numbered results ++ (lineFeed ∷ [])), length-append (numbered results) (lineFeed ∷ []), decimal-short answer, numbered-short results)
 
--- a text that was put at the front of a buffer with room for it stands there
-pub front : (before after text : List ℕ) (len : ℕ) → Put before 0 text after len → length text ≤ length before → take len after ≡ text
-front before after text len p h =
-    let e : len ≡ length text = omega (arith, p .ends) in
-    let r : 0 + length text ≤ length before = omega arith in
-    ap₂ (λ (n : ℕ) (l : List ℕ). take n l) e (p .holds ∙ sets-eq text before 0 r) ∙ take-append-seam text _
-
 -- ---- one line
 
-pub count-done : (t : Tally) (told : Told) (ok : Bool) → ok ≡ eqb (told .answer) 0 → counted t ok .done ≡ doneAfter (t .done) told
+-- a counter that is not at its most grows by one
+more : (n : ℕ) → n < 65535 → oneMore n ≡ n + 1
+unfolding oneMore
+more n h = omega arith
+
+count-done : (t : Tally) (told : Told) → t .done < 65535 → counted t (eqb (told .answer) 0) .done ≡ doneAfter (t .done) told
 unfolding counted
-count-done t told ok e = ap (λ (b : Bool). counted t b .done) e ∙ go (eqb (told .answer) 0)
+count-done t told h = go (eqb (told .answer) 0)
   where
     go : (b : Bool) → counted t b .done ≡ elim b [ true ↦ t .done + 1 | false ↦ t .done ]
-    go true = refl
+    go true = more (t .done) h
     go false = refl
 
-pub count-others : (t : Tally) (told : Told) (ok : Bool) → ok ≡ eqb (told .answer) 0 → counted t ok .others ≡ othersAfter (t .others) told
+count-others : (t : Tally) (told : Told) → t .others < 65535 → counted t (eqb (told .answer) 0) .others ≡ othersAfter (t .others) told
 unfolding counted
-count-others t told ok e = ap (λ (b : Bool). counted t b .others) e ∙ go (eqb (told .answer) 0)
+count-others t told h = go (eqb (told .answer) 0)
   where
     go : (b : Bool) → counted t b .others ≡ elim b [ true ↦ t .others | false ↦ t .others + 1 ]
     go true = refl
-    go false = refl
+    go false = more (t .others) h
 
 module _ (script : List ℕ) (m : Model) (done others at : ℕ) (h : at < length script) where
   abbrev told : Told
@@ -108,25 +106,42 @@ pub too-long : (script : List ℕ) → 32768 < length script → runScript scrip
 unfolding runScript
 too-long script h = rw (lt-ltb 32768 (length script) h, runScript)
 
--- ---- joined
-
-joined : {script out : List ℕ} {p : Progress} → Runs script p out → out ≡ toPrint script p
-joined {script} (ends p h) = sym (at-end script (view (p .state)) (p .tally .done) (p .tally .others) (p .at) h)
-joined {script} (goes p before after x rest h t r) = ap (λ (l : List ℕ). take (x .len) after ++ l) (joined r) ∙ t .line
-
--- The program's steps from the empty policy on, joined, are what the script prints.
-pub whole : (script out : List ℕ) (p : Progress) → length script ≤ 32768 → view (p .state) ≡ empty → p .at ≡ 0 → p .tally .done ≡ 0 → p .tally .others ≡ 0 → Runs script p out → out ≡ runScript script
-whole script out p h s a d o r = joined r ∙ rw (s, a, d, o) (sym (from-start script h))
-
 -- each line is counted once
-pub counted-once : (done others : ℕ) (told : Told) → doneAfter done told + othersAfter others told ≡ done + others + 1
+counted-once : (done others : ℕ) (told : Told) → doneAfter done told + othersAfter others told ≡ done + others + 1
 counted-once done others told = go (eqb (told .answer) 0)
   where
     go : (b : Bool) → elim b as (λ _. ℕ) [ true ↦ done + 1 | false ↦ done ] + elim b as (λ _. ℕ) [ true ↦ others | false ↦ others + 1 ] ≡ done + others + 1
     go true = omega arith
     go false = omega arith
 
-pub total-short : (done others : ℕ) → length (totalText done others) ≤ 18
-unfolding totalText
-total-short done others =
-    omega (arith, length-append (bytes "total") (numbered (done ∷ others ∷ []) ++ (lineFeed ∷ [])), length-append (numbered (done ∷ others ∷ [])) (lineFeed ∷ []), numbered-short (done ∷ others ∷ []))
+-- ---- joined
+
+-- what is still to be printed of a script, from a place in it on
+abbrev toPrint : List ℕ → Progress → List ℕ
+toPrint script p = runLines (view (p .state)) (p .tally .done) (p .tally .others) (partsOf lineFeed (drop (p .at) script))
+
+-- A turn prints its line, and leaves the rest to print.
+module _ (script : List ℕ) (p : Progress) (before after : List ℕ) (x : Turned) (t : Turns script p before after x) (h : p .at < length script) (room : length before ≡ bufferLength) (small : length script ≤ longestScript) (few : p .tally .done + p .tally .others ≤ p .at) where
+  stands : take (x .len) after ≡ answerText (toldAt script p .answer) (toldAt script p .results)
+  stands = put-front (t .text) (omega (arith, room, answer-short (toldAt script p .answer) (toldAt script p .results) (obey-few (view (p .state)) (partAt lineFeed script (p .at)))))
+
+  done-is : x .next .tally .done ≡ doneAfter (p .tally .done) (toldAt script p)
+  done-is = ap (λ (c : Tally). c .done) (t .tally) ∙ count-done (p .tally) (toldAt script p) (omega arith)
+
+  others-is : x .next .tally .others ≡ othersAfter (p .tally .others) (toldAt script p)
+  others-is = ap (λ (c : Tally). c .others) (t .tally) ∙ count-others (p .tally) (toldAt script p) (omega arith)
+
+  turn-prints : take (x .len) after ++ toPrint script (x .next) ≡ toPrint script p
+  turn-prints = rw (stands, t .state, done-is, others-is, t .place) (sym (one-line script (view (p .state)) (p .tally .done) (p .tally .others) (p .at) h))
+
+  turn-counts : x .next .tally .done + x .next .tally .others ≤ x .next .at
+  turn-counts = omega (arith, done-is, others-is, counted-once (p .tally .done) (p .tally .others) (toldAt script p), t .place, past-more lineFeed script (p .at) h)
+
+joined : {script out : List ℕ} {p : Progress} → length script ≤ longestScript → p .tally .done + p .tally .others ≤ p .at → Runs script p out → out ≡ toPrint script p
+joined {script} small few (ends p h) = sym (at-end script (view (p .state)) (p .tally .done) (p .tally .others) (p .at) h)
+joined {script} small few (goes p before after x rest h room t r) =
+    ap (λ (o : List ℕ). take (x .len) after ++ o) (joined small (turn-counts script p before after x t h room small few) r) ∙ turn-prints script p before after x t h room small few
+
+-- The program's steps from the empty policy on, joined, are what the script prints.
+pub whole : (script out : List ℕ) (p : Progress) → length script ≤ 32768 → view (p .state) ≡ empty → p .at ≡ 0 → p .tally .done ≡ 0 → p .tally .others ≡ 0 → Runs script p out → out ≡ runScript script
+whole script out p h s a d o r = joined h (omega arith) r ∙ rw (s, a, d, o) (sym (from-start script h))

@@ -1,5 +1,6 @@
 -- A run of the program over a script: one turn for each line, as the function `turn` promises it, and what each printed; then the total. Assumes nothing.
 use mathlib.Core.List.{List, _++_}
+use mathlib.Core.Path.{_≡_}
 use Prim.Native.Nat.{ℕ, _≤_, _<_}
 use lib.ListN.{length, take}
 use Rattle.script.specs.Lines.{Turns}
@@ -7,6 +8,10 @@ use Rattle.script.specs.Script.{totalText}
 use Rattle.script.specs.declared.Progress.{Progress}
 use Rattle.script.specs.declared.Turned.{Turned}
 
+-- "Its buffers hold the longest result": the buffer that a turn writes into
+abbrev pub bufferLength : ℕ
+bufferLength = 32768
+
 pub data Runs (script : List ℕ) : Progress → List ℕ → Type 0 where
   ends : (p : Progress) → length script ≤ p .at → Runs script p (totalText (p .tally .done) (p .tally .others))
-  goes : (p : Progress) (before after : List ℕ) (x : Turned) (rest : List ℕ) → p .at < length script → Turns script p before after x → Runs script (x .next) rest → Runs script p (take (x .len) after ++ rest)
+  goes : (p : Progress) (before after : List ℕ) (x : Turned) (rest : List ℕ) → p .at < length script → length before ≡ bufferLength → Turns script p before after x → Runs script (x .next) rest → Runs script p (take (x .len) after ++ rest)

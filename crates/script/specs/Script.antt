@@ -15,7 +15,7 @@ use Rattle.lines.specs.Parts.{partsOf}
 use Rattle.reading.specs.Form.{Parsed, line, noLine, parse}
 use Rattle.meaning.specs.Meaning.{meant}
 use Rattle.meaning.specs.declared.Meant.{Meant}
-use Rattle.meaning.specs.declared.Meant.the-variants.{Do, Ask}
+use Rattle.meaning.specs.declared.Meant.the-variants.{Do, Ask, Nothing}
 
 -- "Its buffers hold the longest result, so it never prints 15.": there are 4,096 permissions
 abbrev pub room : ℕ
@@ -25,6 +25,7 @@ room = 4096
 abbrev pub doing : Model → Meant → List ℕ → Told
 doing m (Do c) list = step m c list
 doing m (Ask q) list = ask m room q
+doing m Nothing list = refused 14 m
 
 -- the line with this word and these numbers: the word's own numbers, and then the list of roles where it takes one
 abbrev pub obeyed : Model → Parsed → Told

@@ -1,11 +1,9 @@
 // A script: each line is read, obeyed and answered.
 ghost use mathlib.Core.Bool.{_&&_};
-ghost use mathlib.Core.List.{[], _∷_};
 ghost use mathlib.Core.Path.{_≡_};
-ghost use Prim.Native.Nat.{_+_, _<_, _≤_};
-ghost use lib.ListN.{length};
 ghost use Rattle.decimal.specs.Putting.{Put};
 ghost use Rattle.model.specs.Questions.{ask};
+ghost use Rattle.model.specs.Sheet.{refused};
 ghost use Rattle.model.specs.Step.{step};
 ghost use Rattle.policy.specs.View.{view};
 ghost use Rattle.script.specs.Lines.{Answers, Turns};
@@ -26,7 +24,6 @@ pub struct Answered {
 
 // Puts an answer: its number, each result after one space, and LF.
 pub fn answer_text(buf: &mut [u8], answer: u16, results: &[u16]) -> usize
-    requires { ⌜ length (now results) ≤ 4096 ⌝ }
     ensures { λ r. ⌜ Put (now (buf .entry)) 0 (answerText answer (now (results .entry))) (now (buf .exit)) r ⌝ }
 {
     let first = decimal::put_number(buf, 0, answer);
@@ -36,16 +33,11 @@ pub fn answer_text(buf: &mut [u8], answer: u16, results: &[u16]) -> usize
 
 // Puts the total: the number of lines answered 0, and of the others.
 pub fn total_text(buf: &mut [u8], t: Tally) -> usize
-    requires { ⌜ (t .done < 65536) × (t .others < 65536) ⌝ }
     ensures { λ r. ⌜ Put (now (buf .entry)) 0 (totalText (t .done) (t .others)) (now (buf .exit)) r ⌝ }
 {
-    let a = decimal::put(buf, 0, 116);
-    let b = decimal::put(buf, a, 111);
-    let c = decimal::put(buf, b, 116);
-    let d = decimal::put(buf, c, 97);
-    let e = decimal::put(buf, d, 108);
-    let counts = [t.done as u16, t.others as u16];
-    let last = decimal::put_numbers(buf, e, &counts);
+    let first = decimal::put_text(buf, 0, b"total");
+    let counts = [t.done, t.others];
+    let last = decimal::put_numbers(buf, first, &counts);
     decimal::put(buf, last, 10)
 }
 
@@ -116,6 +108,19 @@ fn ask_question(s: State, q: Question, buf: &mut [u8]) -> Answered
     Answered { len, ok, state: s }
 }
 
+// Answers a line that is of no form.
+fn answer_no_line(s: State, buf: &mut [u8]) -> Answered
+    ensures { λ x. ⌜ Answers (refused 14 (view s)) (now (buf .entry)) (now (buf .exit)) x ⌝ }
+{
+    let none = [0u16; 1];
+    let len = answer_text(buf, 14, &none[..0]);
+    Answered {
+        len,
+        ok: false,
+        state: s,
+    }
+}
+
 // Answers a line of a script, any bytes: its text is put into the lent buffer.
 pub fn answer_line(s: State, text: &[u8], buf: &mut [u8]) -> Answered
     ensures { λ x. ⌜ Answers (obey (view s) (now (text .entry))) (now (buf .entry)) (now (buf .exit)) x ⌝ }
@@ -130,15 +135,10 @@ pub fn answer_line(s: State, text: &[u8], buf: &mut [u8]) -> Answered
         match meaning::meaning(word, numbers[0], numbers[1], numbers[2]) {
             Meant::Do(c) => obey_command(s, c, &numbers[from..count as usize], buf),
             Meant::Ask(q) => ask_question(s, q, buf),
+            Meant::Nothing => answer_no_line(s, buf),
         }
     } else {
-        let none = [0u16; 1];
-        let len = answer_text(buf, 14, &none[..0]);
-        Answered {
-            len,
-            ok: false,
-            state: s,
-        }
+        answer_no_line(s, buf)
     }
 }
 
@@ -154,9 +154,8 @@ pub struct Turned {
     pub next: Progress,
 }
 
-// One line of a script: its answer is put into the lent buffer, which holds the longest one.
+// One line of a script: the one at the place, which at the end of the script is empty.
 pub fn turn(script: &[u8], p: Progress, buf: &mut [u8]) -> Turned
-    requires { ⌜ (p .at < length (now script)) × ((p .tally .done + p .tally .others < 65536) × (32768 ≤ length (now buf))) ⌝ }
     ensures { λ x. ⌜ Turns (now (script .entry)) p (now (buf .entry)) (now (buf .exit)) x ⌝ }
 {
     let state = p.state;

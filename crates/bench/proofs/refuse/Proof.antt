@@ -1,19 +1,16 @@
+-- `14` and the total are written. Assumes nothing.
 use borrow.Author.Needs.{needs}
-use mathlib.Core.List.{[]}
-use mathlib.Core.Path.{_≡_, sym, _∙_}
+use mathlib.Core.Path.{sym}
 use Prim.Native.Nat.{ℕ, _≤_}
 use native.Mathlib.Omega.{arith}
-use lib.ListN.{length, replicate, length-replicate}
+use lib.ListN.{length}
 use lib.Seq.{length-take-le}
-use Rattle.decimal.proofs.Laws.{put-length}
-use Rattle.script.specs.Script.{answerText}
+use Rattle.decimal.proofs.Laws.{put-length, put-within}
 use Rattle.bench.proofs.refuse.Statement.{statement}
 use Rattle.bench.proofs.refuse.Tie as tie
 
--- `14` and LF
 within : (c : tie.After-answer-text) → c .answer-text .result ≤ length (c .answer-text .last .0)
-unfolding answerText Rattle.decimal.specs.Decimal.decimal Rattle.decimal.specs.Decimal.lead Rattle.decimal.specs.Decimal.numbered
-within c = omega (arith, c .answer-text .ensures .ends, put-length (c .answer-text .ensures), length-replicate {A = ℕ} 64 0)
+within c = omega (arith, put-within (c .answer-text .ensures) (omega arith), put-length (c .answer-text .ensures))
 
 slice-aggregate-answer-text : tie.Need-slice-aggregate-answer-text
 slice-aggregate-answer-text c = search needs

@@ -1,12 +1,13 @@
+-- The place moves on to the end of the script. Assumes nothing.
 use borrow.Author.Needs.{needs}
-use Prim.Native.Nat.{_+_, _≤_, _<_, _-_}
+use Prim.Native.Nat.{_≤_, _-_}
 use native.Mathlib.Omega.{arith}
 use lib.ListN.{length}
 use Rattle.bench.proofs.run.Statement.{statement}
 use Rattle.bench.proofs.run.Tie as tie
 
 abbrev Inv-loop : tie.InvT-loop
-Inv-loop script p₀ p = (length script ≤ 32768) × ((p .at ≤ length script) × (p .tally .done + p .tally .others ≤ p .at))
+Inv-loop script p₀ p = p .at ≤ length script
 
 abbrev μ-loop : tie.MeasureT-loop
 μ-loop script p₀ p = length script - p .at

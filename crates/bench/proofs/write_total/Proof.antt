@@ -1,16 +1,16 @@
+-- The total stands at the front of the buffer, and is written. Assumes nothing.
 use borrow.Author.Needs.{needs}
-use mathlib.Core.Path.{_≡_, sym, _∙_}
+use mathlib.Core.Path.{sym}
 use Prim.Native.Nat.{ℕ, _≤_}
 use native.Mathlib.Omega.{arith}
-use lib.ListN.{length, replicate, length-replicate}
+use lib.ListN.{length}
 use lib.Seq.{length-take-le}
-use Rattle.decimal.proofs.Laws.{put-length}
-use Rattle.script.proofs.Turning.{total-short}
+use Rattle.decimal.proofs.Laws.{put-length, put-within}
 use Rattle.bench.proofs.write_total.Statement.{statement}
 use Rattle.bench.proofs.write_total.Tie as tie
 
 within : (c : tie.After-total-text) → c .total-text .result ≤ length (c .total-text .last .0)
-within c = omega (arith, c .total-text .ensures .ends, total-short (c .before .before .args .t .done) (c .before .before .args .t .others), put-length (c .total-text .ensures), length-replicate {A = ℕ} 64 0)
+within c = omega (arith, put-within (c .total-text .ensures) (omega arith), put-length (c .total-text .ensures))
 
 slice-aggregate-total-text : tie.Need-slice-aggregate-total-text
 slice-aggregate-total-text c = search needs

@@ -1,13 +1,14 @@
+-- The line is written at the front of a buffer with room for it, and compared with the text. Assumes nothing.
 use borrow.Author.Needs.{needs}
 use mathlib.Core.List.{List, [], _++_}
-use mathlib.Core.Path.{_≡_, refl, sym, ap, ap₂, _∙_}
+use mathlib.Core.Path.{_≡_, sym, ap, _∙_}
 use Prim.Native.Nat.{ℕ, _+_, _≤_, _<_, _*_}
 use native.Mathlib.Omega.{arith}
-use lib.ListN.{length, take, drop, replicate, length-replicate, length-append}
-use lib.Seq.{sets, sets-eq, take-append-seam, length-sets, length-take-le}
+use lib.ListN.{length, replicate, length-replicate, length-append}
+use lib.Seq.{length-take-le}
 use Rattle.decimal.specs.Decimal.{numbered}
 use Rattle.decimal.specs.Putting.{Put}
-use Rattle.decimal.proofs.Laws.{put-then, put-length, numbered-short}
+use Rattle.decimal.proofs.Laws.{put-then, put-front, put-length, numbered-short}
 use Rattle.words.specs.Words.{spelling}
 use Rattle.words.specs.Bytes.{same}
 use Rattle.words.proofs.Tables.{spelling-short}
@@ -25,7 +26,7 @@ unfolding render
 room c = omega (arith, c .before .before .before .before .before .before .before .pre, length-append (spelling (c .before .before .before .before .before .before .before .args .word)) (numbered (c .before .before .before .before .before .before .before .args .numbers .now)), spelling-short (c .before .before .before .before .before .before .before .args .word) (c .before .before .before .before .before .before .before .pre .0), numbered-short (c .before .before .before .before .before .before .before .args .numbers .now))
 
 ends : (c : tie.After-put-numbers) → c .put-numbers .result ≡ length (render (c .before .before .before .before .before .before .before .args .word) (c .before .before .before .before .before .before .before .args .numbers .now))
-ends c = omega (arith, put c .ends)
+ends c = omega (arith, put c .ends, room c, length-replicate {A = ℕ} 2048 0)
 
 long : (c : tie.After-put-numbers) → length (c .put-numbers .last .0) ≡ 2048
 long c = put-length (put c) ∙ length-replicate {A = ℕ} 2048 0
@@ -40,7 +41,7 @@ slice-aggregate-put-numbers : tie.Need-slice-aggregate-put-numbers
 slice-aggregate-put-numbers c = search needs
 
 put-numbers-requires : tie.Need-put-numbers-requires
-put-numbers-requires c κs = omega (arith, c .before .before .before .before .before .before .pre, c .before .before .put-word .ensures .ends, spelling-short (c .before .before .before .before .before .before .args .word) (c .before .before .before .before .before .before .pre .0))
+put-numbers-requires c κs = search needs
 
 array-share-prefix-buf : tie.Need-array-share-prefix-buf
 array-share-prefix-buf c = omega (arith, long (c .before), ends (c .before), room (c .before))
@@ -53,11 +54,9 @@ same-requires c κs = search needs
 
 returns : tie.Need-returns
 returns c =
-    let e = ends (c .before .before .before) in
-    let full : 0 + length (render (c .before .before .before .before .before .before .before .before .before .before .args .word) (c .before .before .before .before .before .before .before .before .before .before .args .numbers .now)) ≤ length (replicate {A = ℕ} 2048 0) = omega (arith, room (c .before .before .before), length-replicate {A = ℕ} 2048 0) in
     c .same .ensures
     ∙ ap (λ (l : List ℕ). same l (c .before .before .before .before .before .before .before .before .before .before .args .text .now))
-    (ap₂ (λ (n : ℕ) (l : List ℕ). take n l) e (put (c .before .before .before) .holds ∙ sets-eq (render (c .before .before .before .before .before .before .before .before .before .before .args .word) (c .before .before .before .before .before .before .before .before .before .before .args .numbers .now)) (replicate 2048 0) 0 full) ∙ take-append-seam (render (c .before .before .before .before .before .before .before .before .before .before .args .word) (c .before .before .before .before .before .before .before .before .before .before .args .numbers .now)) _)
+    (put-front (put (c .before .before .before)) (omega (arith, room (c .before .before .before), length-replicate {A = ℕ} 2048 0)))
 
 pub gives-spec : {M : Type 1} → statement M
 gives-spec =

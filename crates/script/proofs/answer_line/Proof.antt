@@ -1,3 +1,4 @@
+-- The line that was read is obeyed or asked; a text that is no line is answered 14. Assumes nothing.
 use borrow.Author.Needs.{needs}
 use mathlib.Core.Bool.{Bool, true, false}
 use mathlib.Core.List.{List, [], _∷_}
@@ -47,7 +48,7 @@ read-line-requires : tie.Need-read-line-requires
 read-line-requires c κs = search needs
 
 before-list-requires : tie.Need-before-list-requires
-before-list-requires c κs = known (c .before .before .before .before .before .args .text .now) (c .before .before .read-line .result) (reads c)
+before-list-requires c κs = search needs
 
 cast-from : tie.Need-cast-from
 cast-from c = search needs
@@ -62,7 +63,7 @@ array-read-meaning-3 : tie.Need-array-read-meaning-3
 array-read-meaning-3 c = search needs
 
 meaning-requires : tie.Need-meaning-requires
-meaning-requires c κs = known (c .before .before .before .before .before .before .args .text .now) (c .before .before .before .read-line .result) (reads (c .before))
+meaning-requires c κs = search needs
 
 enum-known-c : tie.Need-enum-known-c
 enum-known-c c = search needs
@@ -91,14 +92,14 @@ enum-known-q c = search needs
 ask-question-requires : tie.Need-ask-question-requires
 ask-question-requires c κs = search needs
 
-array-share-prefix-none : tie.Need-array-share-prefix-none
-array-share-prefix-none c = search needs
+enum-told : tie.Need-enum-told
+enum-told c = search needs
 
-slice-aggregate-answer-text : tie.Need-slice-aggregate-answer-text
-slice-aggregate-answer-text c = search needs
+answer-no-line-requires : tie.Need-answer-no-line-requires
+answer-no-line-requires c κs = search needs
 
-answer-text-requires : tie.Need-answer-text-requires
-answer-text-requires c κs = search needs
+answer-no-line-requires-2 : tie.Need-answer-no-line-requires-2
+answer-no-line-requires-2 c κs = search needs
 
 same-length : tie.Need-same-length
 same-length c = search needs
@@ -117,10 +118,16 @@ same-length-3 : tie.Need-same-length-3
 same-length-3 c = search needs
 
 returns-3 : tie.Need-returns-3
+returns-3 c = rw (tells (c .before .before .before .before .before .before), c .before .before .before .before .enum-told .given .1) (c .before .before .answer-no-line .ensures)
+
+same-length-4 : tie.Need-same-length-4
+same-length-4 c = search needs
+
+returns-4 : tie.Need-returns-4
 unfolding obey
-returns-3 c =
-    let none : parse (c .before .before .before .before .before .before .before .before .before .before .args .text .now) ≡ noLine = read-wrong (c .before .before .before .before .before .before .before .before .before .before .args .text .now) (c .before .before .before .before .before .before .before .read-line .result) (c .before .before .before .before .before .before .before .read-line .ensures) (c .before .before .before .before .before .if1 .left) in
-    rw none (record { text = c .before .before .answer-text .ensures; ok = refl; state = refl })
+returns-4 c =
+    let none : parse (c .before .before .before .before .before .before .before .before .before .args .text .now) ≡ noLine = read-wrong (c .before .before .before .before .before .before .before .before .before .args .text .now) (c .before .before .before .before .before .before .read-line .result) (c .before .before .before .before .before .before .read-line .ensures) (c .before .before .before .before .if1 .left) in
+    rw none (c .before .before .answer-no-line2 .ensures)
 
 pub answer-line-spec : {M : Type 1} → statement M
 answer-line-spec =
@@ -142,12 +149,14 @@ answer-line-spec =
     obey-command-requires
     enum-known-q
     ask-question-requires
-    array-share-prefix-none
-    slice-aggregate-answer-text
-    answer-text-requires
+    enum-told
+    answer-no-line-requires
+    answer-no-line-requires-2
     same-length
     returns
     same-length-2
     returns-2
     same-length-3
-    returns-3)
+    returns-3
+    same-length-4
+    returns-4)

@@ -1,3 +1,4 @@
+-- The answer's number, its results and LF, one after another. Assumes nothing.
 use borrow.Author.Needs.{needs}
 use mathlib.Core.List.{List, [], _∷_, _++_}
 use mathlib.Core.Path.{_≡_, sym, ap}
@@ -5,7 +6,7 @@ use Prim.Native.Nat.{_+_, _*_, _≤_}
 use native.Mathlib.Omega.{arith}
 use lib.ListN.{length}
 use Rattle.decimal.specs.Decimal.{decimal, numbered}
-use Rattle.decimal.proofs.Laws.{put-then, decimal-short, numbered-short}
+use Rattle.decimal.proofs.Laws.{put-then}
 use Rattle.script.specs.Script.{answerText}
 use Rattle.script.proofs.answer_text.Statement.{statement}
 use Rattle.script.proofs.answer_text.Tie as tie
@@ -14,10 +15,10 @@ put-number-requires : tie.Need-put-number-requires
 put-number-requires c κs = search needs
 
 put-numbers-requires : tie.Need-put-numbers-requires
-put-numbers-requires c κs = omega (arith, c .before .before .before .before .before .before .before .pre, c .before .before .before .put-number .ensures .ends, decimal-short (c .before .before .before .before .before .before .before .args .answer))
+put-numbers-requires c κs = search needs
 
 put-requires : tie.Need-put-requires
-put-requires c κs = omega (arith, c .before .before .before .before .before .before .before .before .before .before .before .pre, c .before .before .before .before .before .before .before .put-number .ensures .ends, decimal-short (c .before .before .before .before .before .before .before .before .before .before .before .args .answer), c .before .before .before .put-numbers .ensures .ends, numbered-short (c .before .before .before .before .before .before .before .before .before .before .before .args .results .now))
+put-requires c κs = search needs
 
 same-length : tie.Need-same-length
 same-length c = search needs

@@ -52,7 +52,7 @@ slice-aggregate-answer-text : tie.Need-slice-aggregate-answer-text
 slice-aggregate-answer-text c = sym (length-take-le _ _ (within (c .before .before .before .before .before)))
 
 answer-text-requires : tie.Need-answer-text-requires
-answer-text-requires c κs = rw (front (c .before .before .before .before .before)) (few (c .before .before .before .before .before))
+answer-text-requires c κs = search needs
 
 same-length : tie.Need-same-length
 same-length c = search needs
