@@ -78,7 +78,7 @@ table-letters k h = ap letters (row-at k h) ∙ row-letters k
 
 -- ---- the letters of a row, one after the other
 
-pub ends-here : (l : List ℕ) (i : ℕ) → getD l i 32 ≡ 32 → upToSpace (drop i l) ≡ []
+ends-here : (l : List ℕ) (i : ℕ) → getD l i 32 ≡ 32 → upToSpace (drop i l) ≡ []
 unfolding upToSpace
 ends-here [] zero e = refl
 ends-here [] (suc i) e = refl
