@@ -1,21 +1,32 @@
+-- The digit of a word's row, as a number. Assumes nothing.
 use borrow.Author.Needs.{needs}
+use mathlib.Core.Path.{_≡_}
+use Prim.Native.Nat.{_+_}
 use native.Mathlib.Omega.{arith}
-use Prim.Native.Nat.{_<_}
 use lib.ListN.{getD}
-use Rattle.words.proofs.Tables.{numbers, numbers-before, numbers-small}
+use Rattle.words.specs.Words.{wordOf}
+use Rattle.words.proofs.Rows.{row-digit, digit-small}
 use Rattle.words.proofs.before_list.Statement.{statement}
 use Rattle.words.proofs.before_list.Tie as tie
+
+digit : (c : tie.After-row-of) → getD (c .row-of .result) 14 0 ≡ 48 + wordOf (c .before .args .k) .numbers
+digit c = rw (c .row-of .ensures) (row-digit (wordOf (c .before .args .k)))
+
+row-of-requires : tie.Need-row-of-requires
+row-of-requires c κs = search needs
 
 array-read-result : tie.Need-array-read-result
 array-read-result c = search needs
 
+sub-result : tie.Need-sub-result
+sub-result c = omega (arith, digit c)
+
 cast-result : tie.Need-cast-result
-unfolding numbers
-cast-result c = omega (arith, numbers-small (c .args .k) (c .pre))
+cast-result c = omega (arith, digit c, digit-small (c .before .args .k))
 
 returns : tie.Need-returns
-unfolding numbers
-returns c = numbers-before (c .args .k) (c .pre)
+returns c = omega (arith, digit c)
 
 pub before-list-spec : {M : Type 1} → statement M
-before-list-spec = tie.close (tie.spec array-read-result cast-result returns)
+before-list-spec =
+    tie.close (tie.spec row-of-requires array-read-result sub-result cast-result returns)

@@ -1,27 +1,24 @@
+-- A place of a row's letters, and a space past them. Assumes nothing.
 use borrow.Author.Needs.{needs}
+use mathlib.Core.Path.{sym, _∙_}
+use Prim.Native.Nat.{_<_}
 use native.Mathlib.Omega.{arith}
-use Prim.Native.Nat.{_<_, _*_, _+_}
-use lib.ListN.{getD, length}
-use Rattle.words.specs.Words.{spelling}
-use Rattle.words.proofs.Tables.{letters, letters-right, spelling-short}
+use lib.ListN.{length, take, length-take, List·getD-eq-default}
+use lib.Seq.{getD-take}
+use Rattle.words.proofs.Rows.{getD-within}
 use Rattle.words.proofs.letter.Statement.{statement}
 use Rattle.words.proofs.letter.Tie as tie
 
-within : (c : tie.Start) → c .args .i < 14
-within c = omega (arith, spelling-short (c .args .k) (c .pre .0), c .pre .1)
-
-mul-result : tie.Need-mul-result
-mul-result c = search needs
-
-add-result : tie.Need-add-result
-add-result c = omega (arith, within c, c .pre .0)
-
 array-read-result : tie.Need-array-read-result
-array-read-result c = omega (arith, within c, c .pre .0)
+array-read-result c = search needs
 
 returns : tie.Need-returns
-unfolding letters
-returns c = letters-right (c .args .k) (c .args .i) (c .pre .0) (within c)
+returns c =
+    let whole : c .before .args .i < length (c .before .args .t1) = omega arith in
+    getD-within (c .before .args .t1) (c .before .args .i) 0 32 whole ∙ sym (getD-take 14 (c .before .args .t1) (c .before .args .i) 32 (c .if1 .taken))
+
+returns-2 : tie.Need-returns-2
+returns-2 c = sym (List·getD-eq-default (take 14 (c .before .args .t1)) 32 (omega (arith, length-take 14 (c .before .args .t1))))
 
 pub letter-spec : {M : Type 1} → statement M
-letter-spec = tie.close (tie.spec mul-result add-result array-read-result returns)
+letter-spec = tie.close (tie.spec array-read-result returns returns-2)

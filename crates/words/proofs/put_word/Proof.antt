@@ -1,37 +1,43 @@
+-- The letters put so far and those left are the word. Assumes nothing.
 use borrow.Author.Needs.{needs}
-use mathlib.Core.List.{List, [], _∷_, _++_}
+use mathlib.Core.List.{List, _++_}
 use mathlib.Core.Path.{_≡_, refl, sym, ap, _∙_}
-use Prim.Native.Nat.{ℕ, _+_, _≤_, _<_, _-_, _^_}
-use native.Mathlib.Numerals.{add-one}
+use Prim.Native.Nat.{ℕ, _+_, _-_}
 use native.Mathlib.Omega.{arith}
-use lib.ListN.{length, getD, take}
-use lib.Seq.{take-suc, take-all, length-take-le}
+use lib.ListN.{getD, take, length-take, List·getD-eq-default}
 use Rattle.decimal.specs.Putting.{Put}
 use Rattle.decimal.proofs.Laws.{put-then, put-none, put-length}
-use Rattle.words.specs.Words.{spelling}
-use Rattle.words.proofs.Tables.{spelling-short}
+use Rattle.words.specs.Rows.{letters}
+use Rattle.words.proofs.Rows.{left, row-letters, so-far, one-more, all-put}
 use Rattle.words.proofs.put_word.Statement.{statement}
 use Rattle.words.proofs.put_word.Tie as tie
 
 abbrev Inv-loop : tie.InvT-loop
-Inv-loop buf₀ at k n next₀ i₀ buf next i = (n ≡ length (spelling k)) × (i ≤ n) × Put buf₀ at (take i (spelling k)) buf next
+Inv-loop buf₀ at k row next₀ i₀ buf next i = Put buf₀ at (take i (take 14 row)) buf next × (take i (take 14 row) ++ left (take 14 row) i ≡ letters row)
 
 abbrev μ-loop : tie.MeasureT-loop
-μ-loop buf₀ at k n next₀ i₀ buf next i = n - i
+μ-loop buf₀ at k row next₀ i₀ buf next i = 14 - i
 
-size-requires : tie.Need-size-requires Inv-loop μ-loop
-size-requires c κs = search needs
+row-of-requires : tie.Need-row-of-requires Inv-loop μ-loop
+row-of-requires c κs = search needs
 
 loop-holds : tie.Need-loop-holds Inv-loop μ-loop
-loop-holds c = (c .size .ensures, omega arith, put-none _ _)
+unfolding letters
+loop-holds c = (put-none _ _, refl)
 
 letter-requires : tie.Need-letter-requires Inv-loop μ-loop
-letter-requires c κs = omega (arith, c .before .before .before .before .before .pre, c .before .before .loop .inv .0)
+letter-requires c κs = search needs
+
+same-length : tie.Need-same-length Inv-loop μ-loop
+same-length c = put-length (c .before .before .before .loop .inv .0)
+
+returns : tie.Need-returns Inv-loop μ-loop
+returns c =
+    let e = all-put (take 14 (c .before .before .before .before .row-of .result)) (c .before .before .before .loop .i) (sym (c .before .letter .ensures) ∙ c .if1 .taken) in
+    rw (e ∙ c .before .before .before .loop .inv .1 ∙ ap letters (c .before .before .before .before .row-of .ensures) ∙ row-letters (c .before .before .before .before .before .before .args .k)) at (c .before .before .before .loop .inv .0)
 
 put-requires : tie.Need-put-requires Inv-loop μ-loop
-put-requires c κs =
-    let e : length (take (c .before .before .before .loop .i) (spelling (c .before .before .before .before .before .before .args .k))) ≡ c .before .before .before .loop .i = length-take-le _ _ (omega (arith, c .before .before .before .loop .inv .0)) in
-    omega (arith, c .before .before .before .before .before .before .pre, c .before .before .before .loop .inv .0, c .before .before .before .loop .inv .2 .ends, spelling-short (c .before .before .before .before .before .before .args .k) (c .before .before .before .before .before .before .pre .1))
+put-requires c κs = search needs
 
 add-i : tie.Need-add-i Inv-loop μ-loop
 add-i c = search needs
@@ -41,16 +47,19 @@ loop-less c = search needs
 
 loop-again : tie.Need-loop-again Inv-loop μ-loop
 loop-again c =
-    let q : c .before .before .before .before .before .before .loop .i < length (spelling (c .before .before .before .before .before .before .before .before .before .args .k)) = omega (arith, c .before .before .before .before .before .before .loop .inv .0) in
-    (c .before .before .before .before .before .before .loop .inv .0, search needs, rw (add-one (c .before .before .before .before .before .before .loop .i), take-suc (spelling (c .before .before .before .before .before .before .before .before .before .args .k)) (c .before .before .before .before .before .before .loop .i) 0 q, ← c .before .before .before .letter .ensures) (put-then (c .before .before .before .before .before .before .loop .inv .2) (c .before .before .put .ensures)))
+    let l : List ℕ = take 14 (c .before .before .before .before .before .before .before .before .row-of .result) in
+    let i : ℕ = c .before .before .before .before .before .before .before .loop .i in
+    let n : getD l i 32 ≡ 32 → ⊥ = λ e. c .before .before .before .before .if1 .left (c .before .before .before .before .before .letter .ensures ∙ e) in
+    (rw (one-more l i n, ← c .before .before .before .before .before .letter .ensures) (put-then (c .before .before .before .before .before .before .before .loop .inv .0) (c .before .before .put .ensures)), so-far l i n ∙ c .before .before .before .before .before .before .before .loop .inv .1)
 
-same-length : tie.Need-same-length Inv-loop μ-loop
-same-length c = put-length (c .before .loop .inv .2)
+same-length-2 : tie.Need-same-length-2 Inv-loop μ-loop
+same-length-2 c = put-length (c .before .loop .inv .0)
 
-returns : tie.Need-returns Inv-loop μ-loop
-returns c =
-    let q : length (spelling (c .before .before .before .before .args .k)) ≤ c .before .loop .i = omega (arith, c .before .loop .inv .0) in
-    rw (take-all (c .before .loop .i) (spelling (c .before .before .before .before .args .k)) q) at (c .before .loop .inv .2)
+returns-2 : tie.Need-returns-2 Inv-loop μ-loop
+returns-2 c =
+    let l : List ℕ = take 14 (c .before .before .row-of .result) in
+    let e = all-put l (c .before .loop .i) (List·getD-eq-default l 32 (omega (arith, length-take 14 (c .before .before .row-of .result)))) in
+    rw (e ∙ c .before .loop .inv .1 ∙ ap letters (c .before .before .row-of .ensures) ∙ row-letters (c .before .before .before .before .args .k)) at (c .before .loop .inv .0)
 
 pub put-word-spec : {M : Type 1} → statement M
 put-word-spec =
@@ -58,12 +67,14 @@ put-word-spec =
     (tie.spec
     Inv-loop
     μ-loop
-    size-requires
+    row-of-requires
     loop-holds
     letter-requires
+    same-length
+    returns
     put-requires
     add-i
     loop-less
     loop-again
-    same-length
-    returns)
+    same-length-2
+    returns-2)

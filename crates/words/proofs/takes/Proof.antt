@@ -1,26 +1,29 @@
+-- More numbers may follow where the word has a list. Assumes nothing.
 use borrow.Author.Needs.{needs}
-use mathlib.Core.Path.{sym}
-use native.Mathlib.Omega.{arith}
-use Prim.Native.Nat.{_<_}
-use lib.ListN.{getD}
-use Rattle.words.proofs.Tables.{numbers, takes-fixed, takes-listed, numbers-small}
+use mathlib.Core.Bool.{true, false}
+use mathlib.Core.Path.{_≡_, sym, _∙_}
+use Rattle.words.specs.Words.{wordOf, takes}
+use Rattle.words.proofs.Tables.{fits}
 use Rattle.words.proofs.takes.Statement.{statement}
 use Rattle.words.proofs.takes.Tie as tie
 
-array-read-m : tie.Need-array-read-m
-array-read-m c = search needs
+before-list-requires : tie.Need-before-list-requires
+before-list-requires c κs = search needs
 
-cast-m : tie.Need-cast-m
-unfolding numbers
-cast-m c = omega (arith, numbers-small (c .args .k) (c .pre))
+has-list-requires : tie.Need-has-list-requires
+has-list-requires c κs = search needs
 
 returns : tie.Need-returns
-unfolding numbers
-returns c = sym (takes-fixed (c .before .args .k) (c .before .args .n) (c .before .pre) (c .if1 .taken))
+unfolding takes
+returns c =
+    let listed : wordOf (c .before .before .before .args .k) .listed ≡ true = sym (c .before .has-list .ensures) ∙ c .if1 .taken in
+    rw (c .before .before .before-list .ensures) (sym (fits (wordOf (c .before .before .before .args .k)) (c .before .before .before .args .n) true listed))
 
 returns-2 : tie.Need-returns-2
-unfolding numbers
-returns-2 c = sym (takes-listed (c .before .args .k) (c .before .args .n) (c .before .pre) (c .if1 .left))
+unfolding takes
+returns-2 c =
+    let listed : wordOf (c .before .before .before .args .k) .listed ≡ false = sym (c .before .has-list .ensures) ∙ c .if1 .left in
+    rw (c .before .before .before-list .ensures) (sym (fits (wordOf (c .before .before .before .args .k)) (c .before .before .before .args .n) false listed))
 
 pub takes-spec : {M : Type 1} → statement M
-takes-spec = tie.close (tie.spec array-read-m cast-m returns returns-2)
+takes-spec = tie.close (tie.spec before-list-requires has-list-requires returns returns-2)
