@@ -297,7 +297,7 @@ decimal =
     }
 
 pub text : promises.Text
-text = record { word-at = λ κs a x y e f vx vy p q. p ∙ sym q; put-word = λ κs a x y e f vx vy p q. (p .next ∙ sym (q .next), p .buffer ∙ sym (q .buffer)) }
+text = record { word-at = λ κs a x y e f vx vy p q. p ∙ sym q }
 
 pub meaning : promises.Meaning
 meaning = record { meaning = λ κs a x y e f vx vy p q. p ∙ sym q }

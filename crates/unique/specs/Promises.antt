@@ -164,7 +164,6 @@ pub record Decimal : Type 0 where
 
 pub record Text : Type 0 where
   pub word-at : Unique text.word_at.Kinds.ps text.word_at.Kinds.r text.word_at.Reads.Post
-  pub put-word : UniqueLent text.put_word.Kinds.ps text.put_word.Kinds.r text.put_word.Reads.Post (λ κs e. e .0 .now)
 
 -- ---- meaning: what a line of numbers means
 
