@@ -1,19 +1,16 @@
 -- Each part of a file is read back: where the part of a table stands, gathering from an empty table gives this table, and the place past the
 -- part. Assumes nothing.
 use mathlib.Core.Bool.{Bool, true, false}
-use mathlib.Core.List.{List, _++_, foldl}
-use mathlib.Core.Path.{_≡_, refl, sym, ap, ap₂, _∙_}
+use mathlib.Core.List.{List, _++_}
+use mathlib.Core.Path.{_≡_, sym, ap, ap₂, _∙_}
 use Prim.Native.Nat.{ℕ, _+_, _*_, _/_, _%_, _≤_, _<_, _^_}
 use native.Mathlib.Omega.{arith}
-use lib.ListN.{length, getD, set, length-append}
+use lib.ListN.{length, getD, set}
 use Rattle.roleset.specs.Bounded.{members}
 use Rattle.roleset.specs.Roles.{has, with}
 use Rattle.roleset.proofs.MembersLaws.{members-most}
-use Rattle.hierarchy.specs.Lines.{tableOf}
 use Rattle.model.specs.Model.{RoleSet, Session, noSet, noSession}
 use Rattle.model.specs.Words.{permission}
-use Rattle.separation.specs.Tables.{setsIn}
-use Rattle.policy.specs.View.{flags, sessionsIn}
 use Rattle.text.specs.Bytes.{two, section}
 use Rattle.text.specs.Places.{wordAt, readSection}
 use Rattle.text.proofs.Reading.{Stands, stands-left, stands-right, word-back, each-member, section-back}

@@ -1,9 +1,9 @@
 -- How each entry of the file is gathered, without asking whether it is one: bytes past the end are 0, and what is out of range is dropped.
--- Nobody need believe these: `gather` promises that the file of a model is read as this model. Assumes nothing.
+-- Nobody need believe these: that the file of a model is gathered as this model is a law (proofs/Whole). Assumes nothing.
 use mathlib.Core.Bool.{Bool, true}
 use mathlib.Core.List.{List}
 use mathlib.Core.Path.{_≡_}
-use Prim.Native.Nat.{ℕ, _+_, _*_, _%_, _≤_}
+use Prim.Native.Nat.{ℕ, _+_, _%_, _≤_}
 use lib.ListN.{getD, set}
 use Rattle.roleset.specs.Roles.{with}
 use Rattle.model.specs.Model.{RoleSet, Session}

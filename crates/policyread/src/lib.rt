@@ -1,11 +1,9 @@
 // Gathers a state from the bytes of a file without asking whether they are one: bytes past the end are 0, what is out of range is dropped, and no count is taken as larger than its limit.
 ghost use mathlib.Core.Path.{_≡_};
-ghost use Prim.Native.Nat.{_<_, _≤_, _+_, _*_, _^_};
-ghost use lib.ListN.{length};
-ghost use Rattle.model.specs.Model.{Model};
+ghost use Prim.Native.Nat.{_<_, _+_, _*_, _^_};
 ghost use Rattle.policy.specs.View.{view};
 ghost use Rattle.text.specs.Places.{wordAt, atMost, readSection};
-ghost use Rattle.policyform.specs.Form.{FileOf};
+ghost use Rattle.policyread.specs.Gathered.{gathered};
 ghost use Rattle.policyread.specs.Steps.{mark, readUser, readPair, readGrant, readRoles, readSet, readSession, Got};
 use model::RoleSet;
 use model::SessionRecord;
@@ -165,9 +163,9 @@ fn read_sessions(bytes: &[u8], at: usize, none: [SessionRecord; 64]) -> Sessions
     Sessions { at: next, sessions }
 }
 
-// The state that the bytes tell. Where they are the file of a model, it is this model.
+// The state that any bytes tell. Of the file of a model it is this model (proofs/Whole).
 pub fn gather(bytes: &[u8]) -> State
-    ensures { λ s. ⌜ ((m : Model) → FileOf m (now (bytes .entry)) → view s ≡ m) ⌝ }
+    ensures { λ s. ⌜ view s ≡ gathered (now (bytes .entry)) ⌝ }
 {
     let none = policy::empty();
     let no_users = none.users;

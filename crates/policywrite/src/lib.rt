@@ -15,6 +15,21 @@ use model::RoleSet;
 use model::SessionRecord;
 use policy::State;
 
+// Writes the number x at a place, and gives the place past it. What would stand past the buffer's end is dropped.
+fn put_word(out: &mut [u8], at: usize, x: usize) -> usize
+    requires { ⌜ at < 2 ^ 40 ⌝ }
+    ensures { λ next. ⌜ Wrote (now (out .entry)) (now (out .exit)) at next (two x) ⌝ }
+{
+    let next = at + 2;
+    if at < out.len() {
+        out[at] = (x % 256) as u8;
+        if at + 1 < out.len() {
+            out[at + 1] = (x / 256 % 256) as u8;
+        }
+    }
+    next
+}
+
 // The users that exist.
 fn put_users(users: [bool; 256], out: &mut [u8], at: usize) -> usize
     requires { ⌜ at < 2 ^ 32 ⌝ }
@@ -27,11 +42,11 @@ fn put_users(users: [bool; 256], out: &mut [u8], at: usize) -> usize
         let u = k;
         k += 1;
         if users[u] {
-            next = text::put_word(out, next, u);
+            next = put_word(out, next, u);
             n += 1;
         }
     }
-    text::put_word(out, at, n);
+    put_word(out, at, n);
     next
 }
 
@@ -47,11 +62,11 @@ fn put_roles(set: u64, out: &mut [u8], at: usize) -> usize
         let r = k;
         k += 1;
         if roleset::has(set, r) {
-            next = text::put_word(out, next, r as usize);
+            next = put_word(out, next, r as usize);
             n += 1;
         }
     }
-    text::put_word(out, at, n);
+    put_word(out, at, n);
     next
 }
 
@@ -60,8 +75,8 @@ fn put_pair(first: usize, second: usize, out: &mut [u8], at: usize) -> usize
     requires { ⌜ at < 2 ^ 33 ⌝ }
     ensures { λ next. ⌜ Wrote (now (out .entry)) (now (out .exit)) at next (two first ++ two second) ⌝ }
 {
-    let middle = text::put_word(out, at, first);
-    text::put_word(out, middle, second)
+    let middle = put_word(out, at, first);
+    put_word(out, middle, second)
 }
 
 // The lines, or the assignments: each pair of a place and a member of the set there.
@@ -81,7 +96,7 @@ fn put_pairs(table: &[u64], out: &mut [u8], at: usize) -> usize
             n += 1;
         }
     }
-    text::put_word(out, at, n);
+    put_word(out, at, n);
     next
 }
 
@@ -98,13 +113,13 @@ fn put_grants(holders: &[u64], out: &mut [u8], at: usize) -> usize
         let permission = k % 4096;
         k += 1;
         if roleset::has(holders[permission], role as u16) {
-            let second = text::put_word(out, next, role);
-            let third = text::put_word(out, second, permission / 256);
-            next = text::put_word(out, third, permission % 256);
+            let second = put_word(out, next, role);
+            let third = put_word(out, second, permission / 256);
+            next = put_word(out, third, permission % 256);
             n += 1;
         }
     }
-    text::put_word(out, at, n);
+    put_word(out, at, n);
     next
 }
 
@@ -134,7 +149,7 @@ fn put_sets(sets: [RoleSet; 16], out: &mut [u8], at: usize) -> usize
             n += 1;
         }
     }
-    text::put_word(out, at, n);
+    put_word(out, at, n);
     next
 }
 
@@ -155,7 +170,7 @@ fn put_sessions(sessions: [SessionRecord; 64], out: &mut [u8], at: usize) -> usi
             n += 1;
         }
     }
-    text::put_word(out, at, n);
+    put_word(out, at, n);
     next
 }
 

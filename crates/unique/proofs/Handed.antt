@@ -11,9 +11,9 @@ use Rattle.policy.specs.View.{view, seen}
 use Rattle.policy.specs.declared.Outcome.{Outcome}
 use Rattle.policy.specs.declared.State.{State}
 use Rattle.sessions.specs.Answering.{toldOpened}
-use Rattle.demands.specs.Reachable.{Reachable, start, after}
+use Rattle.demands.specs.Reachable.{Reachable, start, after, loaded}
 use Rattle.demands.proofs.Demand3.{demand3}
-use Rattle.unique.specs.Handed.{Handed, Owned, empty, user, role, nouser, norole, assign, deassign, grant, revoke, inherit, disinherit, make-set, drop-set, add-member, drop-member, set-cardinality, session, activate, drop, end, step}
+use Rattle.unique.specs.Handed.{Handed, Owned, empty, user, role, nouser, norole, assign, deassign, grant, revoke, inherit, disinherit, make-set, drop-set, add-member, drop-member, set-cardinality, session, activate, drop, end, step, load}
 
 -- an outcome that tells what the command tells holds a reachable policy
 told : (m : Model) → Reachable m → (c : Command) (list : List ℕ) (o : Outcome) → seen o ≡ steps.step m c list → Reachable (view (o .state))
@@ -21,7 +21,7 @@ unfolding seen
 told m p c list o e = subst Reachable (sym (ap (λ (t : Told). t .after) e)) (after p c list)
 
 reachable : {s : State} → Handed s → Reachable (view s)
-unfolding steps.step toldOpened
+unfolding steps.step seen toldOpened
 reachable (empty c) = subst Reachable (sym (c .met)) start
 reachable (user c h) = told _ (reachable h) (AddUser (c .given .1 .0)) [] (c .result) (c .met)
 reachable (role c h) = told _ (reachable h) (AddRole (c .given .1 .0)) [] (c .result) (c .met)
@@ -43,6 +43,7 @@ reachable (activate c h) = told _ (reachable h) (Activate (c .given .1 .0) (c .g
 reachable (drop c h) = told _ (reachable h) (DropActive (c .given .1 .0) (c .given .1 .1 .0) (c .given .1 .1 .1 .0)) [] (c .result) (c .met)
 reachable (end c h) = told _ (reachable h) (EndSession (c .given .1 .0) (c .given .1 .1 .0)) [] (c .result) (c .met)
 reachable (step c h) = subst Reachable (sym (c .met .after)) (after (reachable h) (c .given .1 .0) (c .given .1 .1 .0 .now))
+reachable (load c h) = loaded (reachable h) (c .given .1 .0 .now) (seen (c .result)) (c .met)
 
 -- the code's own states keep demand 3
 pub owned : Owned

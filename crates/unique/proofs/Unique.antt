@@ -12,11 +12,13 @@ use Rattle.roleset.specs.Bounded.{bit}
 use Rattle.roleset.specs.Roles.{has, isEmpty}
 use Rattle.roleset.specs.Promises.{Lowest}
 use Rattle.roleset.proofs.BoundedLaws.{clash, agree}
+use Rattle.numbers.specs.Answers.{numberOf}
 use Rattle.numbers.specs.declared.Answer.{Answer}
 use Rattle.numbers.proofs.Answers.{number-one-to-one}
 use Rattle.model.specs.Model.{Model, noSession}
 use Rattle.model.specs.Sheet.{Told}
 use Rattle.policy.specs.Sized.{Sized}
+use Rattle.policy.specs.View.{seen}
 use Rattle.policy.specs.declared.Outcome.{Outcome}
 use Rattle.policy.proofs.Outcome as OutcomeType
 use Rattle.policy.proofs.Tables.{table-one}
@@ -30,6 +32,9 @@ use Rattle.engine.specs.Stepping.{Steps}
 use Rattle.engine.specs.declared.Stepped.{Stepped}
 use Rattle.reviews.specs.Reviewing.{Reviewed}
 use Rattle.reviews.specs.declared.Review.{Review}
+use Rattle.policyform.specs.Promises.{Saves}
+use Rattle.policyfile.specs.declared.Saved.{Saved}
+use Rattle.policyfile.proofs.Laws.{saves-one, loads-one}
 use Rattle.unique.specs.Promises as promises
 use Rattle.unique.specs.Unique.{Value}
 
@@ -42,7 +47,7 @@ opened-sized : (o : Opened) → Value (row OpenedType.the-type) o → Sized (o .
 opened-sized o v = sized (o .state) _ (v .1 .1 .1 .1 .1 .0)
 
 -- two outcomes that tell the same are one: the general law, for every command
-outcomes : (told : Told) (x y : Outcome) → Value (row OutcomeType.the-type) x → Value (row OutcomeType.the-type) y → Rattle.policy.specs.View.seen x ≡ told → Rattle.policy.specs.View.seen y ≡ told → x ≡ y
+outcomes : (told : Told) (x y : Outcome) → Value (row OutcomeType.the-type) x → Value (row OutcomeType.the-type) y → seen x ≡ told → seen y ≡ told → x ≡ y
 outcomes told x y vx vy = one-outcome told x y (outcome-sized x vx) (outcome-sized y vy)
 
 -- two arrays with the same places are one
@@ -119,6 +124,7 @@ policy =
     record {
       empty-state = λ κs a x y e f vx vy p q. view-one-to-one x y (sized x _ (vx .1)) (sized y _ (vy .1)) (p ∙ sym q);
       full = λ κs a x y e f vx vy p q. p ∙ sym q;
+      refused = λ κs a x y e f vx vy p q. p ∙ sym q;
       has-user = λ κs a x y e f vx vy p q. p ∙ sym q;
       session-at = λ κs a x y e f vx vy p q. p ∙ sym q;
       either = λ κs a x y e f vx vy p q. p ∙ sym q;
@@ -283,6 +289,7 @@ reviews =
       set-names = λ κs a x y e f vx vy p q. reviewed-one _ _ _ _ x y p q;
       set-roles = λ κs a x y e f vx vy p q. reviewed-one _ _ _ _ x y p q;
       set-count = λ κs a x y e f vx vy p q. reviewed-one _ _ _ _ x y p q;
+      ask = λ κs a x y e f vx vy p q. reviewed-one _ _ _ _ x y p q;
     }
 
 -- ---- texts and files
@@ -297,7 +304,7 @@ decimal =
     }
 
 pub text : promises.Text
-text = record { word-at = λ κs a x y e f vx vy p q. p ∙ sym q; put-word = λ κs a x y e f vx vy p q. (p .next ∙ sym (q .next), p .buffer ∙ sym (q .buffer)) }
+text = record { word-at = λ κs a x y e f vx vy p q. p ∙ sym q }
 
 pub meaning : promises.Meaning
 meaning = record { meaning = λ κs a x y e f vx vy p q. p ∙ sym q }
@@ -305,5 +312,16 @@ meaning = record { meaning = λ κs a x y e f vx vy p q. p ∙ sym q }
 pub policywrite : promises.Policywrite
 policywrite = record { write = λ κs a x y e f vx vy p q. (p .next ∙ sym (q .next), p .buffer ∙ sym (q .buffer)) }
 
+pub policyread : promises.Policyread
+policyread = record { gather = λ κs a x y e f vx vy p q. view-one-to-one x y (sized x _ (vx .1)) (sized y _ (vy .1)) (p ∙ sym q) }
+
 pub policycheck : promises.Policycheck
 policycheck = record { formed = λ κs a x y e f vx vy p q. agree x y (λ h. q .says (p .holds h)) (λ h. p .says (q .holds h)); broken = λ κs a x y e f vx vy p q. number-one-to-one x y (p ∙ sym q) }
+
+saved-one : (m : Model) (out after after′ : List ℕ) (x y : Saved) → Saves m out after (numberOf (x .answer)) (x .length) → Saves m out after′ (numberOf (y .answer)) (y .length) → (x ≡ y) × (after ≡ after′)
+saved-one m out after after′ x y p q =
+    let one = saves-one m out after after′ (numberOf (x .answer)) (numberOf (y .answer)) (x .length) (y .length) p q in
+    ((λ i. record { answer = number-one-to-one (x .answer) (y .answer) (one .0) i; length = one .1 .0 i }), one .1 .1)
+
+pub policyfile : promises.Policyfile
+policyfile = record { save = λ κs a x y e f vx vy p q. saved-one _ _ _ _ x y p q; load = λ κs a x y e f vx vy p q. outcomes (seen x) x y vx vy refl (sym (loads-one _ _ (seen x) (seen y) p q)) }

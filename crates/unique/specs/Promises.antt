@@ -17,7 +17,9 @@ use Rattle.decimal.proofs as decimal
 use Rattle.text.proofs as text
 use Rattle.meaning.proofs as meaning
 use Rattle.policywrite.proofs as policywrite
+use Rattle.policyread.proofs as policyread
 use Rattle.policycheck.proofs as policycheck
+use Rattle.policyfile.proofs as policyfile
 use Rattle.unique.specs.Unique.{Unique, UniqueLent}
 
 -- ---- roleset: sets of roles
@@ -67,6 +69,7 @@ pub record Separation : Type 0 where
 pub record Policy : Type 0 where
   pub empty-state : Unique policy.empty.Kinds.ps policy.empty.Kinds.r policy.empty.Reads.Post
   pub full : Unique policy.full.Kinds.ps policy.full.Kinds.r policy.full.Reads.Post
+  pub refused : Unique policy.refused.Kinds.ps policy.refused.Kinds.r policy.refused.Reads.Post
   pub has-user : Unique policy.naming.has_user.Kinds.ps policy.naming.has_user.Kinds.r policy.naming.has_user.Reads.Post
   pub session-at : Unique policy.naming.session_at.Kinds.ps policy.naming.session_at.Kinds.r policy.naming.session_at.Reads.Post
   pub either : Unique policy.naming.either.Kinds.ps policy.naming.either.Kinds.r policy.naming.either.Reads.Post
@@ -151,6 +154,8 @@ pub record Reviews : Type 0 where
   pub set-names : UniqueLent reviews.set_names.Kinds.ps reviews.set_names.Kinds.r reviews.set_names.Reads.Post (λ κs e. e .1 .1 .0 .now)
   pub set-roles : UniqueLent reviews.set_roles.Kinds.ps reviews.set_roles.Kinds.r reviews.set_roles.Reads.Post (λ κs e. e .1 .1 .1 .0 .now)
   pub set-count : UniqueLent reviews.set_count.Kinds.ps reviews.set_count.Kinds.r reviews.set_count.Reads.Post (λ κs e. e .1 .1 .1 .0 .now)
+  -- any question
+  pub ask : UniqueLent reviews.ask.Kinds.ps reviews.ask.Kinds.r reviews.ask.Reads.Post (λ κs e. e .1 .1 .0 .now)
 
 -- ---- decimal: decimal numbers in a lent text
 
@@ -164,7 +169,6 @@ pub record Decimal : Type 0 where
 
 pub record Text : Type 0 where
   pub word-at : Unique text.word_at.Kinds.ps text.word_at.Kinds.r text.word_at.Reads.Post
-  pub put-word : UniqueLent text.put_word.Kinds.ps text.put_word.Kinds.r text.put_word.Reads.Post (λ κs e. e .0 .now)
 
 -- ---- meaning: what a line of numbers means
 
@@ -176,8 +180,19 @@ pub record Meaning : Type 0 where
 pub record Policywrite : Type 0 where
   pub write : UniqueLent policywrite.write.Kinds.ps policywrite.write.Kinds.r policywrite.write.Reads.Post (λ κs e. e .1 .0 .now)
 
+-- ---- policyread: a state gathered from any bytes
+
+pub record Policyread : Type 0 where
+  pub gather : Unique policyread.gather.Kinds.ps policyread.gather.Kinds.r policyread.gather.Reads.Post
+
 -- ---- policycheck: a policy that was read, asked
 
 pub record Policycheck : Type 0 where
   pub formed : Unique policycheck.formed.Kinds.ps policycheck.formed.Kinds.r policycheck.formed.Reads.Post
   pub broken : Unique policycheck.broken.Kinds.ps policycheck.broken.Kinds.r policycheck.broken.Reads.Post
+
+-- ---- policyfile: saving and loading
+
+pub record Policyfile : Type 0 where
+  pub save : UniqueLent policyfile.save.Kinds.ps policyfile.save.Kinds.r policyfile.save.Reads.Post (λ κs e. e .1 .0 .now)
+  pub load : Unique policyfile.load.Kinds.ps policyfile.load.Kinds.r policyfile.load.Reads.Post

@@ -1,22 +1,20 @@
+-- A load is refused with 14, by the lowest rule that is broken, or done. Where the gathered state is not of the form, or its file is not the bytes, no
+-- model has these bytes as its file. Assumes nothing.
 use borrow.Author.Needs.{needs}
-use mathlib.Core.Bool.{true, false}
-use mathlib.Core.List.{[]}
-use mathlib.Core.Logic.{_⊎_, inl, inr}
+use mathlib.Core.Logic.{inl, inr}
 use mathlib.Core.Path.{_≡_, refl, sym, ap, subst, _∙_}
-use Prim.Native.Nat.{ℕ}
 use native.Mathlib.Omega.{arith}
 use borrow.Author.Tests.{eqb-true}
-use lib.Dec.{eqb}
 use lib.ListN.{length}
 use Rattle.roleset.proofs.BoundedLaws.{clash}
 use Rattle.numbers.specs.Answers.{numberOf}
 use Rattle.model.specs.Model.{Model}
-use Rattle.model.specs.Sheet.{verdict, settle, done, refused}
 use Rattle.policy.specs.View.{view, seen}
 use Rattle.policyform.specs.Encode.{encode}
-use Rattle.policyform.specs.Form.{Formed, FileOf}
+use Rattle.policyform.specs.Form.{Formed}
 use Rattle.policyform.specs.Rules.{rulesBroken}
 use Rattle.policyform.proofs.Size.{encode-size}
+use Rattle.policyread.proofs.Whole.{gathered-file}
 use Rattle.policyfile.proofs.Settling.{settled-done, settled-refused}
 use Rattle.policyfile.proofs.load.Statement.{statement}
 use Rattle.policyfile.proofs.load.Tie as tie
@@ -62,11 +60,11 @@ returns-3 c =
 
 returns-4 : tie.Need-returns-4
 unfolding seen
-returns-4 c = inl (record { no-file = λ m f. clash (c .before .is-file .result) (c .before .is-file .ensures .says (ap encode (c .before .before .before .before .gather .ensures m f) ∙ f .written)) (c .if3 .left); tells = refl })
+returns-4 c = inl (record { no-file = λ m f. clash (c .before .is-file .result) (c .before .is-file .ensures .says (ap encode (c .before .before .before .before .gather .ensures ∙ gathered-file _ m f) ∙ f .written)) (c .if3 .left); tells = refl })
 
 returns-5 : tie.Need-returns-5
 unfolding seen
-returns-5 c = inl (record { no-file = λ m f. clash (c .before .formed .result) (c .before .formed .ensures .says (subst (λ (x : Model). Formed x) (sym (c .before .before .gather .ensures m f)) (f .formed))) (c .if2 .left); tells = refl })
+returns-5 c = inl (record { no-file = λ m f. clash (c .before .formed .result) (c .before .formed .ensures .says (subst (λ (x : Model). Formed x) (sym (c .before .before .gather .ensures ∙ gathered-file _ m f)) (f .formed))) (c .if2 .left); tells = refl })
 
 pub load-spec : {M : Type 1} → statement M
 load-spec =

@@ -1,23 +1,9 @@
+-- Every part is read from where the one before it ended, so that the state holds what is gathered. Assumes nothing.
 use borrow.Author.Needs.{needs}
-use mathlib.Core.Path.{_≡_, refl, sym, ap, _∙_}
-use Prim.Native.Nat.{ℕ}
-use lib.ListN.{length, length-map}
-use Rattle.policyread.proofs.Whole.{Sized, whole-read}
+use Rattle.policy.proofs.Values.{sized}
+use Rattle.policyread.proofs.Whole.{gathered-state}
 use Rattle.policyread.proofs.gather.Statement.{statement}
 use Rattle.policyread.proofs.gather.Tie as tie
-
-sized : (c : tie.After-empty) → Sized (c .empty .result)
-sized c =
-    let e = c .empty .result in
-    record {
-      users = sym (length-map (e .users) (λ x. x)) ∙ c .empty .ok .1 .1 .0 .1 .0 .1;
-      juniors = sym (length-map (e .juniors) (λ x. x)) ∙ c .empty .ok .1 .1 .1 .1 .0 .1 .0 .1;
-      assigned = sym (length-map (e .assigned) (λ x. x)) ∙ c .empty .ok .1 .1 .1 .1 .1 .0 .1 .0 .1;
-      holders = sym (length-map (e .holders) (λ x. x)) ∙ c .empty .ok .1 .1 .1 .1 .1 .1 .0 .1 .0 .1;
-      ssd = sym (length-map (e .ssd) _) ∙ c .empty .ok .1 .1 .1 .1 .1 .1 .1 .0 .1 .0 .1;
-      dsd = sym (length-map (e .dsd) _) ∙ c .empty .ok .1 .1 .1 .1 .1 .1 .1 .1 .0 .1 .0 .1;
-      sessions = sym (length-map (e .sessions) _) ∙ c .empty .ok .1 .1 .1 .1 .1 .1 .1 .1 .1 .0 .1 .0 .1;
-    }
 
 empty-requires : tie.Need-empty-requires
 empty-requires c κs = search needs
@@ -56,8 +42,8 @@ read-sessions-requires : tie.Need-read-sessions-requires
 read-sessions-requires c κs = search needs
 
 returns : tie.Need-returns
-returns c m file =
-    whole-read (c .before .before .before .before .before .before .before .before .before .before .before .before .before .before .before .before .before .before .before .before .before .before .before .before .before .before .before .args .bytes .now) m file (c .before .before .before .before .before .before .before .before .before .before .before .before .before .before .before .before .before .before .before .before .before .before .before .before .before .empty .result) (sized (c .before .before .before .before .before .before .before .before .before .before .before .before .before .before .before .before .before .before .before .before .before .before .before .before .before)) (c .before .before .before .before .before .before .before .before .before .before .before .before .before .before .before .before .before .before .before .before .before .before .before .before .before .empty .ensures) _ _ _ _ _ _ _ _ _
+returns c =
+    gathered-state (c .before .before .before .before .before .before .before .before .before .before .before .before .before .before .before .before .before .before .before .before .before .before .before .before .before .before .before .args .bytes .now) (c .before .before .before .before .before .before .before .before .before .before .before .before .before .before .before .before .before .before .before .before .before .before .before .before .before .empty .result) _ _ _ _ _ _ _ _ _ (sized (c .before .before .before .before .before .before .before .before .before .before .before .before .before .before .before .before .before .before .before .before .before .before .before .before .before .empty .result) _ (c .before .before .before .before .before .before .before .before .before .before .before .before .before .before .before .before .before .before .before .before .before .before .before .before .before .empty .ok)) (c .before .before .before .before .before .before .before .before .before .before .before .before .before .before .before .before .before .before .before .before .before .before .before .before .before .empty .ensures)
     (c .before .before .before .before .before .before .before .before .before .before .before .before .before .before .before .before .before .before .before .before .before .before .before .read-users .ensures .is)
     (c .before .before .before .before .before .before .before .before .before .before .before .before .before .before .before .before .before .before .before .before .before .before .read-roles .ensures .is)
     (c .before .before .before .before .before .before .before .before .before .before .before .before .before .before .before .before .before .before .before .read-pairs .ensures .is)

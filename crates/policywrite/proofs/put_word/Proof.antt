@@ -1,3 +1,4 @@
+-- A number is written at a place: both bytes fit, only the first does, or neither. Assumes nothing.
 use borrow.Author.Needs.{needs}
 use mathlib.Core.List.{List}
 use mathlib.Core.Path.{_≡_, refl, sym, ap, _∙_}
@@ -6,8 +7,8 @@ use native.Mathlib.Omega.{arith}
 use native.Mathlib.Numerals.{add-one}
 use lib.ListN.{length, set, length-set}
 use lib.Seq.{set-out}
-use Rattle.text.proofs.put_word.Statement.{statement}
-use Rattle.text.proofs.put_word.Tie as tie
+use Rattle.policywrite.proofs.put_word.Statement.{statement}
+use Rattle.policywrite.proofs.put_word.Tie as tie
 
 add-next : tie.Need-add-next
 add-next c = search needs
