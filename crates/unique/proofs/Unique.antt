@@ -298,6 +298,7 @@ pub decimal : promises.Decimal
 decimal =
     record {
       put = λ κs a x y e f vx vy p q. (p .ends ∙ sym (q .ends), p .holds ∙ sym (q .holds));
+      put-text = λ κs a x y e f vx vy p q. (p .ends ∙ sym (q .ends), p .holds ∙ sym (q .holds));
       put-number = λ κs a x y e f vx vy p q. (p .ends ∙ sym (q .ends), p .holds ∙ sym (q .holds));
       put-numbers = λ κs a x y e f vx vy p q. (p .ends ∙ sym (q .ends), p .holds ∙ sym (q .holds));
       value = λ κs a x y e f vx vy p q. p ∙ sym q;

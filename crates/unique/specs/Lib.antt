@@ -1,3 +1,4 @@
 pub mod Unique
 pub mod Promises
 pub mod Handed
+pub mod Scripts

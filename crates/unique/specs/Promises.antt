@@ -161,6 +161,7 @@ pub record Reviews : Type 0 where
 
 pub record Decimal : Type 0 where
   pub put : UniqueLent decimal.put.Kinds.ps decimal.put.Kinds.r decimal.put.Reads.Post (λ κs e. e .0 .now)
+  pub put-text : UniqueLent decimal.put_text.Kinds.ps decimal.put_text.Kinds.r decimal.put_text.Reads.Post (λ κs e. e .0 .now)
   pub put-number : UniqueLent decimal.put_number.Kinds.ps decimal.put_number.Kinds.r decimal.put_number.Reads.Post (λ κs e. e .0 .now)
   pub put-numbers : UniqueLent decimal.put_numbers.Kinds.ps decimal.put_numbers.Kinds.r decimal.put_numbers.Reads.Post (λ κs e. e .0 .now)
   pub value : Unique decimal.value.Kinds.ps decimal.value.Kinds.r decimal.value.Reads.Post
