@@ -1,0 +1,24 @@
+-- A script beside its answers, for reading. Assumes nothing.
+use mathlib.Core.List.{List, [], _∷_, _++_}
+use Prim.Native.Nat.{ℕ}
+use Prim.Native.String.{String}
+use Rattle.words.specs.Bytes.{bytes}
+use Rattle.script.specs.Script.{lineFeed}
+
+infixl 90 _⇒_
+-- a line and its answer
+pub data Row : Type 0 where
+  _⇒_ : String → String → Row
+
+-- a line with its LF
+abbrev pub lineOf : String → List ℕ
+lineOf text = bytes text ++ (lineFeed ∷ [])
+
+-- the script, and what it prints: the answers and the total
+abbrev pub scriptOf : List Row → List ℕ
+scriptOf [] = []
+scriptOf ((line ⇒ answer) ∷ rest) = lineOf line ++ scriptOf rest
+
+abbrev pub printedFor : List Row → String → List ℕ
+printedFor [] total = lineOf total
+printedFor ((line ⇒ answer) ∷ rest) total = lineOf answer ++ printedFor rest total
