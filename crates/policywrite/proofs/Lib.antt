@@ -1,1 +1,1 @@
-pub mod Wide
+mod Under

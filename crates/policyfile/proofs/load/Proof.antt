@@ -1,5 +1,4 @@
--- A load is refused with 14, by the lowest rule that is broken, or done. Where the gathered state is not of the form, or its file is not the bytes, no
--- model has these bytes as its file. Assumes nothing.
+-- A load is refused with 14, or by the lowest rule that the file breaks, or it is done. Assumes nothing.
 use borrow.Author.Needs.{needs}
 use mathlib.Core.Logic.{inl, inr}
 use mathlib.Core.Path.{_≡_, refl, sym, ap, subst, _∙_}
@@ -23,21 +22,6 @@ use Rattle.policyfile.proofs.load.Tie as tie
 returns : tie.Need-returns
 unfolding seen
 returns c = inl (record { no-file = λ m f. omega (arith, encode-size m (f .formed), ap length (f .written), c .if1 .taken); tells = refl })
-
-gather-requires : tie.Need-gather-requires
-gather-requires c κs = search needs
-
-formed-requires : tie.Need-formed-requires
-formed-requires c κs = search needs
-
-is-file-requires : tie.Need-is-file-requires
-is-file-requires c κs = search needs
-
-broken-requires : tie.Need-broken-requires
-broken-requires c κs = search needs
-
-is-done-requires : tie.Need-is-done-requires
-is-done-requires c κs = search needs
 
 returns-2 : tie.Need-returns-2
 unfolding seen
@@ -71,11 +55,11 @@ load-spec =
     tie.close
     (tie.spec
     returns
-    gather-requires
-    formed-requires
-    is-file-requires
-    broken-requires
-    is-done-requires
+    (λ c κs. search needs)
+    (λ c κs. search needs)
+    (λ c κs. search needs)
+    (λ c κs. search needs)
+    (λ c κs. search needs)
     returns-2
     returns-3
     returns-4
