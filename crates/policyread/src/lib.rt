@@ -38,6 +38,7 @@ fn count_at(bytes: &[u8], at: usize, most: u16) -> u16
     if most < n { most } else { n }
 }
 
+// The users.
 fn read_users(bytes: &[u8], at: usize, none: [bool; 256]) -> Users
     requires { ⌜ at < 2 ^ 32 ⌝ }
     ensures { λ x. ⌜ Got (readSection (now (bytes .entry)) 256 (readUser (now (bytes .entry))) at none) at 514 (x .at) (x .users) ⌝ }
@@ -98,6 +99,7 @@ fn read_pairs(bytes: &[u8], at: usize, most: u16, table: &mut [u64]) -> usize
     next
 }
 
+// The grants.
 fn read_grants(bytes: &[u8], at: usize, table: &mut [u64]) -> usize
     requires { ⌜ at < 2 ^ 32 ⌝ }
     ensures { λ next. ⌜ Got (readSection (now (bytes .entry)) 2048 (readGrant (now (bytes .entry))) at (now (table .entry))) at 12290 next (now (table .exit)) ⌝ }
@@ -115,6 +117,7 @@ fn read_grants(bytes: &[u8], at: usize, table: &mut [u64]) -> usize
     next
 }
 
+// The sets of one kind.
 fn read_sets(bytes: &[u8], at: usize, none: [RoleSet; 16]) -> Sets
     requires { ⌜ at < 2 ^ 32 ⌝ }
     ensures { λ x. ⌜ Got (readSection (now (bytes .entry)) 16 (readSet (now (bytes .entry))) at none) at 2146 (x .at) (x .sets) ⌝ }
@@ -139,6 +142,7 @@ fn read_sets(bytes: &[u8], at: usize, none: [RoleSet; 16]) -> Sets
     Sets { at: next, sets }
 }
 
+// The sessions. An owner is read as a byte; one beyond 255 is found out when the file is written again.
 fn read_sessions(bytes: &[u8], at: usize, none: [SessionRecord; 64]) -> Sessions
     requires { ⌜ at < 2 ^ 32 ⌝ }
     ensures { λ x. ⌜ Got (readSection (now (bytes .entry)) 64 (readSession (now (bytes .entry))) at none) at 8578 (x .at) (x .sessions) ⌝ }

@@ -1,1 +1,2 @@
+-- The laws that the proofs share.
 mod Under

@@ -1,2 +1,3 @@
+-- The proofs of the two statements.
 pub mod Unique
 pub mod Handed
