@@ -12,7 +12,7 @@ use Rattle.roleset.specs.Roles.{with}
 use Rattle.model.specs.Words.{permission}
 use Rattle.text.specs.Places.{wordAt, atMost, again, readSection}
 use Rattle.text.proofs.Reading.{at-most-le}
-use Rattle.policyread.specs.Steps.{mark, readUser, readRole, readRoles, readPair, readGrant, readEntry, Got}
+use Rattle.policyread.specs.Steps.{mark, readUser, readRole, readPair, readGrant, readEntry, Got, GotEntry}
 
 -- ---- entries still to read
 
@@ -88,8 +88,8 @@ module _ (bytes : List ℕ) (at : ℕ) where
   unfolding readGrant
   grant-was l r op obj p q t = sym (rw (p, q, t))
 
-  pub entry-was : {B : Type 0} (make : ℕ → ℕ → B) (l : List B) (i x next roles : ℕ) → i ≡ wordAt bytes at → x ≡ wordAt bytes (at + 2) → Got (readRoles bytes (at + 4)) (at + 4) 130 next roles → readEntry make bytes (at, l) ≡ (next, set l i (make x roles))
-  unfolding readEntry
-  entry-was make l i x next roles p q g =
-      ap (λ (r : ℕ × ℕ). (r .0, set l (wordAt bytes at) (make (wordAt bytes (at + 2)) (r .1)))) (sym (g .is))
-      ∙ ap₂ (λ (n y : ℕ). (next, set l n (make y roles))) (sym p) (sym q)
+pub entry-was : {B : Type 0} {bytes : List ℕ} {at i x next roles : ℕ} (make : ℕ → ℕ → B) (l : List B) → GotEntry bytes at i x next roles → readEntry make bytes (at, l) ≡ (next, set l i (make x roles))
+unfolding readEntry
+entry-was {bytes = bytes} {at} {i} {x} {next} {roles} make l g =
+    ap (λ (r : ℕ × ℕ). (r .0, set l (wordAt bytes at) (make (wordAt bytes (at + 2)) (r .1)))) (sym (g .list .is))
+    ∙ ap₂ (λ (n y : ℕ). (next, set l n (make y roles))) (sym (g .leads)) (sym (g .follows))

@@ -50,3 +50,9 @@ readSession = readEntry sessionOf
 pub record Got {A : Type 0} (read : ℕ × A) (at most place : ℕ) (after : A) : Type 0 where
   pub is : (place, after) ≡ read
   pub room : place ≤ at + most
+
+-- two numbers and a list of roles were read from a place, to the next place
+pub record GotEntry (bytes : List ℕ) (at first second place roles : ℕ) : Type 0 where
+  pub leads : first ≡ wordAt bytes at
+  pub follows : second ≡ wordAt bytes (at + 2)
+  pub list : Got (readRoles bytes (at + 4)) (at + 4) 130 place roles

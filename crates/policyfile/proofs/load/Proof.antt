@@ -10,8 +10,7 @@ use Rattle.numbers.specs.Answers.{numberOf}
 use Rattle.model.specs.Model.{Model}
 use Rattle.policy.specs.View.{view, seen}
 use Rattle.policyform.specs.Encode.{encode}
-use Rattle.policyform.specs.Form.{Formed}
-use Rattle.policyform.specs.Rules.{rulesBroken}
+use Rattle.policyform.specs.Form.{Formed, FileOf}
 use Rattle.policyform.proofs.Size.{encode-size}
 use Rattle.policyread.proofs.Whole.{gathered-file}
 use Rattle.policyfile.proofs.Settling.{settled-done, settled-refused}
@@ -23,24 +22,19 @@ returns : tie.Need-returns
 unfolding seen
 returns c = inl (record { no-file = λ m f. omega (arith, encode-size m (f .formed), ap length (f .written), c .if1 .taken); tells = refl })
 
+-- the bytes are the file of the state that was gathered
+file : (c : tie.Then3) → FileOf (view (c .before .before .before .before .gather .result)) (c .before .before .before .before .before .before .before .args .bytes .now)
+file c = record { formed = c .before .before .before .formed .ensures .holds (c .before .before .if2 .taken); written = c .before .is-file .ensures .holds (c .if3 .taken) }
+
 returns-2 : tie.Need-returns-2
 unfolding seen
 returns-2 c =
     let zero : numberOf (c .before .before .broken .result) ≡ 0 = eqb-true _ _ (sym (c .before .is-done .ensures) ∙ c .if4 .taken) in
-    inr (record {
-      model = view (c .before .before .before .before .before .before .before .gather .result);
-      file = record { formed = c .before .before .before .before .before .before .formed .ensures .holds (c .before .before .before .before .before .if2 .taken); written = c .before .before .before .before .is-file .ensures .holds (c .before .before .before .if3 .taken) };
-      tells = settled-done (rulesBroken (view (c .before .before .before .before .before .before .before .gather .result))) _ (view (c .before .before .before .before .before .before .before .gather .result)) (numberOf (c .before .before .broken .result)) (c .before .before .broken .ensures) zero;
-    })
+    inr (record { model = _; file = file (c .before .before .before); tells = settled-done _ _ _ _ (c .before .before .broken .ensures) zero })
 
 returns-3 : tie.Need-returns-3
 unfolding seen
-returns-3 c =
-    inr (record {
-      model = view (c .before .before .before .before .before .before .before .gather .result);
-      file = record { formed = c .before .before .before .before .before .before .formed .ensures .holds (c .before .before .before .before .before .if2 .taken); written = c .before .before .before .before .is-file .ensures .holds (c .before .before .before .if3 .taken) };
-      tells = settled-refused (rulesBroken (view (c .before .before .before .before .before .before .before .gather .result))) _ (view (c .before .before .before .before .before .before .before .gather .result)) (numberOf (c .before .before .broken .result)) (c .before .before .broken .ensures) (sym (c .before .is-done .ensures) ∙ c .if4 .left);
-    })
+returns-3 c = inr (record { model = _; file = file (c .before .before .before); tells = settled-refused _ _ _ _ (c .before .before .broken .ensures) (sym (c .before .is-done .ensures) ∙ c .if4 .left) })
 
 returns-4 : tie.Need-returns-4
 unfolding seen

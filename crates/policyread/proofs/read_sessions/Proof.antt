@@ -3,7 +3,7 @@ use borrow.Author.Needs.{needs}
 use mathlib.Core.Path.{refl}
 use native.Mathlib.Omega.{arith}
 use Rattle.text.specs.Places.{readSection}
-use Rattle.policyread.specs.Steps.{readSession, sessionOf}
+use Rattle.policyread.specs.Steps.{sessionOf, readSession}
 use Rattle.policyread.proofs.Loops.{Filling, left-start, left-end, filling-put, filling-past, entry-was}
 use Rattle.policyread.proofs.read_sessions.Statement.{statement}
 use Rattle.policyread.proofs.read_sessions.Tie as tie
@@ -18,10 +18,10 @@ loop-holds : tie.Need-loop-holds Inv-loop μ-loop
 loop-holds c = record { long = omega arith; rest = left-start _ (c .count-at .ensures) }
 
 loop-again : tie.Need-loop-again Inv-loop μ-loop
-loop-again c = filling-put _ _ (c .before .before .before .before .loop-test .taken) (entry-was _ _ sessionOf _ _ _ _ _ (c .before .before .before .word-at .ensures) (c .before .before .word-at2 .ensures) (c .before .read-roles .ensures)) (omega (arith, c .before .read-roles .ensures .room)) refl (c .before .before .before .before .before .loop .inv)
+loop-again c = filling-put _ _ (c .before .before .before .loop-test .taken) (entry-was sessionOf _ (c .before .before .read-entry .ensures)) (omega (arith, c .before .before .read-entry .ensures .list .room)) refl (c .before .before .before .before .loop .inv)
 
 loop-again-2 : tie.Need-loop-again-2 Inv-loop μ-loop
-loop-again-2 c = filling-past _ _ (c .before .before .before .before .loop-test .taken) (entry-was _ _ sessionOf _ _ _ _ _ (c .before .before .before .word-at .ensures) (c .before .before .word-at2 .ensures) (c .before .read-roles .ensures)) (omega (arith, c .before .read-roles .ensures .room)) (omega arith) (c .before .before .before .before .before .loop .inv)
+loop-again-2 c = filling-past _ _ (c .before .before .before .loop-test .taken) (entry-was sessionOf _ (c .before .before .read-entry .ensures)) (omega (arith, c .before .before .read-entry .ensures .list .room)) (omega arith) (c .before .before .before .before .loop .inv)
 
 returns : tie.Need-returns Inv-loop μ-loop
 returns c = left-end (c .loop-test .left) (c .before .loop .inv .rest)
@@ -37,11 +37,6 @@ read-sessions-spec =
     loop-holds
     (λ c κs. search needs)
     (λ c. search needs)
-    (λ c. search needs)
-    (λ c κs. search needs)
-    (λ c. search needs)
-    (λ c. search needs)
-    (λ c κs. search needs)
     (λ c. search needs)
     (λ c. search needs)
     (λ c. search needs)
