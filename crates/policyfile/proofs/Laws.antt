@@ -1,28 +1,27 @@
 -- Saving and loading: each promise determines what is told, a saved policy loads as itself, a loaded file is saved as itself, and what a load
 -- hands back is sound. Assumes nothing.
-use mathlib.Core.Bool.{Bool, true, false}
+use mathlib.Core.Bool.{Bool, false}
 use mathlib.Core.List.{List, [], _∷_, _++_}
-use mathlib.Core.Logic.{_⊎_, inl, inr, ⊎-elim}
+use mathlib.Core.Logic.{inl, inr}
 use mathlib.Core.Path.{_≡_, refl, sym, ap, subst, _∙_}
 use Prim.Native.Nat.{ℕ, _+_, _≤_, _<_}
 use native.Mathlib.Omega.{arith}
-use lib.Dec.{eqb}
-use lib.ListN.{length, take, drop}
-use lib.Seq.{sets, sets-eq, take-append-seam}
-use Rattle.roleset.specs.Bounded.{members, tally}
+use lib.ListN.{length, drop}
+use lib.Seq.{sets-eq}
+use Rattle.roleset.specs.Bounded.{members}
 use Rattle.roleset.specs.Roles.{has}
 use Rattle.roleset.proofs.BoundedLaws.{tally-none}
 use Rattle.roleset.proofs.Laws.{has-none}
 use Rattle.roleset.proofs.MembersLaws.{members-length}
 use Rattle.model.specs.Model.{Model, empty}
-use Rattle.model.specs.Sheet.{Told, verdict, settle, done, refused}
+use Rattle.model.specs.Sheet.{Told, verdict, settle, done}
 use Rattle.model.specs.Sound.{Sound}
 use Rattle.sound.proofs.Sheet.{settle-done, settle-answer, settle-kept, refusal-changes-nothing}
 use Rattle.text.specs.Bytes.{two, flat, section}
 use Rattle.policyform.specs.Encode.{pairIn, grantIn, encode}
-use Rattle.policyform.specs.Form.{FileOf, Formed}
+use Rattle.policyform.specs.Form.{Formed}
 use Rattle.policyform.specs.Rules.{rulesBroken}
-use Rattle.policyform.specs.Promises.{Saves, SaveRefused, SaveDone, NotOfForm, OfForm, Loads}
+use Rattle.policyform.specs.Promises.{Saves, SaveDone, Loads}
 use Rattle.policyform.proofs.Size.{encode-size}
 use Rattle.policyread.proofs.Whole.{file-one}
 use Rattle.policyfile.proofs.Sounding.{sound-formed, formed-sound, sound-clear}

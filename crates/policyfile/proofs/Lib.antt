@@ -1,3 +1,4 @@
+-- The laws of saving and loading, that crates above cite, and what the proofs share.
 mod Front
 mod Settling
 pub mod Sounding

@@ -1,20 +1,19 @@
 -- What a file may hold and breaks no rule is sound, and what is sound may stand in a file and breaks no rule. Assumes nothing.
-use mathlib.Core.Bool.{Bool, true, false, not, _&&_, _||_}
+use mathlib.Core.Bool.{Bool, true, false, not, _&&_}
 use mathlib.Core.Path.{_≡_, refl, sym, ap, _∙_}
-use Prim.Native.Nat.{ℕ, _≤_, _<_, _^_}
+use Prim.Native.Nat.{ℕ, _<_}
 use native.Mathlib.Decide.{decLt}
 use native.Mathlib.Omega.{arith}
 use lib.Dec.{ltb}
-use borrow.Author.Tests.{ltb-true, ltb-false, le-ltb}
-use Rattle.roleset.specs.Bounded.{some}
+use borrow.Author.Tests.{ltb-false, le-ltb}
 use Rattle.roleset.specs.Roles.{has, subset, count}
-use Rattle.roleset.proofs.BoundedLaws.{clash, never, and-left, and-right, and-both, or-clear, some-false, some-none}
+use Rattle.roleset.proofs.BoundedLaws.{clash, never, and-both, or-clear, some-false, some-none}
 use Rattle.roleset.proofs.Laws.{count-le, has-none, member-small, subset-true, subset-intro}
 use Rattle.hierarchy.proofs.CircleLaws.{never-cut, circular-acyclic, acyclic-circular}
-use Rattle.model.specs.Model.{Model, RoleSet, Session, noSet, noSession}
+use Rattle.model.specs.Model.{Model, RoleSet, Session}
 use Rattle.model.specs.Sheet.{verdict}
-use Rattle.model.specs.Words.{authorised, breaksSome, staticBroken, dynamicBroken}
-use Rattle.model.specs.Sound.{Existing, SetShape, SessionShape, Shape, Limits, Rules, Sound}
+use Rattle.model.specs.Words.{authorised, staticBroken, dynamicBroken}
+use Rattle.model.specs.Sound.{SetShape, Shape, Sound}
 use Rattle.model.specs.commands.Inheriting.{usersCut}
 use Rattle.model.specs.commands.Sets.{badCardinality}
 use Rattle.sound.proofs.Sheet.{AllClear, clear-done, done-clear}

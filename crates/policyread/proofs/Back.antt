@@ -14,8 +14,8 @@ use Rattle.model.specs.Words.{permission}
 use Rattle.text.specs.Bytes.{two, section}
 use Rattle.text.specs.Places.{wordAt, readSection}
 use Rattle.text.proofs.Reading.{Stands, stands-left, stands-right, word-back, each-member, section-back}
-use Rattle.policyform.specs.Encode.{roleList, pairEntry, pairIn, grantEntry, grantIn, setEntry, sessionEntry, usersPart, grantsPart, setsPart, sessionsPart}
-use Rattle.policyread.specs.Steps.{mark, readUser, readRole, readRoles, readPair, readGrant, readSet, readSession}
+use Rattle.policyform.specs.Encode.{roleList, pairEntry, pairIn, grantEntry, grantIn, usersPart, grantsPart, setsPart, sessionsPart}
+use Rattle.policyread.specs.Steps.{mark, readUser, readRole, readRoles, readPair, readGrant, readEntry, setOf, readSet, sessionOf, readSession}
 use Rattle.policyread.proofs.Folds.{roles-back, records-back, Numbered, grid-back}
 
 -- the part was read: the place is past it, and the array holds the table
@@ -86,30 +86,30 @@ module _ (bytes : List ℕ) where
         ),
       )
 
-  pub sets-read : (sets : ℕ → RoleSet) → ((n : ℕ) → sets n .there ≡ false → sets n ≡ noSet) → ((n : ℕ) → sets n .there ≡ true → n < 16) → ((n : ℕ) → sets n .card < 65536) → ((n : ℕ) → sets n .roles < 2 ^ 64) → (at place : ℕ) (l after : List RoleSet) (rest : List ℕ) → length l ≡ 16 → ((k : ℕ) → getD l k noSet ≡ noSet) → Stands bytes at (setsPart sets) rest → (place, after) ≡ readSection bytes 16 (readSet bytes) at l → Back noSet at place (setsPart sets) after sets
-  unfolding readSet
-  sets-read sets absent named card roles at place l after rest long none s g =
-      let e = g ∙ section-back bytes (setEntry sets) (λ (t : List RoleSet) (n : ℕ). set t n (sets n)) (readSet bytes) (λ k. (k < 16) × (sets k .there ≡ true)) one 16 (omega arith) (members 16 (λ n. sets n .there)) (members-most 16 (λ n. sets n .there)) (each-member 16 (λ n. sets n .there)) at l rest s in
-      record { next = ap (λ (q : ℕ × List RoleSet). q .0) e; is = ap {B = ℕ → RoleSet} (λ (q : ℕ × List RoleSet) (k : ℕ). getD (q .1) k noSet) e ∙ records-back noSet sets (λ n. sets n .there) 16 absent named l long none }
+  -- records, each at the place of its number
+  records-read : {B : Type 0} (d : B) (make : ℕ → ℕ → B) (size : ℕ) → size < 65536 → (there : ℕ → Bool) (second roles : ℕ → ℕ) (table : ℕ → B) → ((k : ℕ) → there k ≡ true → make (second k) (roles k) ≡ table k) → ((k : ℕ) → there k ≡ false → table k ≡ d) → ((k : ℕ) → there k ≡ true → k < size) → ((k : ℕ) → second k < 65536) → ((k : ℕ) → roles k < 2 ^ 64) → (at place : ℕ) (l after : List B) (rest : List ℕ) → length l ≡ size → ((k : ℕ) → getD l k d ≡ d) → Stands bytes at (section (λ k. two k ++ (two (second k) ++ roleList (roles k))) (members size there)) rest → (place, after) ≡ readSection bytes size (readEntry make bytes) at l → Back d at place (section (λ k. two k ++ (two (second k) ++ roleList (roles k))) (members size there)) after table
+  unfolding readEntry
+  records-read {B} d make size low there second roles table made absent named small fit at place l after rest long none s g =
+      let e = g ∙ section-back bytes entry (λ (t : List B) (k : ℕ). set t k (table k)) (readEntry make bytes) (λ k. (k < size) × (there k ≡ true)) one size low (members size there) (members-most size there) (each-member size there) at l rest s in
+      record { next = ap (λ (q : ℕ × List B). q .0) e; is = ap {B = ℕ → B} (λ (q : ℕ × List B) (k : ℕ). getD (q .1) k d) e ∙ records-back d table there size absent named l long none }
     where
-      one : (k at : ℕ) (a : List RoleSet) (rest : List ℕ) → (k < 16) × (sets k .there ≡ true) → Stands bytes at (setEntry sets k) rest → readSet bytes (at, a) ≡ (at + length (setEntry sets k), set a k (sets k))
+      entry : ℕ → List ℕ
+      entry k = two k ++ (two (second k) ++ roleList (roles k))
+
+      one : (k at : ℕ) (a : List B) (rest : List ℕ) → (k < size) × (there k ≡ true) → Stands bytes at (entry k) rest → readEntry make bytes (at, a) ≡ (at + length (entry k), set a k (table k))
       one k at a rest p s =
-          let e = entry-read at k (sets k .card) (sets k .roles) rest (omega (arith, p .0)) (card k) (roles k) s in
-          (ap (λ (q : ℕ × ℕ). (q .0, set a (wordAt bytes at) (record { there = true; card = wordAt bytes (at + 2); roles = q .1 }))) (e .1 .1)
-          ∙ ap₂ (λ (i n : ℕ). (at + length (setEntry sets k), set a i (record { there = true; card = n; roles = sets k .roles }))) (e .0) (e .1 .0)
-          ∙ ap (λ (b : Bool). (at + length (setEntry sets k), set a k (record { there = b; card = sets k .card; roles = sets k .roles }))) (sym (p .1)))
+          let e = entry-read at k (second k) (roles k) rest (omega (arith, p .0)) (small k) (fit k) s in
+          ap (λ (q : ℕ × ℕ). (q .0, set a (wordAt bytes at) (make (wordAt bytes (at + 2)) (q .1)))) (e .1 .1)
+          ∙ ap₂ (λ (i n : ℕ). (at + length (entry k), set a i (make n (roles k)))) (e .0) (e .1 .0)
+          ∙ ap (λ (v : B). (at + length (entry k), set a k v)) (made k (p .1))
+
+  pub sets-read : (sets : ℕ → RoleSet) → ((n : ℕ) → sets n .there ≡ false → sets n ≡ noSet) → ((n : ℕ) → sets n .there ≡ true → n < 16) → ((n : ℕ) → sets n .card < 65536) → ((n : ℕ) → sets n .roles < 2 ^ 64) → (at place : ℕ) (l after : List RoleSet) (rest : List ℕ) → length l ≡ 16 → ((k : ℕ) → getD l k noSet ≡ noSet) → Stands bytes at (setsPart sets) rest → (place, after) ≡ readSection bytes 16 (readSet bytes) at l → Back noSet at place (setsPart sets) after sets
+  sets-read sets absent named card roles = records-read noSet setOf 16 (omega arith) (λ n. sets n .there) (λ n. sets n .card) (λ n. sets n .roles) sets (λ n e. ap (λ (b : Bool). record { there = b; card = sets n .card; roles = sets n .roles }) (sym e)) absent named card roles
 
   pub sessions-read : (sessions : ℕ → Session) → ((n : ℕ) → sessions n .live ≡ false → sessions n ≡ noSession) → ((n : ℕ) → sessions n .live ≡ true → n < 64) → ((n : ℕ) → sessions n .owner < 256) → ((n : ℕ) → sessions n .active < 2 ^ 64) → (at place : ℕ) (l after : List Session) (rest : List ℕ) → length l ≡ 64 → ((k : ℕ) → getD l k noSession ≡ noSession) → Stands bytes at (sessionsPart sessions) rest → (place, after) ≡ readSection bytes 64 (readSession bytes) at l → Back noSession at place (sessionsPart sessions) after sessions
-  unfolding readSession
-  sessions-read sessions closed numbered owner active at place l after rest long none s g =
-      let e = g ∙ section-back bytes (sessionEntry sessions) (λ (t : List Session) (n : ℕ). set t n (sessions n)) (readSession bytes) (λ k. (k < 64) × (sessions k .live ≡ true)) one 64 (omega arith) (members 64 (λ n. sessions n .live)) (members-most 64 (λ n. sessions n .live)) (each-member 64 (λ n. sessions n .live)) at l rest s in
-      record { next = ap (λ (q : ℕ × List Session). q .0) e; is = ap {B = ℕ → Session} (λ (q : ℕ × List Session) (k : ℕ). getD (q .1) k noSession) e ∙ records-back noSession sessions (λ n. sessions n .live) 64 closed numbered l long none }
+  sessions-read sessions closed numbered owner active = records-read noSession sessionOf 64 (omega arith) (λ n. sessions n .live) (λ n. sessions n .owner) (λ n. sessions n .active) sessions made closed numbered (λ n. omega (arith, owner n)) active
     where
-      one : (k at : ℕ) (a : List Session) (rest : List ℕ) → (k < 64) × (sessions k .live ≡ true) → Stands bytes at (sessionEntry sessions k) rest → readSession bytes (at, a) ≡ (at + length (sessionEntry sessions k), set a k (sessions k))
-      one k at a rest p s =
-          let small = owner k in
-          let e = entry-read at k (sessions k .owner) (sessions k .active) rest (omega (arith, p .0)) (omega arith) (active k) s in
-          let whose : wordAt bytes (at + 2) % 256 ≡ sessions k .owner = omega (arith, e .1 .0) in
-          (ap (λ (q : ℕ × ℕ). (q .0, set a (wordAt bytes at) (record { live = true; owner = wordAt bytes (at + 2) % 256; active = q .1 }))) (e .1 .1)
-          ∙ ap₂ (λ (i n : ℕ). (at + length (sessionEntry sessions k), set a i (record { live = true; owner = n; active = sessions k .active }))) (e .0) whose
-          ∙ ap (λ (b : Bool). (at + length (sessionEntry sessions k), set a k (record { live = b; owner = sessions k .owner; active = sessions k .active }))) (sym (p .1)))
+      made : (n : ℕ) → sessions n .live ≡ true → sessionOf (sessions n .owner) (sessions n .active) ≡ sessions n
+      made n e =
+          let whose : sessions n .owner % 256 ≡ sessions n .owner = omega (arith, owner n) in
+          λ i. record { live = sym e i; owner = whose i; active = sessions n .active }

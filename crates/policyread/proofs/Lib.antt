@@ -1,4 +1,5 @@
-pub mod Loops
-pub mod Folds
-pub mod Back
+-- The laws that the proofs share; crates above cite `Whole`.
+mod Loops
+mod Folds
+mod Back
 pub mod Whole

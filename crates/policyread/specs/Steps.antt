@@ -30,19 +30,29 @@ readGrant bytes p = (p .0 + 6, mark (p .1) (permission (wordAt bytes (p .0 + 2))
 unfoldable pub readRoles : List ℕ → ℕ → ℕ × ℕ
 readRoles bytes at = readSection bytes 64 (readRole bytes) at 0
 
-unfoldable pub readSet : List ℕ → ℕ × List RoleSet → ℕ × List RoleSet
-readSet bytes p = (
-  readRoles bytes (p .0 + 4) .0,
-  set (p .1) (wordAt bytes (p .0)) (record { there = true; card = wordAt bytes (p .0 + 2); roles = readRoles bytes (p .0 + 4) .1 }),
-)
+-- two numbers and a list of roles: a record at the place of the first, made of the others
+unfoldable pub readEntry : {A : Type 0} → (ℕ → ℕ → A) → List ℕ → ℕ × List A → ℕ × List A
+readEntry make bytes p = (readRoles bytes (p .0 + 4) .0, set (p .1) (wordAt bytes (p .0)) (make (wordAt bytes (p .0 + 2)) (readRoles bytes (p .0 + 4) .1)))
 
-unfoldable pub readSession : List ℕ → ℕ × List Session → ℕ × List Session
-readSession bytes p = (
-  readRoles bytes (p .0 + 4) .0,
-  set (p .1) (wordAt bytes (p .0)) (record { live = true; owner = wordAt bytes (p .0 + 2) % 256; active = readRoles bytes (p .0 + 4) .1 }),
-)
+abbrev pub setOf : ℕ → ℕ → RoleSet
+setOf card roles = record { there = true; card = card; roles = roles }
+
+abbrev pub readSet : List ℕ → ℕ × List RoleSet → ℕ × List RoleSet
+readSet = readEntry setOf
+
+abbrev pub sessionOf : ℕ → ℕ → Session
+sessionOf owner active = record { live = true; owner = owner % 256; active = active }
+
+abbrev pub readSession : List ℕ → ℕ × List Session → ℕ × List Session
+readSession = readEntry sessionOf
 
 -- the section was read from a place, to the next place and what it holds; the next place is at most so far on
 pub record Got {A : Type 0} (read : ℕ × A) (at most place : ℕ) (after : A) : Type 0 where
   pub is : (place, after) ≡ read
   pub room : place ≤ at + most
+
+-- two numbers and a list of roles were read from a place, to the next place
+pub record GotEntry (bytes : List ℕ) (at first second place roles : ℕ) : Type 0 where
+  pub leads : first ≡ wordAt bytes at
+  pub follows : second ≡ wordAt bytes (at + 2)
+  pub list : Got (readRoles bytes (at + 4)) (at + 4) 130 place roles

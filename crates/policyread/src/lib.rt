@@ -4,7 +4,7 @@ ghost use Prim.Native.Nat.{_<_, _+_, _*_, _^_};
 ghost use Rattle.policy.specs.View.{view};
 ghost use Rattle.text.specs.Places.{wordAt, atMost, readSection};
 ghost use Rattle.policyread.specs.Gathered.{gathered};
-ghost use Rattle.policyread.specs.Steps.{mark, readUser, readPair, readGrant, readRoles, readSet, readSession, Got};
+ghost use Rattle.policyread.specs.Steps.{mark, readUser, readPair, readGrant, readRoles, readSet, readSession, Got, GotEntry};
 use model::RoleSet;
 use model::SessionRecord;
 use policy::State;
@@ -17,6 +17,13 @@ pub struct Users {
 
 pub struct Roles {
     pub at: usize,
+    pub roles: u64,
+}
+
+pub struct Entry {
+    pub at: usize,
+    pub first: usize,
+    pub second: u16,
     pub roles: u64,
 }
 
@@ -38,6 +45,7 @@ fn count_at(bytes: &[u8], at: usize, most: u16) -> u16
     if most < n { most } else { n }
 }
 
+// The users.
 fn read_users(bytes: &[u8], at: usize, none: [bool; 256]) -> Users
     requires { ⌜ at < 2 ^ 32 ⌝ }
     ensures { λ x. ⌜ Got (readSection (now (bytes .entry)) 256 (readUser (now (bytes .entry))) at none) at 514 (x .at) (x .users) ⌝ }
@@ -58,7 +66,7 @@ fn read_users(bytes: &[u8], at: usize, none: [bool; 256]) -> Users
 
 // A list of roles: the section of roles, or the roles of a set or a session.
 fn read_roles(bytes: &[u8], at: usize) -> Roles
-    requires { ⌜ at < 2 ^ 33 ⌝ }
+    requires { ⌜ at < 2 ^ 34 ⌝ }
     ensures { λ x. ⌜ Got (readRoles (now (bytes .entry)) at) at 130 (x .at) (x .roles) ⌝ }
 {
     let mut roles: u64 = 0;
@@ -98,6 +106,7 @@ fn read_pairs(bytes: &[u8], at: usize, most: u16, table: &mut [u64]) -> usize
     next
 }
 
+// The grants.
 fn read_grants(bytes: &[u8], at: usize, table: &mut [u64]) -> usize
     requires { ⌜ at < 2 ^ 32 ⌝ }
     ensures { λ next. ⌜ Got (readSection (now (bytes .entry)) 2048 (readGrant (now (bytes .entry))) at (now (table .entry))) at 12290 next (now (table .exit)) ⌝ }
@@ -115,6 +124,23 @@ fn read_grants(bytes: &[u8], at: usize, table: &mut [u64]) -> usize
     next
 }
 
+// Two numbers and a list of roles, as sets and sessions have them.
+fn read_entry(bytes: &[u8], at: usize) -> Entry
+    requires { ⌜ at < 2 ^ 33 ⌝ }
+    ensures { λ x. ⌜ GotEntry (now (bytes .entry)) at (x .first) (x .second) (x .at) (x .roles) ⌝ }
+{
+    let first = text::word_at(bytes, at) as usize;
+    let second = text::word_at(bytes, at + 2);
+    let list = read_roles(bytes, at + 4);
+    Entry {
+        at: list.at,
+        first,
+        second,
+        roles: list.roles,
+    }
+}
+
+// The sets of one kind.
 fn read_sets(bytes: &[u8], at: usize, none: [RoleSet; 16]) -> Sets
     requires { ⌜ at < 2 ^ 32 ⌝ }
     ensures { λ x. ⌜ Got (readSection (now (bytes .entry)) 16 (readSet (now (bytes .entry))) at none) at 2146 (x .at) (x .sets) ⌝ }
@@ -123,22 +149,22 @@ fn read_sets(bytes: &[u8], at: usize, none: [RoleSet; 16]) -> Sets
     let mut next = at + 2;
     let mut left = count_at(bytes, at, 16);
     while 0 < left {
-        let name = text::word_at(bytes, next) as usize;
-        let card = text::word_at(bytes, next + 2);
-        let list = read_roles(bytes, next + 4);
-        next = list.at;
+        let entry = read_entry(bytes, next);
+        let name = entry.first;
+        next = entry.at;
         left -= 1;
         if name < 16 {
             sets[name] = RoleSet {
                 there: true,
-                card,
-                roles: list.roles,
+                card: entry.second,
+                roles: entry.roles,
             };
         }
     }
     Sets { at: next, sets }
 }
 
+// The sessions. An owner is read as a byte; one beyond 255 is found out when the file is written again.
 fn read_sessions(bytes: &[u8], at: usize, none: [SessionRecord; 64]) -> Sessions
     requires { ⌜ at < 2 ^ 32 ⌝ }
     ensures { λ x. ⌜ Got (readSection (now (bytes .entry)) 64 (readSession (now (bytes .entry))) at none) at 8578 (x .at) (x .sessions) ⌝ }
@@ -147,16 +173,16 @@ fn read_sessions(bytes: &[u8], at: usize, none: [SessionRecord; 64]) -> Sessions
     let mut next = at + 2;
     let mut left = count_at(bytes, at, 64);
     while 0 < left {
-        let number = text::word_at(bytes, next) as usize;
-        let owner = (text::word_at(bytes, next + 2) % 256) as u8;
-        let list = read_roles(bytes, next + 4);
-        next = list.at;
+        let entry = read_entry(bytes, next);
+        let number = entry.first;
+        let owner = (entry.second % 256) as u8;
+        next = entry.at;
         left -= 1;
         if number < 64 {
             sessions[number] = SessionRecord {
                 live: true,
                 owner,
-                active: list.roles,
+                active: entry.roles,
             };
         }
     }

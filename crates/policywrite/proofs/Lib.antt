@@ -1,1 +1,2 @@
-pub mod Wide
+-- The laws that the proofs share.
+mod Under

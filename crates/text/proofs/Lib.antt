@@ -1,2 +1,3 @@
+-- The laws that crates above cite: of writing, and of reading back.
 pub mod Writing
 pub mod Reading

@@ -1,18 +1,12 @@
--- Laws of writing: runs of bytes after each other, and a section whose count is written last. Assumes nothing.
-use mathlib.Core.Bool.{Bool, true, false}
+-- Laws of writing: runs of bytes after each other, and entries after each other. Assumes nothing.
 use mathlib.Core.List.{List, [], _∷_, _++_, append-nil, append-assoc}
 use mathlib.Core.Path.{_≡_, refl, sym, ap, ap₂, _∙_}
-use Prim.Native.Nat.{ℕ, zero, suc, _+_, _*_, _≤_, _<_}
-use native.Mathlib.Numerals.{add-one}
-use native.Mathlib.Nat.{mul-suc}
+use Prim.Native.Nat.{ℕ, suc, _+_, _≤_, _<_}
 use native.Mathlib.Omega.{arith}
 use lib.ListN.{length, set, length-append}
 use lib.Seq.{sets, set-comm, length-sets}
-use Rattle.roleset.specs.Bounded.{members}
-use Rattle.roleset.proofs.MembersLaws.{members-start, members-taken, members-left}
-use Rattle.text.specs.Bytes.{two, flat, section}
+use Rattle.text.specs.Bytes.{flat}
 use Rattle.text.specs.Places.{Wrote}
-use Rattle.text.specs.Sections.{Entries}
 
 -- ---- runs of stores
 
@@ -55,23 +49,6 @@ unfolding flat
 flat-append put [] y = refl
 flat-append put (k ∷ x) y = ap (λ (l : List ℕ). put k ++ l) (flat-append put x y) ∙ sym (append-assoc (put k) (flat put x) (flat put y))
 
-flat-none : (put : ℕ → List ℕ) → flat put [] ≡ []
+pub flat-none : (put : ℕ → List ℕ) → flat put [] ≡ []
 unfolding flat
 flat-none put = refl
-
-module _ (put : ℕ → List ℕ) (test : ℕ → Bool) (wide : ℕ) where
-  pub entries-start : (l : List ℕ) (at : ℕ) → Entries put test wide l l at (at + 2) 0 0
-  entries-start l at = record { written = rw (members-start test, flat-none put) (wrote-none l (at + 2)); counted = sym (ap length (members-start test)); room = omega arith; few = omega arith }
-
-  -- the next entry passes the test, and is written
-  pub entries-taken : {a b d : List ℕ} {at i j n k : ℕ} → test k ≡ true → length (put k) ≤ wide → Entries put test wide a b at i n k → Wrote b d i j (put k) → Entries put test wide a d at j (n + 1) (k + 1)
-  entries-taken {a} {b} {d} {at} {i} {j} {n} {k} t w e x = record { written = rw (members-taken k test t, flat-append put (members k test) (k ∷ []), flat-one put k) (wrote-more (e .written) x); counted = rw (members-taken k test t) (omega (arith, e .counted, length-append (members k test) (k ∷ []))); room = omega (arith, e .room, x .next, mul-suc wide k, ap (λ (m : ℕ). wide * m) (add-one k)); few = omega (arith, e .few) }
-
-  -- it does not, and nothing is written
-  pub entries-left : {a b : List ℕ} {at i n k : ℕ} → test k ≡ false → Entries put test wide a b at i n k → Entries put test wide a b at i n (k + 1)
-  entries-left {a} {b} {at} {i} {n} {k} t e = record { written = rw (members-left k test t) (e .written); counted = rw (members-left k test t) (e .counted); room = omega (arith, e .room, mul-suc wide k, ap (λ (m : ℕ). wide * m) (add-one k)); few = omega (arith, e .few) }
-
-  -- the count is written in front
-  pub entries-section : {a b d : List ℕ} {at i n k j : ℕ} → Entries put test wide a b at i n k → Wrote b d at j (two n) → Wrote a d at i (section put (members k test))
-  unfolding section
-  entries-section {a} {b} {d} {at} {i} {n} {k} {j} e x = record { buffer = x .buffer ∙ ap (λ (l : List ℕ). sets l at (two n)) (e .written .buffer) ∙ sets-front a at (two n) (flat put (members k test)) ∙ ap (λ (m : ℕ). sets a at (two m ++ flat put (members k test))) (e .counted); next = omega (arith, e .written .next, length-append (two (length (members k test))) (flat put (members k test))) }

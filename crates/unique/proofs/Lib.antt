@@ -1,3 +1,4 @@
+-- The proofs of the two statements.
 pub mod Unique
 pub mod Handed
 pub mod Scripts

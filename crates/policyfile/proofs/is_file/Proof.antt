@@ -1,6 +1,7 @@
+-- The state is written again and compared, which tells whether the bytes are its file. Assumes nothing.
 use borrow.Author.Needs.{needs}
-use mathlib.Core.Path.{_≡_, refl, sym, ap, _∙_}
-use Prim.Native.Nat.{ℕ, _≤_}
+use mathlib.Core.Path.{_≡_, ap}
+use Prim.Native.Nat.{ℕ}
 use native.Mathlib.Omega.{arith}
 use lib.ListN.{length, replicate, length-replicate}
 use Rattle.policy.specs.View.{view}
@@ -8,18 +9,6 @@ use Rattle.policyform.specs.Encode.{encode}
 use Rattle.policyfile.proofs.Front.{compared, tells-no}
 use Rattle.policyfile.proofs.is_file.Statement.{statement}
 use Rattle.policyfile.proofs.is_file.Tie as tie
-
-slice-aggregate-write : tie.Need-slice-aggregate-write
-slice-aggregate-write c = search needs
-
-write-requires : tie.Need-write-requires
-write-requires c κs = search needs
-
-slice-aggregate-begins : tie.Need-slice-aggregate-begins
-slice-aggregate-begins c = search needs
-
-begins-requires : tie.Need-begins-requires
-begins-requires c κs = search needs
 
 returns : tie.Need-returns
 returns c =
@@ -33,9 +22,9 @@ pub is-file-spec : {M : Type 1} → statement M
 is-file-spec =
     tie.close
     (tie.spec
-    slice-aggregate-write
-    write-requires
-    slice-aggregate-begins
-    begins-requires
+    (λ c. search needs)
+    (λ c κs. search needs)
+    (λ c. search needs)
+    (λ c κs. search needs)
     returns
     returns-2)

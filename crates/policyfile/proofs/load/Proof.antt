@@ -1,5 +1,4 @@
--- A load is refused with 14, by the lowest rule that is broken, or done. Where the gathered state is not of the form, or its file is not the bytes, no
--- model has these bytes as its file. Assumes nothing.
+-- A load is refused with 14, or by the lowest rule that the file breaks, or it is done. Assumes nothing.
 use borrow.Author.Needs.{needs}
 use mathlib.Core.Logic.{inl, inr}
 use mathlib.Core.Path.{_≡_, refl, sym, ap, subst, _∙_}
@@ -11,8 +10,7 @@ use Rattle.numbers.specs.Answers.{numberOf}
 use Rattle.model.specs.Model.{Model}
 use Rattle.policy.specs.View.{view, seen}
 use Rattle.policyform.specs.Encode.{encode}
-use Rattle.policyform.specs.Form.{Formed}
-use Rattle.policyform.specs.Rules.{rulesBroken}
+use Rattle.policyform.specs.Form.{Formed, FileOf}
 use Rattle.policyform.proofs.Size.{encode-size}
 use Rattle.policyread.proofs.Whole.{gathered-file}
 use Rattle.policyfile.proofs.Settling.{settled-done, settled-refused}
@@ -24,39 +22,19 @@ returns : tie.Need-returns
 unfolding seen
 returns c = inl (record { no-file = λ m f. omega (arith, encode-size m (f .formed), ap length (f .written), c .if1 .taken); tells = refl })
 
-gather-requires : tie.Need-gather-requires
-gather-requires c κs = search needs
-
-formed-requires : tie.Need-formed-requires
-formed-requires c κs = search needs
-
-is-file-requires : tie.Need-is-file-requires
-is-file-requires c κs = search needs
-
-broken-requires : tie.Need-broken-requires
-broken-requires c κs = search needs
-
-is-done-requires : tie.Need-is-done-requires
-is-done-requires c κs = search needs
+-- the bytes are the file of the state that was gathered
+file : (c : tie.Then3) → FileOf (view (c .before .before .before .before .gather .result)) (c .before .before .before .before .before .before .before .args .bytes .now)
+file c = record { formed = c .before .before .before .formed .ensures .holds (c .before .before .if2 .taken); written = c .before .is-file .ensures .holds (c .if3 .taken) }
 
 returns-2 : tie.Need-returns-2
 unfolding seen
 returns-2 c =
     let zero : numberOf (c .before .before .broken .result) ≡ 0 = eqb-true _ _ (sym (c .before .is-done .ensures) ∙ c .if4 .taken) in
-    inr (record {
-      model = view (c .before .before .before .before .before .before .before .gather .result);
-      file = record { formed = c .before .before .before .before .before .before .formed .ensures .holds (c .before .before .before .before .before .if2 .taken); written = c .before .before .before .before .is-file .ensures .holds (c .before .before .before .if3 .taken) };
-      tells = settled-done (rulesBroken (view (c .before .before .before .before .before .before .before .gather .result))) _ (view (c .before .before .before .before .before .before .before .gather .result)) (numberOf (c .before .before .broken .result)) (c .before .before .broken .ensures) zero;
-    })
+    inr (record { model = _; file = file (c .before .before .before); tells = settled-done _ _ _ _ (c .before .before .broken .ensures) zero })
 
 returns-3 : tie.Need-returns-3
 unfolding seen
-returns-3 c =
-    inr (record {
-      model = view (c .before .before .before .before .before .before .before .gather .result);
-      file = record { formed = c .before .before .before .before .before .before .formed .ensures .holds (c .before .before .before .before .before .if2 .taken); written = c .before .before .before .before .is-file .ensures .holds (c .before .before .before .if3 .taken) };
-      tells = settled-refused (rulesBroken (view (c .before .before .before .before .before .before .before .gather .result))) _ (view (c .before .before .before .before .before .before .before .gather .result)) (numberOf (c .before .before .broken .result)) (c .before .before .broken .ensures) (sym (c .before .is-done .ensures) ∙ c .if4 .left);
-    })
+returns-3 c = inr (record { model = _; file = file (c .before .before .before); tells = settled-refused _ _ _ _ (c .before .before .broken .ensures) (sym (c .before .is-done .ensures) ∙ c .if4 .left) })
 
 returns-4 : tie.Need-returns-4
 unfolding seen
@@ -71,11 +49,11 @@ load-spec =
     tie.close
     (tie.spec
     returns
-    gather-requires
-    formed-requires
-    is-file-requires
-    broken-requires
-    is-done-requires
+    (λ c κs. search needs)
+    (λ c κs. search needs)
+    (λ c κs. search needs)
+    (λ c κs. search needs)
+    (λ c κs. search needs)
     returns-2
     returns-3
     returns-4

@@ -1,6 +1,6 @@
+-- A role is added at its place in the table, or the table is left where it has no such place. Assumes nothing.
 use borrow.Author.Needs.{needs}
-use mathlib.Core.List.{List}
-use mathlib.Core.Path.{_≡_, refl, sym, ap, _∙_}
+use mathlib.Core.Path.{sym, ap}
 use Prim.Native.Nat.{ℕ}
 use native.Mathlib.Omega.{arith}
 use lib.ListN.{set, getD}
@@ -9,24 +9,6 @@ use Rattle.roleset.specs.Roles.{with}
 use Rattle.policyread.specs.Steps.{mark}
 use Rattle.policyread.proofs.mark.Statement.{statement}
 use Rattle.policyread.proofs.mark.Tie as tie
-
-mul-with : tie.Need-mul-with
-mul-with c = search needs
-
-slice-read-with : tie.Need-slice-read-with
-slice-read-with c = search needs
-
-with-requires : tie.Need-with-requires
-with-requires c κs = search needs
-
-mul-table : tie.Need-mul-table
-mul-table c = search needs
-
-slice-write-table : tie.Need-slice-write-table
-slice-write-table c = search needs
-
-same-length : tie.Need-same-length
-same-length c = search needs
 
 returns : tie.Need-returns
 unfolding mark
@@ -40,11 +22,11 @@ pub mark-spec : {M : Type 1} → statement M
 mark-spec =
     tie.close
     (tie.spec
-    mul-with
-    slice-read-with
-    with-requires
-    mul-table
-    slice-write-table
-    same-length
+    (λ c. search needs)
+    (λ c. search needs)
+    (λ c κs. search needs)
+    (λ c. search needs)
+    (λ c. search needs)
+    (λ c. search needs)
     returns
     returns-2)

@@ -1,91 +1,30 @@
+-- The sessions that the section names are put at their places. Assumes nothing.
 use borrow.Author.Needs.{needs}
-use mathlib.Core.Bool.{Bool, true, false}
-use mathlib.Core.List.{List}
-use mathlib.Core.Path.{_≡_, refl, sym, ap, ap₂, _∙_}
-use Prim.Native.Nat.{ℕ, _≤_, _<_, _+_, _*_, _-_, _%_}
+use mathlib.Core.Path.{refl}
 use native.Mathlib.Omega.{arith}
-use lib.ListN.{length, set, length-set}
-use lib.Seq.{set-out}
-use Rattle.model.specs.Model.{Session}
-use Rattle.text.specs.Places.{wordAt, readSection}
-use Rattle.policyread.specs.Steps.{readSession, readRoles}
-use Rattle.policyread.proofs.Loops.{Left, left-start, left-step, left-end}
+use Rattle.text.specs.Places.{readSection}
+use Rattle.policyread.specs.Steps.{sessionOf, readSession}
+use Rattle.policyread.proofs.Loops.{Filling, left-start, left-end, filling-put, filling-past, entry-was}
 use Rattle.policyread.proofs.read_sessions.Statement.{statement}
 use Rattle.policyread.proofs.read_sessions.Tie as tie
 
 abbrev Inv-loop : tie.InvT-loop
-Inv-loop bytes at sessions₀ next₀ left₀ sessions next left = (length sessions ≡ 64) × Left (readSession bytes) (readSection bytes 64 (readSession bytes) at sessions₀) 134 64 at left next sessions
+Inv-loop bytes at sessions₀ next₀ left₀ sessions next left = Filling (readSession bytes) (readSection bytes 64 (readSession bytes) at sessions₀) 134 64 at 64 left next sessions
 
 abbrev μ-loop : tie.MeasureT-loop
 μ-loop bytes at sessions₀ next₀ left₀ sessions next left = left
 
--- the entry that was read
-entry : (c : tie.After-read-roles Inv-loop μ-loop) → readSession (c .before .before .before .before .before .before .before .args .bytes .now) (c .before .before .before .before .loop .next, c .before .before .before .before .loop .sessions) ≡ (c .read-roles .result .at, set (c .before .before .before .before .loop .sessions) (c .before .before .word-at .result) (record { live = true; owner = c .before .word-at2 .result % 256; active = c .read-roles .result .roles }))
-unfolding readSession
-entry c =
-    ap (λ (q : ℕ × ℕ). (q .0, set (c .before .before .before .before .loop .sessions) (wordAt (c .before .before .before .before .before .before .before .args .bytes .now) (c .before .before .before .before .loop .next)) (record { live = true; owner = wordAt (c .before .before .before .before .before .before .before .args .bytes .now) (c .before .before .before .before .loop .next + 2) % 256; active = q .1 }))) (sym (c .read-roles .ensures .is))
-    ∙ ap₂ (λ (n x : ℕ). (c .read-roles .result .at, set (c .before .before .before .before .loop .sessions) n (record { live = true; owner = x % 256; active = c .read-roles .result .roles }))) (sym (c .before .before .word-at .ensures)) (sym (c .before .word-at2 .ensures))
-
-add-next : tie.Need-add-next Inv-loop μ-loop
-add-next c = search needs
-
-count-at-requires : tie.Need-count-at-requires Inv-loop μ-loop
-count-at-requires c κs = search needs
-
 loop-holds : tie.Need-loop-holds Inv-loop μ-loop
-loop-holds c = (omega arith, left-start (c .before .before .args .bytes .now) (readSession (c .before .before .args .bytes .now)) 134 64 (c .before .before .args .at) (c .count-at .result) (c .before .before .args .none) (c .count-at .ensures))
-
-word-at-requires : tie.Need-word-at-requires Inv-loop μ-loop
-word-at-requires c κs = search needs
-
-cast-number : tie.Need-cast-number Inv-loop μ-loop
-cast-number c = search needs
-
-add-word-at : tie.Need-add-word-at Inv-loop μ-loop
-add-word-at c = omega (arith, c .before .before .loop .inv .1 .room)
-
-word-at-requires-2 : tie.Need-word-at-requires-2 Inv-loop μ-loop
-word-at-requires-2 c κs = search needs
-
-cast-owner : tie.Need-cast-owner Inv-loop μ-loop
-cast-owner c = search needs
-
-add-read-roles : tie.Need-add-read-roles Inv-loop μ-loop
-add-read-roles c = omega (arith, c .before .before .before .loop .inv .1 .room)
-
-read-roles-requires : tie.Need-read-roles-requires Inv-loop μ-loop
-read-roles-requires c κs = omega (arith, c .before .before .before .loop .inv .1 .room)
-
-sub-left : tie.Need-sub-left Inv-loop μ-loop
-sub-left c = search needs
-
-mul-sessions : tie.Need-mul-sessions Inv-loop μ-loop
-mul-sessions c = search needs
-
-array-set-from-sessions : tie.Need-array-set-from-sessions Inv-loop μ-loop
-array-set-from-sessions c = omega (arith, c .before .before .before .before .before .loop .inv .0)
-
-loop-less : tie.Need-loop-less Inv-loop μ-loop
-loop-less c = search needs
+loop-holds c = record { long = omega arith; rest = left-start _ (c .count-at .ensures) }
 
 loop-again : tie.Need-loop-again Inv-loop μ-loop
-loop-again c = (
-  length-set (c .before .before .before .before .before .loop .sessions) (c .before .before .before .word-at .result) _ ∙ c .before .before .before .before .before .loop .inv .0,
-  left-step (readSession (c .before .before .before .before .before .before .before .before .args .bytes .now)) _ 134 64 (c .before .before .before .before .before .before .before .before .args .at) (c .before .before .before .before .loop-test .taken) (entry (c .before)) (omega (arith, c .before .read-roles .ensures .room)) (c .before .before .before .before .before .loop .inv .1),
-)
-
-loop-less-2 : tie.Need-loop-less-2 Inv-loop μ-loop
-loop-less-2 c = search needs
+loop-again c = filling-put _ _ (c .before .before .before .loop-test .taken) (entry-was sessionOf _ (c .before .before .read-entry .ensures)) (omega (arith, c .before .before .read-entry .ensures .list .room)) refl (c .before .before .before .before .loop .inv)
 
 loop-again-2 : tie.Need-loop-again-2 Inv-loop μ-loop
-loop-again-2 c = (
-  c .before .before .before .before .before .loop .inv .0,
-  left-step (readSession (c .before .before .before .before .before .before .before .before .args .bytes .now)) _ 134 64 (c .before .before .before .before .before .before .before .before .args .at) (c .before .before .before .before .loop-test .taken)
-      (entry (c .before) ∙ ap (λ (l : List Session). (c .before .read-roles .result .at, l)) (set-out (c .before .before .before .before .before .loop .sessions) (c .before .before .before .word-at .result) _ (omega (arith, c .before .before .before .before .before .loop .inv .0)))) (omega (arith, c .before .read-roles .ensures .room)) (c .before .before .before .before .before .loop .inv .1),
-)
+loop-again-2 c = filling-past _ _ (c .before .before .before .loop-test .taken) (entry-was sessionOf _ (c .before .before .read-entry .ensures)) (omega (arith, c .before .before .read-entry .ensures .list .room)) (omega arith) (c .before .before .before .before .loop .inv)
 
 returns : tie.Need-returns Inv-loop μ-loop
-returns c = left-end (readSession (c .before .before .before .before .args .bytes .now)) _ 134 64 (c .before .before .before .before .args .at) (c .loop-test .left) (c .before .loop .inv .1)
+returns c = left-end (c .loop-test .left) (c .before .loop .inv .rest)
 
 pub read-sessions-spec : {M : Type 1} → statement M
 read-sessions-spec =
@@ -93,21 +32,16 @@ read-sessions-spec =
     (tie.spec
     Inv-loop
     μ-loop
-    add-next
-    count-at-requires
+    (λ c. search needs)
+    (λ c κs. search needs)
     loop-holds
-    word-at-requires
-    cast-number
-    add-word-at
-    word-at-requires-2
-    cast-owner
-    add-read-roles
-    read-roles-requires
-    sub-left
-    mul-sessions
-    array-set-from-sessions
-    loop-less
+    (λ c κs. search needs)
+    (λ c. search needs)
+    (λ c. search needs)
+    (λ c. search needs)
+    (λ c. search needs)
+    (λ c. search needs)
     loop-again
-    loop-less-2
+    (λ c. search needs)
     loop-again-2
     returns)

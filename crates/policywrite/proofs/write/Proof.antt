@@ -1,7 +1,7 @@
+-- The eight sections are written one after the other, which is the file. Assumes nothing.
 use borrow.Author.Needs.{needs}
-use mathlib.Core.List.{List, _++_}
-use mathlib.Core.Path.{_≡_, refl, sym, ap, _∙_}
-use Prim.Native.Nat.{ℕ, _≤_, _<_, _+_, _*_, _-_}
+use mathlib.Core.Path.{_≡_, sym, _∙_}
+use Prim.Native.Nat.{_<_, _^_}
 use native.Mathlib.Omega.{arith}
 use lib.ListN.{length, length-map}
 use Rattle.hierarchy.specs.Lines.{tableOf}
@@ -30,29 +30,15 @@ whole c =
     (wrote-more (c .before .before .before .before .before .put-sets2 .ensures .wrote)
     (c .put-sessions .ensures .wrote)))))))
 
-put-users-requires : tie.Need-put-users-requires
-put-users-requires c κs = search needs
-
-put-roles-requires : tie.Need-put-roles-requires
-put-roles-requires c κs = search needs
-
-put-pairs-requires : tie.Need-put-pairs-requires
-put-pairs-requires c κs = search needs
-
-put-pairs-requires-2 : tie.Need-put-pairs-requires-2
-put-pairs-requires-2 c κs = search needs
-
-put-grants-requires : tie.Need-put-grants-requires
-put-grants-requires c κs = search needs
-
-put-sets-requires : tie.Need-put-sets-requires
-put-sets-requires c κs = omega (arith, c .before .before .before .before .before .before .before .before .before .before .before .before .before .before .before .before .before .before .before .before .before .before .before .before .before .before .before .before .before .put-users .ensures .room, c .before .before .before .before .before .before .before .before .before .before .before .before .before .before .before .before .before .before .before .before .before .before .before .before .before .put-roles .ensures .room, c .before .before .before .before .before .before .before .before .before .before .before .before .before .before .before .before .before .before .put-pairs .ensures .room, c .before .before .before .before .before .before .before .before .before .before .before .put-pairs2 .ensures .room, c .before .before .before .before .put-grants .ensures .room)
+-- the first five sections take little room
+near : (c : tie.After-put-grants) → c .put-grants .result < 2 ^ 24
+near c = omega arith
 
 put-sets-requires-2 : tie.Need-put-sets-requires-2
-put-sets-requires-2 c κs = omega (arith, c .before .before .before .before .before .before .before .before .before .before .before .before .before .before .before .before .before .before .before .before .before .before .before .before .before .before .before .before .before .before .before .before .before .before .put-users .ensures .room, c .before .before .before .before .before .before .before .before .before .before .before .before .before .before .before .before .before .before .before .before .before .before .before .before .before .before .before .before .before .before .put-roles .ensures .room, c .before .before .before .before .before .before .before .before .before .before .before .before .before .before .before .before .before .before .before .before .before .before .before .put-pairs .ensures .room, c .before .before .before .before .before .before .before .before .before .before .before .before .before .before .before .before .put-pairs2 .ensures .room, c .before .before .before .before .before .before .before .before .before .put-grants .ensures .room, c .before .before .before .before .put-sets .ensures .room)
+put-sets-requires-2 c κs = omega (arith, near (c .before .before .before .before .before .before .before .before .before), c .before .before .before .before .put-sets .ensures .room)
 
 put-sessions-requires : tie.Need-put-sessions-requires
-put-sessions-requires c κs = omega (arith, c .before .before .before .before .before .before .before .before .before .before .before .before .before .before .before .before .before .before .before .before .before .before .before .before .before .before .before .before .before .before .before .before .before .before .before .before .before .before .before .put-users .ensures .room, c .before .before .before .before .before .before .before .before .before .before .before .before .before .before .before .before .before .before .before .before .before .before .before .before .before .before .before .before .before .before .before .before .before .before .before .put-roles .ensures .room, c .before .before .before .before .before .before .before .before .before .before .before .before .before .before .before .before .before .before .before .before .before .before .before .before .before .before .before .before .put-pairs .ensures .room, c .before .before .before .before .before .before .before .before .before .before .before .before .before .before .before .before .before .before .before .before .before .put-pairs2 .ensures .room, c .before .before .before .before .before .before .before .before .before .before .before .before .before .before .put-grants .ensures .room, c .before .before .before .before .before .before .before .before .before .put-sets .ensures .room, c .before .before .before .before .put-sets2 .ensures .room)
+put-sessions-requires c κs = omega (arith, near (c .before .before .before .before .before .before .before .before .before .before .before .before .before .before), c .before .before .before .before .before .before .before .before .before .put-sets .ensures .room, c .before .before .before .before .put-sets2 .ensures .room)
 
 same-length : tie.Need-same-length
 same-length c = wrote-length (whole (c .before .before))
@@ -64,12 +50,12 @@ pub write-spec : {M : Type 1} → statement M
 write-spec =
     tie.close
     (tie.spec
-    put-users-requires
-    put-roles-requires
-    put-pairs-requires
-    put-pairs-requires-2
-    put-grants-requires
-    put-sets-requires
+    (λ c κs. search needs)
+    (λ c κs. search needs)
+    (λ c κs. search needs)
+    (λ c κs. search needs)
+    (λ c κs. search needs)
+    (λ c κs. search needs)
     put-sets-requires-2
     put-sessions-requires
     same-length
