@@ -11,9 +11,12 @@ use Rattle.policy.specs.View.{view, seen}
 use Rattle.policy.specs.declared.Outcome.{Outcome}
 use Rattle.policy.specs.declared.State.{State}
 use Rattle.sessions.specs.Answering.{toldOpened}
+use Rattle.lines.specs.Parts.{partAt}
+use Rattle.script.specs.Script.{lineFeed}
+use Rattle.scripts.proofs.Lines.{lines}
 use Rattle.demands.specs.Reachable.{Reachable, start, after, loaded}
 use Rattle.demands.proofs.Demand3.{demand3}
-use Rattle.unique.specs.Handed.{Handed, Owned, empty, user, role, nouser, norole, assign, deassign, grant, revoke, inherit, disinherit, make-set, drop-set, add-member, drop-member, set-cardinality, session, activate, drop, end, step, load}
+use Rattle.unique.specs.Handed.{Handed, Owned, empty, user, role, nouser, norole, assign, deassign, grant, revoke, inherit, disinherit, make-set, drop-set, add-member, drop-member, set-cardinality, session, activate, drop, end, step, answer-line, turn, load}
 
 -- an outcome that tells what the command tells holds a reachable policy
 told : (m : Model) → Reachable m → (c : Command) (list : List ℕ) (o : Outcome) → seen o ≡ steps.step m c list → Reachable (view (o .state))
@@ -43,6 +46,8 @@ reachable (activate c h) = told _ (reachable h) (Activate (c .given .1 .0) (c .g
 reachable (drop c h) = told _ (reachable h) (DropActive (c .given .1 .0) (c .given .1 .1 .0) (c .given .1 .1 .1 .0)) [] (c .result) (c .met)
 reachable (end c h) = told _ (reachable h) (EndSession (c .given .1 .0) (c .given .1 .1 .0)) [] (c .result) (c .met)
 reachable (step c h) = subst Reachable (sym (c .met .after)) (after (reachable h) (c .given .1 .0) (c .given .1 .1 .0 .now))
+reachable (answer-line c h) = subst Reachable (sym (c .met .state)) (lines .reachable _ (c .given .1 .0 .now) (reachable h))
+reachable (turn c h) = subst Reachable (sym (c .met .state)) (lines .reachable _ (partAt lineFeed (c .given .0 .now) (c .given .1 .0 .at)) (reachable h))
 reachable (load c h) = loaded (reachable h) (c .given .1 .0 .now) (seen (c .result)) (c .met)
 
 -- the code's own states keep demand 3

@@ -17,6 +17,7 @@ use Rattle.sets.proofs as sets
 use Rattle.sessions.proofs as sessions
 use Rattle.engine.proofs as engine
 use Rattle.policyfile.proofs as policyfile
+use Rattle.script.proofs as script
 
 -- a call: what a function was given, what it handed back, and that its contract holds of these. (Every call of a proved function is one.)
 pub record Call {n : ℕ} (ps : List (PK n)) (r : RK n) (Post : Out n ps r) : Type 0 where
@@ -26,8 +27,8 @@ pub record Call {n : ℕ} (ps : List (PK n)) (r : RK n) (Post : Out n ps r) : Ty
   pub exits : AtExit (endedOf n ps r) lifetimes
   pub met : Post lifetimes given result exits
 
--- the state is the empty one, or what a command (by its own function, or by `step`) or a load of any bytes handed back from such a state, done or
--- refused
+-- the state is the empty one, or what a command (by its own function, or by `step`), a line of a script or a load of any bytes handed back from such a
+-- state, done or refused
 pub data Handed : State → Type 0 where
   empty : (c : Call policy.empty.Kinds.ps policy.empty.Kinds.r policy.empty.Reads.Post) → Handed (c .result)
   user : (c : Call users.user.Kinds.ps users.user.Kinds.r users.user.Reads.Post) → Handed (c .given .0) → Handed (c .result .state)
@@ -50,6 +51,8 @@ pub data Handed : State → Type 0 where
   drop : (c : Call sessions.drop.Kinds.ps sessions.drop.Kinds.r sessions.drop.Reads.Post) → Handed (c .given .0) → Handed (c .result .state)
   end : (c : Call sessions.end.Kinds.ps sessions.end.Kinds.r sessions.end.Reads.Post) → Handed (c .given .0) → Handed (c .result .state)
   step : (c : Call engine.step.Kinds.ps engine.step.Kinds.r engine.step.Reads.Post) → Handed (c .given .0) → Handed (c .result .state)
+  answer-line : (c : Call script.answer_line.Kinds.ps script.answer_line.Kinds.r script.answer_line.Reads.Post) → Handed (c .given .0) → Handed (c .result .state)
+  turn : (c : Call script.turn.Kinds.ps script.turn.Kinds.r script.turn.Reads.Post) → Handed (c .given .1 .0 .state) → Handed (c .result .next .state)
   load : (c : Call policyfile.load.Kinds.ps policyfile.load.Kinds.r policyfile.load.Reads.Post) → Handed (c .given .0) → Handed (c .result .state)
 
 -- What such a state holds can be reached from the empty policy by the commands of the paper and by loads, and so demands 2 and 3 are about it.
