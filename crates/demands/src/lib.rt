@@ -1,1 +1,1 @@
-// The demands, the bench sheet and the uniqueness of every promise: statements in specs/, their proofs in proofs/. No code.
+// The demands, the policy file's promise and the bench sheet: statements in specs/, their proofs in proofs/. No code.
