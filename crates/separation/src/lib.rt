@@ -47,16 +47,19 @@ pub fn some_breaks(set: RoleSet, table: &[u64]) -> bool
     false
 }
 
-// Does some entry of the table break some of the sets?
+// Does some entry of the table break some of the sets? Set by set, so that no set is handed on for each entry.
 pub fn some_breaks_some(sets: [RoleSet; 16], table: &[u64]) -> bool
     ensures { λ b. ⌜ b ≡ some (length (now (table .entry))) (λ k. breaksSome (setsIn sets) (tableOf (now (table .entry)) k)) ⌝ }
 {
-    let mut k: usize = 0;
-    while k < table.len() {
-        if breaks_some(sets, table[k]) {
-            return true;
+    let mut name: usize = 0;
+    while name < 16 {
+        let set = sets[name];
+        if set.there {
+            if some_breaks(set, table) {
+                return true;
+            }
         }
-        k += 1;
+        name += 1;
     }
     false
 }
