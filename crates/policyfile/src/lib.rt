@@ -17,19 +17,23 @@ pub struct Saved {
     pub length: usize,
 }
 
-// Saves the state. Writing to a buffer of one byte tells the length, so that a buffer that is too short is not touched.
+// Saves the state: it is written into a buffer of our own, since one that is too short is not touched. A policy of ours fits there.
 pub fn save(s: State, out: &mut [u8]) -> Saved
     ensures { λ x. ⌜ Saves (view s) (now (out .entry)) (now (out .exit)) (numberOf (x .answer)) (x .length) ⌝ }
 {
-    let mut small = [0u8; 1];
-    let length = policywrite::write(s, &mut small);
+    let mut file = [0u8; 36048];
+    let length = policywrite::write(s, &mut file);
     if out.len() < length {
         return Saved {
             answer: Answer::BufferShort,
             length: 0,
         };
     }
-    policywrite::write(s, out);
+    if length <= 36048 {
+        decimal::put_text(out, 0, &file[..length]);
+    } else {
+        policywrite::write(s, out);
+    }
     Saved {
         answer: Answer::Done,
         length,
