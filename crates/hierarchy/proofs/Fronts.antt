@@ -59,10 +59,36 @@ module _ (lines : ℕ → ℕ) where
 pub not-zero : (s : ℕ) → s < 2 ^ 64 → (s ≡ 0 → ⊥) → isEmpty s ≡ false
 not-zero s l n = never (isEmpty s) (λ e. n (isEmpty-zero s l e))
 
--- a front that is not empty, joined to the walk from its juniors with one role fewer allowed
-pub walk-step : (lines : ℕ → ℕ) (allowed front next roles : ℕ) (below : Walk) → (allowed ≡ 0 → ⊥) → isEmpty front ≡ false → next ≡ juniorsOf lines front → below ≡ walk lines (allowed - 1) next → roles ≡ union front (below .roles) → record { roles = roles; cut = below .cut } ≡ walk lines allowed front
+-- no roles joined to what is met change nothing
+pub union-none : (met : ℕ) → met < 2 ^ 64 → union met 0 ≡ met
+union-none met l = ext (union met 0) met (union-small met 0) l (λ k lk. rw (has-union met 0 k lk, has-none k) (or-false (has met k)))
+
+union-assoc : (a b c : ℕ) → union (union a b) c ≡ union a (union b c)
+union-assoc a b c = ext (union (union a b) c) (union a (union b c)) (union-small (union a b) c) (union-small a (union b c)) (λ k lk. rw (has-union (union a b) c k lk, has-union a b k lk, has-union a (union b c) k lk, has-union b c k lk) (or-assoc (has a k) (has b k) (has c k)))
+
+-- a front that is not empty joins what is met, and then the walk from its juniors with one role fewer allowed
+pub walk-step : (lines : ℕ → ℕ) (allowed front next met more last : ℕ) (cut : Bool) → (allowed ≡ 0 → ⊥) → isEmpty front ≡ false → next ≡ juniorsOf lines front → more ≡ union met front → (last ≡ union more (walk lines (allowed - 1) next .roles)) × (cut ≡ walk lines (allowed - 1) next .cut) → (last ≡ union met (walk lines allowed front .roles)) × (cut ≡ walk lines allowed front .cut)
 unfolding joined
-walk-step lines zero front next roles below n e p q r = absurd (n refl)
-walk-step lines (suc m) front next roles below n e p q r =
-    let same : suc m - 1 ≡ m = omega arith in
-    rw (r, q, p, same) (sym (walk-on lines m front e))
+walk-step lines zero front next met more last cut n e p s q = absurd (n refl)
+walk-step lines (suc m) front next met more last cut n e p s q =
+    let same : suc m - 1 ≡ m = omega arith in (
+      q .0 ∙ rw (s, p, same, walk-on lines m front e) (union-assoc met front (walk lines m (juniorsOf lines front) .roles)),
+      q .1 ∙ rw (p, same, walk-on lines m front e),
+    )
+
+-- a walk's roles are a set, so that joined to no roles they stay the same
+walk-small : (lines : ℕ → ℕ) (n front : ℕ) → walk lines n front .roles < 2 ^ 64
+unfolding walk joined
+walk-small lines zero front = omega arith
+walk-small lines (suc n) front = go (isEmpty front) refl
+  where
+    go : (b : Bool) → isEmpty front ≡ b → walk lines (suc n) front .roles < 2 ^ 64
+    go true e = rw (e, walk) (omega arith)
+    go false e = rw (e, walk) (union-small front (walk lines n (juniorsOf lines front) .roles))
+
+walk-begin : (lines : ℕ → ℕ) (n front : ℕ) → union 0 (walk lines n front .roles) ≡ walk lines n front .roles
+walk-begin lines n front = ext (union 0 (walk lines n front .roles)) (walk lines n front .roles) (union-small 0 (walk lines n front .roles)) (walk-small lines n front) (λ k lk. rw (has-union 0 (walk lines n front .roles) k lk, has-none k))
+
+-- what a walk from a front adds to no roles is the walk
+pub walk-begun : (lines : ℕ → ℕ) (n front last : ℕ) (cut : Bool) → (last ≡ union 0 (walk lines n front .roles)) × (cut ≡ walk lines n front .cut) → record { roles = last; cut = cut } ≡ walk lines n front
+walk-begun lines n front last cut q = rw (q .0 ∙ walk-begin lines n front, q .1)

@@ -2,6 +2,7 @@
 ghost use mathlib.Core.Path.{_≡_};
 ghost use Prim.Native.Nat.{ℕ, _<_};
 ghost use lib.ListN.{length};
+ghost use Rattle.roleset.specs.Roles.{union};
 ghost use Rattle.hierarchy.specs.Lines.{tableOf};
 ghost use Rattle.hierarchy.specs.Walks.{juniorsOf, walk, reach, turned, atOrAbove, circular};
 ghost use Rattle.hierarchy.specs.Marks.{Marked};
@@ -26,36 +27,29 @@ fn juniors_of(juniors: &[u64; 64], front: u64) -> u64
     met
 }
 
-// The roles of the front and all that they inherit, in chains of at most `allowed` roles; cut off where a longer chain is met.
-fn walk_from(juniors: &[u64; 64], front: u64, allowed: u16) -> Walk
-    ensures { λ w. ⌜ w ≡ walk (tableOf (now (juniors .entry))) allowed front ⌝ }
+// Adds to `met` the roles of the front and all that they inherit, in chains of at most `allowed` roles; was it cut off where a longer chain is met? The roles met are lent, so that the call is the last step and the walk needs no stack.
+fn walk_from(juniors: &[u64; 64], front: u64, allowed: u16, met: &mut u64) -> bool
+    ensures { λ cut. ⌜ (now (met .exit) ≡ union (now (met .entry)) (walk (tableOf (now (juniors .entry))) allowed front .roles)) × (cut ≡ walk (tableOf (now (juniors .entry))) allowed front .cut) ⌝ }
 {
+    let so_far = *met;
     if front == 0 {
-        return Walk {
-            roles: 0,
-            cut: false,
-        };
+        return false;
     }
     if allowed == 0 {
-        return Walk {
-            roles: 0,
-            cut: true,
-        };
+        return true;
     }
     let next = juniors_of(juniors, front);
-    let below = walk_from(juniors, next, allowed - 1);
-    let roles = roleset::union(front, below.roles);
-    Walk {
-        roles,
-        cut: below.cut,
-    }
+    *met = roleset::union(so_far, front);
+    walk_from(juniors, next, allowed - 1, met)
 }
 
 // The roles of a set and all that they inherit; cut off where a chain of more than 64 roles starts there.
 pub fn reach(juniors: &[u64; 64], from: u64) -> Walk
     ensures { λ w. ⌜ w ≡ reach (tableOf (now (juniors .entry))) from ⌝ }
 {
-    walk_from(juniors, from, 64)
+    let mut met = 0u64;
+    let cut = walk_from(juniors, from, 64, &mut met);
+    Walk { roles: met, cut }
 }
 
 // Does some role inherit itself? One walk from all 64 roles tells.

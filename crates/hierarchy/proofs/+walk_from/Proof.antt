@@ -1,11 +1,11 @@
 -- The proof of the cycle of calls {walk_from}. The measure is the count of roles still allowed in the chain, which falls at each call. Assumes nothing.
-use mathlib.Core.Path.{sym}
 use Prim.Native.Nat.{ℕ, _<_}
+use mathlib.Core.Path.{sym}
 use native.Mathlib.Omega.{arith}
 use Rattle.roleset.proofs.Laws.{isEmpty-none}
 use Rattle.hierarchy.specs.Lines.{tableOf}
 use Rattle.hierarchy.proofs.WalkLaws.{walk-empty, walk-stopped}
-use Rattle.hierarchy.proofs.Fronts.{not-zero, walk-step}
+use Rattle.hierarchy.proofs.Fronts.{not-zero, union-none, walk-step}
 use borrow.Fn.Kinds.{In}
 use borrow.Fn.PlainCycle.{Measures, is, falls, and}
 use Rattle.hierarchy.proofs.walk_from.Reads as walk-from
@@ -16,49 +16,109 @@ use Rattle.roleset.proofs.union.Reads as union-reads
 use Rattle.hierarchy.proofs.+walk_from.{statement}
 use Rattle.hierarchy.proofs.+walk_from.Tie.{close}
 
-abbrev μ-walk-from : Measures 1 walk-from-kinds.ps ℕ
+abbrev μ-walk-from : Measures 2 walk-from-kinds.ps ℕ
 μ-walk-from κs a = a .1 .1 .0
 
-abbrev walk-from-at : ℕ → In 1 walk-from-kinds.ps
-walk-from-at t = and 1 walk-from-kinds.ps (is 1 walk-from-kinds.ps μ-walk-from t) walk-from.Pre
+abbrev walk-from-at : ℕ → In 2 walk-from-kinds.ps
+walk-from-at t = and 2 walk-from-kinds.ps (is 2 walk-from-kinds.ps μ-walk-from t) walk-from.Pre
 
-abbrev walk-from-below : ℕ → In 1 walk-from-kinds.ps
+abbrev walk-from-below : ℕ → In 2 walk-from-kinds.ps
 walk-from-below t =
-    and 1 walk-from-kinds.ps (falls 1 walk-from-kinds.ps _<_ μ-walk-from t) walk-from.Pre
+    and 2 walk-from-kinds.ps (falls 2 walk-from-kinds.ps _<_ μ-walk-from t) walk-from.Pre
 
-walk-from-returns : (t : ℕ) → walk-from-lts.Need-returns (juniors-of-reads.Asked, juniors-of-reads.Learnt, walk-from-below t, walk-from.Post, union-reads.Asked, union-reads.Learnt) (walk-from-at t) walk-from.Post
+walk-from-returns : (t : ℕ) → walk-from-lts.Need-returns (
+  juniors-of-reads.Asked,
+  juniors-of-reads.Learnt,
+  union-reads.Asked,
+  union-reads.Learnt,
+  walk-from-below t,
+  walk-from.Post,
+) (walk-from-at t) walk-from.Post
 walk-from-returns t c =
-    sym (walk-empty (tableOf (c .before .args .juniors .now)) (c .before .args .allowed) (c .before .args .front) (rw (c .if1 .taken) isEmpty-none))
+    let start = c .before .before in
+    let e = walk-empty (tableOf (start .args .juniors .now)) (start .args .allowed) (start .args .front) (rw (c .if1 .taken) isEmpty-none) in
+    (rw e (sym (union-none (start .args .met .now) (c .before .row-known .given .fits))), rw e)
 
-walk-from-returns-2 : (t : ℕ) → walk-from-lts.Need-returns-2 (juniors-of-reads.Asked, juniors-of-reads.Learnt, walk-from-below t, walk-from.Post, union-reads.Asked, union-reads.Learnt) (walk-from-at t) walk-from.Post
+walk-from-returns-2 : (t : ℕ) → walk-from-lts.Need-returns-2 (
+  juniors-of-reads.Asked,
+  juniors-of-reads.Learnt,
+  union-reads.Asked,
+  union-reads.Learnt,
+  walk-from-below t,
+  walk-from.Post,
+) (walk-from-at t) walk-from.Post
 walk-from-returns-2 t c =
-    rw (c .if2 .taken) (sym (walk-stopped (tableOf (c .before .before .args .juniors .now)) (c .before .before .args .front) (not-zero (c .before .before .args .front) (c .before .before .fits .front .fits) (c .before .if1 .left))))
+    let start = c .before .before .before in
+    let e = walk-stopped (tableOf (start .args .juniors .now)) (start .args .front) (not-zero (start .args .front) (start .fits .front .fits) (c .before .if1 .left)) in
+    (rw (c .if2 .taken, e) (sym (union-none (start .args .met .now) (c .before .before .row-known .given .fits))), rw (c .if2 .taken, e))
 
-walk-from-juniors-of-requires : (t : ℕ) → walk-from-lts.Need-juniors-of-requires (juniors-of-reads.Asked, juniors-of-reads.Learnt, walk-from-below t, walk-from.Post, union-reads.Asked, union-reads.Learnt) (walk-from-at t) walk-from.Post
+walk-from-juniors-of-requires : (t : ℕ) → walk-from-lts.Need-juniors-of-requires (
+  juniors-of-reads.Asked,
+  juniors-of-reads.Learnt,
+  union-reads.Asked,
+  union-reads.Learnt,
+  walk-from-below t,
+  walk-from.Post,
+) (walk-from-at t) walk-from.Post
 walk-from-juniors-of-requires t c κs = tt
 
-walk-from-sub-walk-from : (t : ℕ) → walk-from-lts.Need-sub-walk-from (juniors-of-reads.Asked, juniors-of-reads.Learnt, walk-from-below t, walk-from.Post, union-reads.Asked, union-reads.Learnt) (walk-from-at t) walk-from.Post
-walk-from-sub-walk-from t c = omega arith
-
-walk-from-walk-from-requires : (t : ℕ) → walk-from-lts.Need-walk-from-requires (juniors-of-reads.Asked, juniors-of-reads.Learnt, walk-from-below t, walk-from.Post, union-reads.Asked, union-reads.Learnt) (walk-from-at t) walk-from.Post
-walk-from-walk-from-requires t c κs = (omega (arith, c .before .if2 .left, c .before .before .before .pre .0), tt)
-
-walk-from-union-requires : (t : ℕ) → walk-from-lts.Need-union-requires (juniors-of-reads.Asked, juniors-of-reads.Learnt, walk-from-below t, walk-from.Post, union-reads.Asked, union-reads.Learnt) (walk-from-at t) walk-from.Post
+walk-from-union-requires : (t : ℕ) → walk-from-lts.Need-union-requires (
+  juniors-of-reads.Asked,
+  juniors-of-reads.Learnt,
+  union-reads.Asked,
+  union-reads.Learnt,
+  walk-from-below t,
+  walk-from.Post,
+) (walk-from-at t) walk-from.Post
 walk-from-union-requires t c κs = tt
 
-walk-from-returns-3 : (t : ℕ) → walk-from-lts.Need-returns-3 (juniors-of-reads.Asked, juniors-of-reads.Learnt, walk-from-below t, walk-from.Post, union-reads.Asked, union-reads.Learnt) (walk-from-at t) walk-from.Post
+walk-from-sub-walk-from : (t : ℕ) → walk-from-lts.Need-sub-walk-from (
+  juniors-of-reads.Asked,
+  juniors-of-reads.Learnt,
+  union-reads.Asked,
+  union-reads.Learnt,
+  walk-from-below t,
+  walk-from.Post,
+) (walk-from-at t) walk-from.Post
+walk-from-sub-walk-from t c = omega arith
+
+walk-from-walk-from-requires : (t : ℕ) → walk-from-lts.Need-walk-from-requires (
+  juniors-of-reads.Asked,
+  juniors-of-reads.Learnt,
+  union-reads.Asked,
+  union-reads.Learnt,
+  walk-from-below t,
+  walk-from.Post,
+) (walk-from-at t) walk-from.Post
+walk-from-walk-from-requires t c κs = (omega (arith, c .before .before .before .if2 .left, c .before .before .before .before .before .before .pre .0), tt)
+
+walk-from-returns-3 : (t : ℕ) → walk-from-lts.Need-returns-3 (
+  juniors-of-reads.Asked,
+  juniors-of-reads.Learnt,
+  union-reads.Asked,
+  union-reads.Learnt,
+  walk-from-below t,
+  walk-from.Post,
+) (walk-from-at t) walk-from.Post
 walk-from-returns-3 t c =
-    let start = c .before .before .before .before .before in
-    walk-step (tableOf (start .args .juniors .now)) (start .args .allowed) (start .args .front) (c .before .before .juniors-of .result) (c .union .result) (c .before .walk-from .result) (c .before .before .before .if2 .left) (not-zero (start .args .front) (start .fits .front .fits) (c .before .before .before .before .if1 .left)) (c .before .before .juniors-of .ensures) (c .before .walk-from .ensures) (c .union .ensures .is)
+    let start = c .before .before .before .before .before .before .before in
+    walk-step (tableOf (start .args .juniors .now)) (start .args .allowed) (start .args .front) (c .before .before .before .juniors-of .result) (start .args .met .now) (c .before .before .union .result) (c .walk-from .last .1 .1 .1 .0) (c .walk-from .result) (c .before .before .before .before .if2 .left) (not-zero (start .args .front) (start .fits .front .fits) (c .before .before .before .before .before .if1 .left)) (c .before .before .before .juniors-of .ensures) (c .before .before .union .ensures .is) (c .walk-from .ensures)
 
 pub +walk-from-spec : {M : Type 1} → statement M
-+walk-from-spec = close μ-walk-from λ t. walk-from-lts.spec (juniors-of-reads.Asked, juniors-of-reads.Learnt, walk-from-below t, walk-from.Post, union-reads.Asked, union-reads.Learnt)
++walk-from-spec = close μ-walk-from λ t. walk-from-lts.spec (
+  juniors-of-reads.Asked,
+  juniors-of-reads.Learnt,
+  union-reads.Asked,
+  union-reads.Learnt,
+  walk-from-below t,
+  walk-from.Post,
+)
     (walk-from-at t)
     walk-from.Post
     (walk-from-returns t)
     (walk-from-returns-2 t)
     (walk-from-juniors-of-requires t)
+    (walk-from-union-requires t)
     (walk-from-sub-walk-from t)
     (walk-from-walk-from-requires t)
-    (walk-from-union-requires t)
     (walk-from-returns-3 t)
