@@ -9,8 +9,9 @@ exceptions=' lines.next lines.bump '
 missing=0
 count=0
 for source in crates/*/src/*.rt; do
-    case $source in */main.rt) continue ;; esac
     crate=$(basename "$(dirname "$(dirname "$source")")")
+    # a program has no public function
+    [ -f "crates/$crate/src/lib.rt" ] || continue
     module=$(basename "$source" .rt)
     case $module in
     lib) place=$crate ;;
