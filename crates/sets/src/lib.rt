@@ -127,7 +127,7 @@ fn place(s: State, kind: Kind, name: SetName, set: RoleSet) -> Outcome
     }
 }
 
-// A new set of roles with a cardinality; 14, 1, 2, 4, 7, 10 or 11.
+// A new set of roles with a cardinality; 14, 1, 2, 4, 7, 10 or 11, 13.
 pub fn make_set(s: State, kind: Kind, name: SetName, n: u16, list: &[u16]) -> Outcome
     ensures { λ o. ⌜ seen o ≡ makeSet kind (view s) (name .number) n (now (list .entry)) ⌝ }
 {
@@ -183,7 +183,7 @@ pub fn drop_set(s: State, kind: Kind, name: SetName) -> Outcome
     }
 }
 
-// The role becomes a member of the set; 1, 2, 4, 10 or 11.
+// The role becomes a member of the set; 1, 2, 4, 10 or 11, 13.
 pub fn add_member(s: State, kind: Kind, name: SetName, r: Role) -> Outcome
     ensures { λ o. ⌜ seen o ≡ addMember kind (view s) (name .number) (r .number) ⌝ }
 {
@@ -240,7 +240,7 @@ pub fn drop_member(s: State, kind: Kind, name: SetName, r: Role) -> Outcome
     }
 }
 
-// The set takes another cardinality; 1, 2, 7, 10 or 11.
+// The set takes another cardinality; 1, 2, 7, 10 or 11, 13.
 pub fn set_cardinality(s: State, kind: Kind, name: SetName, n: u16) -> Outcome
     ensures { λ o. ⌜ seen o ≡ setCardinality kind (view s) (name .number) n ⌝ }
 {
