@@ -12,7 +12,7 @@ use policy::naming::has_user;
 use policy::naming::permission_beyond;
 use policy::refused;
 
-// The role is assigned to the user; 1, 2, 4, 10, 12.
+// The role is assigned to the user; 1, 2, 4, 10, 12, 13.
 pub fn assign(s: State, u: User, r: Role) -> Outcome
     ensures { λ o. ⌜ seen o ≡ assign (view s) (u .number) (r .number) ⌝ }
 {
@@ -48,7 +48,7 @@ pub fn assign(s: State, u: User, r: Role) -> Outcome
     }
 }
 
-// The assignment goes; then the sessions shed; 1, 2, 5.
+// The assignment goes; then the sessions shed; 1, 2, 5, 13.
 pub fn deassign(s: State, u: User, r: Role) -> Outcome
     ensures { λ o. ⌜ seen o ≡ deassign (view s) (u .number) (r .number) ⌝ }
 {

@@ -9,7 +9,7 @@ use policy::State;
 use policy::naming::either;
 use policy::refused;
 
-// The line from senior to junior stands from now on; 1, 2, 4, 6, 10, 12.
+// The line from senior to junior stands from now on; 1, 2, 4, 6, 10, 12, 13.
 pub fn inherit(s: State, senior: Role, junior: Role) -> Outcome
     ensures { λ o. ⌜ seen o ≡ inherit (view s) (senior .number) (junior .number) ⌝ }
 {
@@ -52,7 +52,7 @@ pub fn inherit(s: State, senior: Role, junior: Role) -> Outcome
     }
 }
 
-// The line from senior to junior goes; then the sessions shed; 1, 2, 5.
+// The line from senior to junior goes; then the sessions shed; 1, 2, 5, 13.
 pub fn disinherit(s: State, senior: Role, junior: Role) -> Outcome
     ensures { λ o. ⌜ seen o ≡ disinherit (view s) (senior .number) (junior .number) ⌝ }
 {

@@ -8,6 +8,7 @@ pub struct Listed {
     pub roles: u64,
 }
 
+// Reads the list once, from its start.
 pub fn read(list: &[u16]) -> Listed
     ensures { λ x. ⌜ Reads (now (list .entry)) x ⌝ }
 {

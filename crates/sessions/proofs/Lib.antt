@@ -1,2 +1,3 @@
+mod Named
 mod Rules
 pub mod Values

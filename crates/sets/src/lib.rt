@@ -15,6 +15,7 @@ use numbers::SetName;
 use policy::Outcome;
 use policy::State;
 use policy::naming::either;
+use policy::refused;
 
 // The set by this name. One beyond its range is not there.
 fn set_in(sets: [RoleSet; 16], name: SetName) -> RoleSet
@@ -114,16 +115,10 @@ fn place(s: State, kind: Kind, name: SetName, set: RoleSet) -> Outcome
     let rule = ask_rule(s, kind, set);
     if rule.broken {
         let refusal = rule_answer(kind);
-        return Outcome {
-            answer: refusal,
-            state: s,
-        };
+        return refused(refusal, s);
     }
     if rule.cut {
-        return Outcome {
-            answer: Answer::ChainTooLong,
-            state: s,
-        };
+        return refused(Answer::ChainTooLong, s);
     }
     let after = store(s, kind, name, set);
     Outcome {
@@ -132,43 +127,28 @@ fn place(s: State, kind: Kind, name: SetName, set: RoleSet) -> Outcome
     }
 }
 
-// A new set of roles with a cardinality; 14, 1, 2, 4, 7, 10 or 11.
+// A new set of roles with a cardinality; 14, 1, 2, 4, 7, 10 or 11, 13.
 pub fn make_set(s: State, kind: Kind, name: SetName, n: u16, list: &[u16]) -> Outcome
     ensures { λ o. ⌜ seen o ≡ makeSet kind (view s) (name .number) n (now (list .entry)) ⌝ }
 {
     let read = lists::read(list);
     if !read.ascending {
-        return Outcome {
-            answer: Answer::NotOfForm,
-            state: s,
-        };
+        return refused(Answer::NotOfForm, s);
     }
     if either(numbers::set_beyond(name), read.beyond) {
-        return Outcome {
-            answer: Answer::BeyondRange,
-            state: s,
-        };
+        return refused(Answer::BeyondRange, s);
     }
     if !roleset::subset(read.roles, s.roles) {
-        return Outcome {
-            answer: Answer::Missing,
-            state: s,
-        };
+        return refused(Answer::Missing, s);
     }
     let ssd = s.ssd;
     let dsd = s.dsd;
     let old = set_at(ssd, dsd, kind, name);
     if old.there {
-        return Outcome {
-            answer: Answer::AlreadyThere,
-            state: s,
-        };
+        return refused(Answer::AlreadyThere, s);
     }
     if bad_cardinality(n, read.roles) {
-        return Outcome {
-            answer: Answer::BadCardinality,
-            state: s,
-        };
+        return refused(Answer::BadCardinality, s);
     }
     let new = RoleSet {
         there: true,
@@ -183,19 +163,13 @@ pub fn drop_set(s: State, kind: Kind, name: SetName) -> Outcome
     ensures { λ o. ⌜ seen o ≡ dropSet kind (view s) (name .number) ⌝ }
 {
     if numbers::set_beyond(name) {
-        return Outcome {
-            answer: Answer::BeyondRange,
-            state: s,
-        };
+        return refused(Answer::BeyondRange, s);
     }
     let ssd = s.ssd;
     let dsd = s.dsd;
     let old = set_at(ssd, dsd, kind, name);
     if !old.there {
-        return Outcome {
-            answer: Answer::Missing,
-            state: s,
-        };
+        return refused(Answer::Missing, s);
     }
     let none = RoleSet {
         there: false,
@@ -209,30 +183,21 @@ pub fn drop_set(s: State, kind: Kind, name: SetName) -> Outcome
     }
 }
 
-// The role becomes a member of the set; 1, 2, 4, 10 or 11.
+// The role becomes a member of the set; 1, 2, 4, 10 or 11, 13.
 pub fn add_member(s: State, kind: Kind, name: SetName, r: Role) -> Outcome
     ensures { λ o. ⌜ seen o ≡ addMember kind (view s) (name .number) (r .number) ⌝ }
 {
     if either(numbers::set_beyond(name), numbers::role_beyond(r)) {
-        return Outcome {
-            answer: Answer::BeyondRange,
-            state: s,
-        };
+        return refused(Answer::BeyondRange, s);
     }
     let ssd = s.ssd;
     let dsd = s.dsd;
     let old = set_at(ssd, dsd, kind, name);
     if either(!old.there, !roleset::has(s.roles, r.number)) {
-        return Outcome {
-            answer: Answer::Missing,
-            state: s,
-        };
+        return refused(Answer::Missing, s);
     }
     if roleset::has(old.roles, r.number) {
-        return Outcome {
-            answer: Answer::AlreadyThere,
-            state: s,
-        };
+        return refused(Answer::AlreadyThere, s);
     }
     let more = roleset::with(old.roles, r.number);
     let new = RoleSet {
@@ -248,32 +213,20 @@ pub fn drop_member(s: State, kind: Kind, name: SetName, r: Role) -> Outcome
     ensures { λ o. ⌜ seen o ≡ dropMember kind (view s) (name .number) (r .number) ⌝ }
 {
     if either(numbers::set_beyond(name), numbers::role_beyond(r)) {
-        return Outcome {
-            answer: Answer::BeyondRange,
-            state: s,
-        };
+        return refused(Answer::BeyondRange, s);
     }
     let ssd = s.ssd;
     let dsd = s.dsd;
     let old = set_at(ssd, dsd, kind, name);
     if either(!old.there, !roleset::has(s.roles, r.number)) {
-        return Outcome {
-            answer: Answer::Missing,
-            state: s,
-        };
+        return refused(Answer::Missing, s);
     }
     if !roleset::has(old.roles, r.number) {
-        return Outcome {
-            answer: Answer::NotThere,
-            state: s,
-        };
+        return refused(Answer::NotThere, s);
     }
     let rest = roleset::without(old.roles, r.number);
     if bad_cardinality(old.card, rest) {
-        return Outcome {
-            answer: Answer::BadCardinality,
-            state: s,
-        };
+        return refused(Answer::BadCardinality, s);
     }
     let new = RoleSet {
         there: true,
@@ -287,30 +240,21 @@ pub fn drop_member(s: State, kind: Kind, name: SetName, r: Role) -> Outcome
     }
 }
 
-// The set takes another cardinality; 1, 2, 7, 10 or 11.
+// The set takes another cardinality; 1, 2, 7, 10 or 11, 13.
 pub fn set_cardinality(s: State, kind: Kind, name: SetName, n: u16) -> Outcome
     ensures { λ o. ⌜ seen o ≡ setCardinality kind (view s) (name .number) n ⌝ }
 {
     if numbers::set_beyond(name) {
-        return Outcome {
-            answer: Answer::BeyondRange,
-            state: s,
-        };
+        return refused(Answer::BeyondRange, s);
     }
     let ssd = s.ssd;
     let dsd = s.dsd;
     let old = set_at(ssd, dsd, kind, name);
     if !old.there {
-        return Outcome {
-            answer: Answer::Missing,
-            state: s,
-        };
+        return refused(Answer::Missing, s);
     }
     if bad_cardinality(n, old.roles) {
-        return Outcome {
-            answer: Answer::BadCardinality,
-            state: s,
-        };
+        return refused(Answer::BadCardinality, s);
     }
     let new = RoleSet {
         there: true,

@@ -22,6 +22,7 @@ pub struct Kept {
     pub cut: bool,
 }
 
+// A walk from every user's assigned roles.
 pub fn authorised_all<'a>(juniors: &'a [u64; 64], assigned: &'a [u64; 256]) -> Authorised
     ensures { λ all. ⌜ AuthorisesAll (tableOf (now (juniors .entry))) (tableOf (now (assigned .entry))) all ⌝ }
 {

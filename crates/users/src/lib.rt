@@ -87,7 +87,7 @@ fn in_set(sets: [RoleSet; 16], r: Role) -> bool
     false
 }
 
-// The role's assignments, grants and direct lines at either end go, and the role itself; then the sessions shed; 1, 2, 8.
+// The role's assignments, grants and direct lines at either end go, and the role itself; then the sessions shed; 1, 2, 8, 13.
 pub fn norole(s: State, r: Role) -> Outcome
     ensures { λ o. ⌜ seen o ≡ norole (view s) (r .number) ⌝ }
 {

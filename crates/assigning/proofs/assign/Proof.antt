@@ -1,183 +1,181 @@
+-- Each test of `assign` is a refusal of the sheet, in its order; past all six, the store adds the role to the user's. Assumes nothing.
 use borrow.Author.Needs.{needs}
-use borrow.Author.Tests.{leb-false}
-use mathlib.Core.Bool.{true, false, _||_}
+use mathlib.Core.Bool.{false, _||_}
 use mathlib.Core.List.{[]}
-use mathlib.Core.Path.{_≡_, refl, sym, ap, _∙_}
+use mathlib.Core.Path.{_≡_, sym, ap, _∙_}
 use Prim.Native.Nat.{ℕ, _<_}
-use native.Mathlib.Omega.{arith}
 use lib.Dec.{leb}
-use lib.ListN.{length}
 use Rattle.roleset.specs.Roles.{has, with}
-use Rattle.roleset.proofs.BoundedLaws.{or-clear}
 use Rattle.numbers.specs.Ranges.{mostAssignments}
 use Rattle.hierarchy.specs.declared.Walk.{Walk}
-use Rattle.model.specs.Model.{put, withAssigned}
+use Rattle.model.specs.Model.{Model}
 use Rattle.model.specs.Sheet.{verdict, settle, done}
 use Rattle.model.specs.Words.{reached, breaksSome, staticBroken, assignments}
 use Rattle.model.specs.commands.Assigning.{assign, assigned}
 use Rattle.model.specs.commands.Naming.{noUser, noRole, userMissing, roleMissing}
 use Rattle.model.proofs.Puts.{assigned-static}
 use Rattle.policy.specs.View.{view, seen}
-use Rattle.policy.proofs.Stores.{store-assigned}
 use Rattle.policy.proofs.Values.{sized}
+use Rattle.assigning.proofs.Laws.{user-within, assignments-full, assigned-stored}
 use Rattle.assigning.proofs.assign.Statement.{statement}
 use Rattle.assigning.proofs.assign.Tie as tie
 
--- what each test finds, in the words of the definition
-beyond : (c : tie.After-either) → (noUser (c .before .before .before .args .u .number) || noRole (c .before .before .before .args .r .number)) ≡ c .either .result
-beyond c = cc
+-- the policy and the sessions at entry, the user and the role
+abbrev m : tie.Start → Model
+m c = view (c .args .t1)
 
-missing : (c : tie.After-either2) → (userMissing (view (c .before .before .before .before .before .before .before .before .args .t1)) (c .before .before .before .before .before .before .before .before .args .u .number) || roleMissing (view (c .before .before .before .before .before .before .before .before .args .t1)) (c .before .before .before .before .before .before .before .before .args .r .number)) ≡ c .either2 .result
+abbrev user : tie.Start → ℕ
+user c = c .args .u .number
+
+abbrev role : tie.Start → ℕ
+role c = c .args .r .number
+
+-- from the place past each refusal back to the one before it
+abbrev to-start : tie.Else1 → tie.Start
+to-start c = c .before .before .before .before
+
+abbrev to-1 : tie.Else2 → tie.Else1
+to-1 c = c .before .before .before .before .before
+
+abbrev to-2 : tie.Else3 → tie.Else2
+to-2 c = c .before .before .before .before
+
+abbrev to-3 : tie.Else4 → tie.Else3
+to-3 c = c .before .before .before .before .before .before .before
+
+abbrev to-4 : tie.Else5 → tie.Else4
+to-4 c = c .before .before .before .before .before
+
+-- what the tests find, and what is known past them
+found-1 : (c : tie.After-either) → let s = c .before .before .before in (noUser (user s) || noRole (role s)) ≡ c .either .result
+found-1 c = rw (← c .before .before .user-beyond .ensures, ← c .before .role-beyond .ensures) (sym (c .either .ensures))
+
+clear-1 : (c : tie.Else1) → (noUser (user (to-start c)) || noRole (role (to-start c))) ≡ false
+clear-1 c = found-1 (c .before) ∙ c .if1 .left
+
+within : (c : tie.Else1) → user (to-start c) < 256
+within c = user-within (user (to-start c)) (role (to-start c)) (clear-1 c)
+
+found-2 : (c : tie.After-either2) → let s = to-start (c .before .before .before .before) in (userMissing (m s) (user s) || roleMissing (m s) (role s)) ≡ c .either2 .result
 unfolding view
-missing c = cc
+found-2 c = rw (← c .before .before .has-user .ensures, ← c .before .has .ensures) (sym (c .either2 .ensures))
 
-there : (c : tie.After-has2) → has (view (c .before .before .before .before .before .before .before .before .before .before .before .before .args .t1) .assigned (c .before .before .before .before .before .before .before .before .before .before .before .before .args .u .number)) (c .before .before .before .before .before .before .before .before .before .before .before .before .args .r .number) ≡ c .has2 .result
+clear-2 : (c : tie.Else2) → let s = to-start (to-1 c) in (userMissing (m s) (user s) || roleMissing (m s) (role s)) ≡ false
+clear-2 c = found-2 (c .before) ∙ c .if2 .left
+
+found-3 : (c : tie.After-has2) → let s = to-start (to-1 (c .before .before .before)) in has (m s .assigned (user s)) (role s) ≡ c .has2 .result
 unfolding view
-there c = sym (c .has2 .ensures)
+found-3 c = sym (c .has2 .ensures)
 
-walked : (c : tie.After-reach) → reached (view (c .before .before .before .before .before .before .before .before .before .before .before .before .before .before .before .before .before .args .t1)) (with (view (c .before .before .before .before .before .before .before .before .before .before .before .before .before .before .before .before .before .args .t1) .assigned (c .before .before .before .before .before .before .before .before .before .before .before .before .before .before .before .before .before .args .u .number)) (c .before .before .before .before .before .before .before .before .before .before .before .before .before .before .before .before .before .args .r .number)) ≡ c .reach .result
+clear-3 : (c : tie.Else3) → let s = to-start (to-1 (to-2 c)) in has (m s .assigned (user s)) (role s) ≡ false
+clear-3 c = found-3 (c .before) ∙ c .if3 .left
+
+walked : (c : tie.After-reach) → let s = to-start (to-1 (to-2 (c .before .before .before .before))) in reached (m s) (with (m s .assigned (user s)) (role s)) ≡ c .reach .result
 unfolding view
 walked c = rw (← c .before .before .before .with .ensures .is) (sym (c .reach .ensures))
 
-breaking : (c : tie.After-breaks-some) → staticBroken (assigned (view (c .before .before .before .before .before .before .before .before .before .before .before .before .before .before .before .before .before .before .before .args .t1)) (c .before .before .before .before .before .before .before .before .before .before .before .before .before .before .before .before .before .before .before .args .u .number) (c .before .before .before .before .before .before .before .before .before .before .before .before .before .before .before .before .before .before .before .args .r .number)) (c .before .before .before .before .before .before .before .before .before .before .before .before .before .before .before .before .before .before .before .args .u .number) ≡ c .breaks-some .result
+found-4 : (c : tie.After-breaks-some) → let s = to-start (to-1 (to-2 (c .before .before .before .before .before .before))) in staticBroken (assigned (m s) (user s) (role s)) (user s) ≡ c .breaks-some .result
 unfolding view
-breaking c = assigned-static (view (c .before .before .before .before .before .before .before .before .before .before .before .before .before .before .before .before .before .before .before .args .t1)) (c .before .before .before .before .before .before .before .before .before .before .before .before .before .before .before .before .before .before .before .args .u .number) (c .before .before .before .before .before .before .before .before .before .before .before .before .before .before .before .before .before .before .before .args .r .number) ∙ ap (λ (w : Walk). breaksSome (view (c .before .before .before .before .before .before .before .before .before .before .before .before .before .before .before .before .before .before .before .args .t1) .ssd) (w .roles)) (walked (c .before .before)) ∙ sym (c .breaks-some .ensures)
+found-4 c =
+    let s = to-start (to-1 (to-2 (c .before .before .before .before .before .before))) in
+    assigned-static (m s) (user s) (role s) ∙ ap (λ (w : Walk). breaksSome (m s .ssd) (w .roles)) (walked (c .before .before)) ∙ sym (c .breaks-some .ensures)
 
-filled : (c : tie.After-full) → leb mostAssignments (assignments (view (c .before .before .before .before .before .before .before .before .before .before .before .before .before .before .before .before .before .before .before .before .before .before .before .before .args .t1))) ≡ c .full .result
-unfolding assignments view
-filled c = let whole = sized (c .before .before .before .before .before .before .before .before .before .before .before .before .before .before .before .before .before .before .before .before .before .before .before .before .args .t1) _ (c .before .before .before .before .before .before .before .before .before .before .before .before .before .before .before .before .before .before .before .before .before .before .before .before .good .0) .assigned in sym (rw whole at (c .full .ensures))
+clear-4 : (c : tie.Else4) → let s = to-start (to-1 (to-2 (to-3 c))) in staticBroken (assigned (m s) (user s) (role s)) (user s) ≡ false
+clear-4 c = found-4 (c .before) ∙ c .if4 .left
 
--- the user is within its range
-within : (c : tie.Else1) → c .before .before .before .before .args .u .number < 256
-within c = leb-false 256 (c .before .before .before .before .args .u .number) (or-clear (noUser (c .before .before .before .before .args .u .number)) (noRole (c .before .before .before .before .args .r .number)) (beyond (c .before) ∙ c .if1 .left) .0)
+found-5 : (c : tie.After-full) → leb mostAssignments (assignments (m (to-start (to-1 (to-2 (to-3 (c .before .before .before .before))))))) ≡ c .full .result
+found-5 c = let s = to-start (to-1 (to-2 (to-3 (c .before .before .before .before)))) in assignments-full (s .args .t1) (sized _ _ (s .good .0)) (c .full .result) (c .full .ensures)
 
-user-beyond-requires : tie.Need-user-beyond-requires
-user-beyond-requires c κs = search needs
+clear-5 : (c : tie.Else5) → leb mostAssignments (assignments (m (to-start (to-1 (to-2 (to-3 (to-4 c))))))) ≡ false
+clear-5 c = found-5 (c .before) ∙ c .if5 .left
 
-role-beyond-requires : tie.Need-role-beyond-requires
-role-beyond-requires c κs = search needs
-
-either-requires : tie.Need-either-requires
-either-requires c κs = search needs
-
-refused-requires : tie.Need-refused-requires
-refused-requires c κs = search needs
+found-6 : (c : tie.Else5) → let s = to-start (to-1 (to-2 (to-3 (to-4 c)))) in reached (m s) (with (m s .assigned (user s)) (role s)) .cut ≡ to-4 c .before .before .before .reach .result .cut
+found-6 c = ap (λ (w : Walk). w .cut) (walked (to-4 c .before .before .before))
 
 returns : tie.Need-returns
 unfolding seen assign settle verdict
-returns c = rw (c .refused .ensures, beyond (c .before .before) ∙ c .before .if1 .taken)
-
-has-user-requires : tie.Need-has-user-requires
-has-user-requires c κs = search needs
-
-has-requires : tie.Need-has-requires
-has-requires c κs = search needs
-
-either-requires-2 : tie.Need-either-requires-2
-either-requires-2 c κs = search needs
-
-refused-requires-2 : tie.Need-refused-requires-2
-refused-requires-2 c κs = search needs
+returns c = rw (c .refused .ensures, found-1 (c .before .before) ∙ c .before .if1 .taken)
 
 returns-2 : tie.Need-returns-2
 unfolding seen assign settle verdict
-returns-2 c = rw (c .refused2 .ensures, beyond (c .before .before .before .before .before .before .before) ∙ c .before .before .before .before .before .before .if1 .left, missing (c .before .before) ∙ c .before .if2 .taken)
-
-cast-at : tie.Need-cast-at
-cast-at c = search needs
-
-mul-old : tie.Need-mul-old
-mul-old c = search needs
+returns-2 c = rw (c .refused2 .ensures, clear-1 (c .before .before .before .before .before .before), found-2 (c .before .before) ∙ c .before .if2 .taken)
 
 element-copy-out-old : tie.Need-element-copy-out-old
-element-copy-out-old c = within (c .before .before .before .before .before .before)
-
-has-requires-2 : tie.Need-has-requires-2
-has-requires-2 c κs = search needs
-
-refused-requires-3 : tie.Need-refused-requires-3
-refused-requires-3 c κs = search needs
+element-copy-out-old c = within (to-1 (c .before))
 
 returns-3 : tie.Need-returns-3
 unfolding seen assign settle verdict
-returns-3 c = rw (c .refused3 .ensures, beyond (c .before .before .before .before .before .before .before .before .before .before .before) ∙ c .before .before .before .before .before .before .before .before .before .before .if1 .left, missing (c .before .before .before .before .before .before) ∙ c .before .before .before .before .before .if2 .left, there (c .before .before) ∙ c .before .if3 .taken)
-
-with-requires : tie.Need-with-requires
-with-requires c κs = search needs
-
-reach-requires : tie.Need-reach-requires
-reach-requires c κs = search needs
-
-breaks-some-requires : tie.Need-breaks-some-requires
-breaks-some-requires c κs = search needs
-
-refused-requires-4 : tie.Need-refused-requires-4
-refused-requires-4 c κs = search needs
+returns-3 c =
+    let c2 = c .before .before .before .before .before in
+    rw (c .refused3 .ensures, clear-1 (to-1 c2), clear-2 c2, found-3 (c .before .before), c .before .if3 .taken)
 
 returns-4 : tie.Need-returns-4
 unfolding seen assign settle verdict
-returns-4 c = rw (c .refused4 .ensures, beyond (c .before .before .before .before .before .before .before .before .before .before .before .before .before .before .before .before .before .before) ∙ c .before .before .before .before .before .before .before .before .before .before .before .before .before .before .before .before .before .if1 .left, missing (c .before .before .before .before .before .before .before .before .before .before .before .before .before) ∙ c .before .before .before .before .before .before .before .before .before .before .before .before .if2 .left, there (c .before .before .before .before .before .before .before .before .before) ∙ c .before .before .before .before .before .before .before .before .if3 .left, breaking (c .before .before) ∙ c .before .if4 .taken)
-
-full-requires : tie.Need-full-requires
-full-requires c κs = search needs
-
-refused-requires-5 : tie.Need-refused-requires-5
-refused-requires-5 c κs = search needs
+returns-4 c =
+    let c3 = c .before .before .before .before .before .before .before .before in
+    let c2 = to-2 c3 in
+    rw (c .refused4 .ensures, clear-1 (to-1 c2), clear-2 c2, clear-3 c3, found-4 (c .before .before) ∙ c .before .if4 .taken)
 
 returns-5 : tie.Need-returns-5
 unfolding seen assign settle verdict
-returns-5 c = rw (c .refused5 .ensures, beyond (c .before .before .before .before .before .before .before .before .before .before .before .before .before .before .before .before .before .before .before .before .before .before .before) ∙ c .before .before .before .before .before .before .before .before .before .before .before .before .before .before .before .before .before .before .before .before .before .before .if1 .left, missing (c .before .before .before .before .before .before .before .before .before .before .before .before .before .before .before .before .before .before) ∙ c .before .before .before .before .before .before .before .before .before .before .before .before .before .before .before .before .before .if2 .left, there (c .before .before .before .before .before .before .before .before .before .before .before .before .before .before) ∙ c .before .before .before .before .before .before .before .before .before .before .before .before .before .if3 .left, breaking (c .before .before .before .before .before .before .before) ∙ c .before .before .before .before .before .before .if4 .left, filled (c .before .before) ∙ c .before .if5 .taken)
-
-refused-requires-6 : tie.Need-refused-requires-6
-refused-requires-6 c κs = search needs
+returns-5 c =
+    let c4 = c .before .before .before .before .before .before in
+    let c3 = to-3 c4 in
+    let c2 = to-2 c3 in
+    rw (c .refused5 .ensures, clear-1 (to-1 c2), clear-2 c2, clear-3 c3, clear-4 c4, found-5 (c .before .before) ∙ c .before .if5 .taken)
 
 returns-6 : tie.Need-returns-6
 unfolding seen assign settle verdict
-returns-6 c = rw (c .refused6 .ensures, beyond (c .before .before .before .before .before .before .before .before .before .before .before .before .before .before .before .before .before .before .before .before .before .before .before .before) ∙ c .before .before .before .before .before .before .before .before .before .before .before .before .before .before .before .before .before .before .before .before .before .before .before .if1 .left, missing (c .before .before .before .before .before .before .before .before .before .before .before .before .before .before .before .before .before .before .before) ∙ c .before .before .before .before .before .before .before .before .before .before .before .before .before .before .before .before .before .before .if2 .left, there (c .before .before .before .before .before .before .before .before .before .before .before .before .before .before .before) ∙ c .before .before .before .before .before .before .before .before .before .before .before .before .before .before .if3 .left, breaking (c .before .before .before .before .before .before .before .before) ∙ c .before .before .before .before .before .before .before .if4 .left, filled (c .before .before .before) ∙ c .before .before .if5 .left, walked (c .before .before .before .before .before .before .before .before .before .before), c .before .if6 .taken)
-
-mul-after : tie.Need-mul-after
-mul-after c = search needs
+returns-6 c =
+    let c5 = c .before .before in
+    let c3 = to-3 (to-4 c5) in
+    let c2 = to-2 c3 in
+    rw (c .refused6 .ensures, clear-1 (to-1 c2), clear-2 c2, clear-3 c3, clear-4 (to-4 c5), clear-5 c5, found-6 c5 ∙ c .before .if6 .taken)
 
 element-write-after : tie.Need-element-write-after
-element-write-after c = within (c .before .before .before .before .before .before .before .before .before .before .before .before .before .before .before .before .before .before .before .before .before .before)
+element-write-after c = within (to-1 (to-2 (to-3 (to-4 (c .before)))))
 
 returns-7 : tie.Need-returns-7
 unfolding seen assign settle verdict assigned view
 returns-7 c =
-    let whole = sized (c .before .before .before .before .before .before .before .before .before .before .before .before .before .before .before .before .before .before .before .before .before .before .before .before .before .before .args .t1) _ (c .before .before .before .before .before .before .before .before .before .before .before .before .before .before .before .before .before .before .before .before .before .before .before .before .before .before .good .0) .assigned in
-    rw (beyond (c .before .before .before .before .before .before .before .before .before .before .before .before .before .before .before .before .before .before .before .before .before .before .before) ∙ c .before .before .before .before .before .before .before .before .before .before .before .before .before .before .before .before .before .before .before .before .before .before .if1 .left, missing (c .before .before .before .before .before .before .before .before .before .before .before .before .before .before .before .before .before .before) ∙ c .before .before .before .before .before .before .before .before .before .before .before .before .before .before .before .before .before .if2 .left, there (c .before .before .before .before .before .before .before .before .before .before .before .before .before .before) ∙ c .before .before .before .before .before .before .before .before .before .before .before .before .before .if3 .left, breaking (c .before .before .before .before .before .before .before) ∙ c .before .before .before .before .before .before .if4 .left, filled (c .before .before) ∙ c .before .if5 .left, walked (c .before .before .before .before .before .before .before .before .before), c .if6 .left)
-    (ap (done []) (store-assigned (c .before .before .before .before .before .before .before .before .before .before .before .before .before .before .before .before .before .before .before .before .before .before .before .before .before .before .args .t1) (c .before .before .before .before .before .before .before .before .before .before .before .before .before .before .before .before .before .before .before .before .before .before .before .before .before .before .args .u .number) (c .before .before .before .before .before .before .before .before .before .before .before .before .with .result) (rw whole (within (c .before .before .before .before .before .before .before .before .before .before .before .before .before .before .before .before .before .before .before .before .before .before))) ∙ ap (λ (x : ℕ). withAssigned (view (c .before .before .before .before .before .before .before .before .before .before .before .before .before .before .before .before .before .before .before .before .before .before .before .before .before .before .args .t1)) (put (view (c .before .before .before .before .before .before .before .before .before .before .before .before .before .before .before .before .before .before .before .before .before .before .before .before .before .before .args .t1) .assigned) (c .before .before .before .before .before .before .before .before .before .before .before .before .before .before .before .before .before .before .before .before .before .before .before .before .before .before .args .u .number) x)) (c .before .before .before .before .before .before .before .before .before .before .before .before .with .ensures .is)))
+    let c5 = c .before in
+    let c3 = to-3 (to-4 c5) in
+    let c2 = to-2 c3 in
+    let s = to-start (to-1 c2) in
+    let more = to-4 c5 .before .before .before .before .before .before .with in
+    rw (clear-1 (to-1 c2), clear-2 c2, clear-3 c3, clear-4 (to-4 c5), clear-5 c5, found-6 c5 ∙ c .if6 .left)
+    (ap (done []) (assigned-stored (s .args .t1) (sized _ _ (s .good .0)) (user s) (more .result) _ (within (to-1 c2)) (more .ensures .is)))
 
 pub assign-spec : {M : Type 1} → statement M
 assign-spec =
     tie.close
     (tie.spec
-    user-beyond-requires
-    role-beyond-requires
-    either-requires
-    refused-requires
+    (λ c κs. search needs)
+    (λ c κs. search needs)
+    (λ c κs. search needs)
+    (λ c κs. search needs)
     returns
-    has-user-requires
-    has-requires
-    either-requires-2
-    refused-requires-2
+    (λ c κs. search needs)
+    (λ c κs. search needs)
+    (λ c κs. search needs)
+    (λ c κs. search needs)
     returns-2
-    cast-at
-    mul-old
+    (λ c. search needs)
+    (λ c. search needs)
     element-copy-out-old
-    has-requires-2
-    refused-requires-3
+    (λ c κs. search needs)
+    (λ c κs. search needs)
     returns-3
-    with-requires
-    reach-requires
-    breaks-some-requires
-    refused-requires-4
+    (λ c κs. search needs)
+    (λ c κs. search needs)
+    (λ c κs. search needs)
+    (λ c κs. search needs)
     returns-4
-    full-requires
-    refused-requires-5
+    (λ c κs. search needs)
+    (λ c κs. search needs)
     returns-5
-    refused-requires-6
+    (λ c κs. search needs)
     returns-6
-    mul-after
+    (λ c. search needs)
     element-write-after
     returns-7)

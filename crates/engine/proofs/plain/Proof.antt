@@ -1,3 +1,4 @@
+-- A command with no results tells what its outcome shows. Assumes nothing.
 use mathlib.Core.Path.{refl}
 use Rattle.policy.specs.View.{seen}
 use Rattle.engine.proofs.plain.Statement.{statement}

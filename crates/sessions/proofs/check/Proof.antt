@@ -1,3 +1,4 @@
+-- A session beyond its range is refused, and of any other the lent question answers what the sheet settles. Assumes nothing.
 use borrow.Author.Needs.{needs}
 use borrow.Author.Tests.{leb-false, ne-eqb}
 use mathlib.Core.Bool.{Bool, true, false, _&&_}
@@ -32,24 +33,12 @@ settled m x asked allowed p q = record { tells = rw (q, p) (go (verdict asked));
 beyond : (c : tie.After-session-beyond) → noSession (c .before .args .x .number) ≡ c .session-beyond .result
 beyond c = sym (c .session-beyond .ensures)
 
-session-beyond-requires : tie.Need-session-beyond-requires
-session-beyond-requires c κs = search needs
-
 returns : tie.Need-returns
 unfolding toldChecked check settle verdict
 returns c = record { tells = rw (beyond (c .before) ∙ c .if1 .taken); silent = λ h. refl }
 
-cast-at : tie.Need-cast-at
-cast-at c = search needs
-
-mul-session : tie.Need-mul-session
-mul-session c = search needs
-
 element-copy-out-session : tie.Need-element-copy-out-session
 element-copy-out-session c = leb-false 64 (c .before .before .before .args .x .number) (beyond (c .before .before) ∙ c .before .if1 .left)
-
-check-lent-requires : tie.Need-check-lent-requires
-check-lent-requires c κs = search needs
 
 returns-2 : tie.Need-returns-2
 unfolding check view permits permitted
@@ -59,4 +48,4 @@ returns-2 c =
     (settled (view (start .t1)) (c .check-lent .result) (refusals (view (start .t1) .juniors) (view (start .t1) .sessions (start .x .number)) (start .op) (start .obj)) (permitted (view (start .t1)) (start .x .number) (permission (start .op) (start .obj))) (c .check-lent .ensures .answer) (c .check-lent .ensures .answered))
 
 pub check-spec : {M : Type 1} → statement M
-check-spec = tie.close (tie.spec session-beyond-requires returns cast-at mul-session element-copy-out-session check-lent-requires returns-2)
+check-spec = tie.close (tie.spec (λ c κs. search needs) returns (λ c. search needs) (λ c. search needs) element-copy-out-session (λ c κs. search needs) returns-2)

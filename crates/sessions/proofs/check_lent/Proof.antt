@@ -1,3 +1,4 @@
+-- Each test is a refusal of `check`, in its order; past them the roles that the walk meets are held against the grant's holders. Assumes nothing.
 use borrow.Author.Needs.{needs}
 use mathlib.Core.Bool.{not}
 use mathlib.Core.Path.{_≡_, refl, sym, ap, _∙_}
@@ -24,9 +25,6 @@ beyond c = sym (c .permission-beyond .ensures)
 walked : (c : tie.After-reach) → reach (tableOf (c .before .before .before .before .before .args .juniors .now)) (c .before .before .before .before .before .args .session .active) ≡ c .reach .result
 walked c = sym (c .reach .ensures)
 
-permission-beyond-requires : tie.Need-permission-beyond-requires
-permission-beyond-requires c κs = search needs
-
 returns : tie.Need-returns
 unfolding verdict
 returns c = record { answer = rw (beyond (c .before) ∙ c .if1 .taken); answered = refl }
@@ -35,21 +33,9 @@ returns-2 : tie.Need-returns-2
 unfolding verdict
 returns-2 c = record { answer = rw (beyond (c .before .before .before) ∙ c .before .before .if1 .left, c .if2 .taken); answered = refl }
 
-reach-requires : tie.Need-reach-requires
-reach-requires c κs = search needs
-
 returns-3 : tie.Need-returns-3
 unfolding verdict
 returns-3 c = record { answer = rw (beyond (c .before .before .before .before .before) ∙ c .before .before .before .before .if1 .left, c .before .before .if2 .left, walked (c .before), c .if3 .taken); answered = refl }
-
-mul-at : tie.Need-mul-at
-mul-at c = search needs
-
-add-at : tie.Need-add-at
-add-at c = search needs
-
-mul-both : tie.Need-mul-both
-mul-both c = search needs
 
 -- the permission is within its range
 within : (c : tie.Else1) → permission (c .before .before .args .op) (c .before .before .args .obj) < 4096
@@ -59,12 +45,6 @@ within c =
 
 element-copy-out-both : tie.Need-element-copy-out-both
 element-copy-out-both c = within (c .before .before .before .before)
-
-both-requires : tie.Need-both-requires
-both-requires c κs = search needs
-
-is-empty-requires : tie.Need-is-empty-requires
-is-empty-requires c κs = search needs
 
 returns-4 : tie.Need-returns-4
 unfolding verdict permits
@@ -78,15 +58,15 @@ pub check-lent-spec : {M : Type 1} → statement M
 check-lent-spec =
     tie.close
     (tie.spec
-    permission-beyond-requires
+    (λ c κs. search needs)
     returns
     returns-2
-    reach-requires
+    (λ c κs. search needs)
     returns-3
-    mul-at
-    add-at
-    mul-both
+    (λ c. search needs)
+    (λ c. search needs)
+    (λ c. search needs)
     element-copy-out-both
-    both-requires
-    is-empty-requires
+    (λ c κs. search needs)
+    (λ c κs. search needs)
     returns-4)

@@ -1,3 +1,4 @@
+-- Both tests of `owner` are refusals of the sheet; past them the record of the session names its owner. Assumes nothing.
 use borrow.Author.Needs.{needs}
 use borrow.Author.Tests.{leb-false}
 use mathlib.Core.Bool.{true, false}
@@ -26,18 +27,9 @@ clear-2 : (c : tie.Else2) → sessionMissing (view (c .before .before .before .b
 unfolding view
 clear-2 c = c .if2 .left
 
-session-beyond-requires : tie.Need-session-beyond-requires
-session-beyond-requires c κs = search needs
-
 returns : tie.Need-returns
 unfolding toldOwned owner settle verdict
 returns c = record { tells = rw (found-1 (c .before) ∙ c .if1 .taken); silent = λ h. refl }
-
-cast-at : tie.Need-cast-at
-cast-at c = search needs
-
-mul-session : tie.Need-mul-session
-mul-session c = search needs
 
 element-copy-out-session : tie.Need-element-copy-out-session
 element-copy-out-session c = leb-false 64 (c .before .before .before .args .x .number) (clear-1 (c .before))
@@ -46,12 +38,9 @@ returns-2 : tie.Need-returns-2
 unfolding toldOwned owner settle verdict
 returns-2 c = record { tells = rw (clear-1 (c .before .before .before .before), found-2 c); silent = λ h. refl }
 
-cast-t16 : tie.Need-cast-t16
-cast-t16 c = search needs
-
 returns-3 : tie.Need-returns-3
 unfolding toldOwned owner settle verdict view
 returns-3 c = record { tells = rw (clear-1 (c .before .before .before .before .before), clear-2 (c .before)); silent = λ h. clash true refl h }
 
 pub owner-spec : {M : Type 1} → statement M
-owner-spec = tie.close (tie.spec session-beyond-requires returns cast-at mul-session element-copy-out-session returns-2 cast-t16 returns-3)
+owner-spec = tie.close (tie.spec (λ c κs. search needs) returns (λ c. search needs) (λ c. search needs) element-copy-out-session returns-2 (λ c. search needs) returns-3)

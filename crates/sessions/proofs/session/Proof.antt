@@ -1,14 +1,14 @@
+-- Each test of `session` is a refusal of the sheet, in its order; past all seven, the lowest free session is open for the user. Assumes nothing.
 use borrow.Author.Needs.{needs}
-use borrow.Author.Tests.{leb-false, le-leb, lt-leb}
+use borrow.Author.Tests.{le-leb, lt-leb}
 use mathlib.Core.Bool.{Bool, true, false, not, _||_}
 use mathlib.Core.List.{List, [], _∷_}
 use mathlib.Core.Path.{_≡_, refl, sym, ap, ap₂, _∙_}
 use Prim.Native.Nat.{ℕ, _<_}
 use native.Mathlib.Omega.{arith}
 use lib.Dec.{leb}
-use lib.ListN.{length}
 use Rattle.roleset.specs.Roles.{subset}
-use Rattle.roleset.proofs.BoundedLaws.{or-clear, clash}
+use Rattle.roleset.proofs.BoundedLaws.{clash}
 use Rattle.hierarchy.specs.declared.Walk.{Walk}
 use Rattle.numbers.specs.Ranges.{sessions}
 use Rattle.model.specs.Model.{Model}
@@ -18,10 +18,10 @@ use Rattle.model.specs.Lists.{ascending, someFrom, setOf}
 use Rattle.model.specs.commands.Naming.{noUser, userMissing}
 use Rattle.model.specs.commands.Sessions.{session, opened, openFor, sessionSet, lowestFree}
 use Rattle.policy.specs.View.{view}
-use Rattle.policy.proofs.Stores.{store-sessions}
 use Rattle.policy.proofs.Values.{sized}
 use Rattle.sweeps.proofs.Free.{full-free}
 use Rattle.sessions.specs.Answering.{toldOpened}
+use Rattle.sessions.proofs.Named.{user-within, stored}
 use Rattle.sessions.proofs.Rules.{opened-dynamic}
 use Rattle.sessions.proofs.session.Statement.{statement}
 use Rattle.sessions.proofs.session.Tie as tie
@@ -88,14 +88,14 @@ clear-1 : (c : tie.Else1) → unordered (to-start c) ≡ false
 clear-1 c = found-1 (c .before .before) ∙ c .if1 .left
 
 found-2 : (c : tie.After-either) → beyond (to-start (c .before .before)) ≡ c .either .result
-found-2 c = cc
+found-2 c = rw (← c .before .user-beyond .ensures, ← c .before .before .before .before .read .ensures .beyond) (sym (c .either .ensures))
 
 clear-2 : (c : tie.Else2) → beyond (to-start (to-1 c)) ≡ false
 clear-2 c = found-2 (c .before) ∙ c .if2 .left
 
 found-3 : (c : tie.After-either2) → missing (to-start (to-1 (c .before .before .before .before))) ≡ c .either2 .result
 unfolding view
-found-3 c = cc
+found-3 c = rw (← c .before .before .before .before .before .before .before .before .before .read .ensures .roles, ← c .before .subset .ensures .is) (sym (c .either2 .ensures))
 
 clear-3 : (c : tie.Else3) → missing (to-start (to-1 (to-2 c))) ≡ false
 clear-3 c = found-3 (c .before) ∙ c .if3 .left
@@ -137,50 +137,20 @@ found-7 c = ap (λ (w : Walk). w .cut) (walked (c .before .before .before .befor
 clear-7 : (c : tie.Else7) → tooLong (to-start (to-1 (to-2 (to-3 (to-4 (to-5 (to-6 c))))))) ≡ false
 clear-7 c = ap (λ (w : Walk). w .cut) (walked (c .before .before .before .before .before .before .before .before .before)) ∙ c .if7 .left
 
--- the user is within its range, and there are 64 places for sessions
+-- the user is within its range
 within : (c : tie.Else2) → user (to-start (to-1 c)) < 256
-within c = leb-false 256 (user (to-start (to-1 c))) (or-clear _ _ (clear-2 c) .0)
-
-whole : (c : tie.Start) → length (c .args .t1 .sessions) ≡ 64
-whole c = sized (c .args .t1) _ (c .good .0) .sessions
-
-read-requires : tie.Need-read-requires
-read-requires c κs = search needs
-
-not-opened-requires : tie.Need-not-opened-requires
-not-opened-requires c κs = search needs
+within c = user-within _ _ (clear-2 c)
 
 returns : tie.Need-returns
 unfolding toldOpened session settle verdict
 returns c = rw (c .not-opened .ensures) (record { tells = rw (found-1 (c .before .before .before) ∙ c .before .if1 .taken); silent = λ h. refl })
 
-user-beyond-requires : tie.Need-user-beyond-requires
-user-beyond-requires c κs = search needs
-
-either-requires : tie.Need-either-requires
-either-requires c κs = search needs
-
-not-opened-requires-2 : tie.Need-not-opened-requires-2
-not-opened-requires-2 c κs = search needs
-
 returns-2 : tie.Need-returns-2
 unfolding toldOpened session settle verdict
 returns-2 c = rw (c .not-opened2 .ensures) (record { tells = rw (clear-1 (c .before .before .before .before), found-2 (c .before .before) ∙ c .before .if2 .taken); silent = λ h. refl })
 
-cast-user : tie.Need-cast-user
-cast-user c = search needs
-
 element-copy-out-either : tie.Need-element-copy-out-either
 element-copy-out-either c = within (c .before)
-
-subset-requires : tie.Need-subset-requires
-subset-requires c κs = search needs
-
-either-requires-2 : tie.Need-either-requires-2
-either-requires-2 c κs = search needs
-
-not-opened-requires-3 : tie.Need-not-opened-requires-3
-not-opened-requires-3 c κs = search needs
 
 returns-3 : tie.Need-returns-3
 unfolding toldOpened session settle verdict
@@ -188,20 +158,8 @@ returns-3 c =
     let c2 = c .before .before .before .before .before .before in
     rw (c .not-opened3 .ensures) (record { tells = rw (clear-1 (to-1 c2), clear-2 c2, found-3 (c .before .before) ∙ c .before .if3 .taken); silent = λ h. refl })
 
-mul-assigned : tie.Need-mul-assigned
-mul-assigned c = search needs
-
 element-copy-out-assigned : tie.Need-element-copy-out-assigned
 element-copy-out-assigned c = within (to-2 c)
-
-reach-requires : tie.Need-reach-requires
-reach-requires c κs = search needs
-
-subset-requires-2 : tie.Need-subset-requires-2
-subset-requires-2 c κs = search needs
-
-not-opened-requires-4 : tie.Need-not-opened-requires-4
-not-opened-requires-4 c κs = search needs
 
 returns-4 : tie.Need-returns-4
 unfolding toldOpened session settle verdict
@@ -209,12 +167,6 @@ returns-4 c =
     let c3 = c .before .before .before .before .before .before .before in
     let c2 = to-2 c3 in
     rw (c .not-opened4 .ensures) (record { tells = rw (clear-1 (to-1 c2), clear-2 c2, clear-3 c3, found-4 (c .before .before) ∙ c .before .if4 .taken); silent = λ h. refl })
-
-breaks-some-requires : tie.Need-breaks-some-requires
-breaks-some-requires c κs = search needs
-
-not-opened-requires-5 : tie.Need-not-opened-requires-5
-not-opened-requires-5 c κs = search needs
 
 returns-5 : tie.Need-returns-5
 unfolding toldOpened session settle verdict
@@ -224,12 +176,6 @@ returns-5 c =
     let c2 = to-2 c3 in
     rw (c .not-opened5 .ensures) (record { tells = rw (clear-1 (to-1 c2), clear-2 c2, clear-3 c3, clear-4 c4, found-5 (c .before .before) ∙ c .before .if5 .taken); silent = λ h. refl })
 
-lowest-free-requires : tie.Need-lowest-free-requires
-lowest-free-requires c κs = search needs
-
-not-opened-requires-6 : tie.Need-not-opened-requires-6
-not-opened-requires-6 c κs = search needs
-
 returns-6 : tie.Need-returns-6
 unfolding toldOpened session settle verdict
 returns-6 c =
@@ -238,9 +184,6 @@ returns-6 c =
     let c3 = to-3 c4 in
     let c2 = to-2 c3 in
     rw (c .not-opened6 .ensures) (record { tells = rw (clear-1 (to-1 c2), clear-2 c2, clear-3 c3, clear-4 c4, clear-5 c5, found-6 (c .before .before) ∙ le-leb 64 (c .before .before .lowest-free .result) (c .before .if6 .taken)); silent = λ h. refl })
-
-not-opened-requires-7 : tie.Need-not-opened-requires-7
-not-opened-requires-7 c κs = search needs
 
 returns-7 : tie.Need-returns-7
 unfolding toldOpened session settle verdict
@@ -252,17 +195,8 @@ returns-7 c =
     let c2 = to-2 c3 in
     rw (c .not-opened7 .ensures) (record { tells = rw (clear-1 (to-1 c2), clear-2 c2, clear-3 c3, clear-4 c4, clear-5 c5, clear-6 c6, found-7 (c .before)); silent = λ h. refl })
 
-cast-at : tie.Need-cast-at
-cast-at c = search needs
-
 cast-t43 : tie.Need-cast-t43
 cast-t43 c = let h = within (to-2 (to-3 (to-4 (to-5 (to-6 (c .before)))))) in omega arith
-
-mul-t29 : tie.Need-mul-t29
-mul-t29 c = search needs
-
-element-set-from-after : tie.Need-element-set-from-after
-element-set-from-after c = search needs
 
 returns-8 : tie.Need-returns-8
 unfolding toldOpened session settle verdict opened view
@@ -278,7 +212,7 @@ returns-8 c =
     let free = c .before .before .before .lowest-free in
     record {
       tells = rw (clear-1 c1, clear-2 c2, clear-3 c3, clear-4 c4, clear-5 c5, clear-6 c6, clear-7 c7)
-          (ap (done (free .result ∷ [])) (store-sessions (s .args .t1) (free .result) _ (rw (whole s) (c6 .if6 .left)))
+          (ap (done (free .result ∷ [])) (stored (s .args .t1) (free .result) _ (sized _ _ (s .good .0)) (c6 .if6 .left))
           ∙ ap₂ (λ (n roles : ℕ). done (n ∷ []) (sessionSet (m s) n (openFor (user s) roles))) (free .ensures) (sym (asked c1)));
       silent = λ h. clash true refl h;
     }
@@ -287,35 +221,35 @@ pub session-spec : {M : Type 1} → statement M
 session-spec =
     tie.close
     (tie.spec
-    read-requires
-    not-opened-requires
+    (λ c κs. search needs)
+    (λ c κs. search needs)
     returns
-    user-beyond-requires
-    either-requires
-    not-opened-requires-2
+    (λ c κs. search needs)
+    (λ c κs. search needs)
+    (λ c κs. search needs)
     returns-2
-    cast-user
+    (λ c. search needs)
     element-copy-out-either
-    subset-requires
-    either-requires-2
-    not-opened-requires-3
+    (λ c κs. search needs)
+    (λ c κs. search needs)
+    (λ c κs. search needs)
     returns-3
-    mul-assigned
+    (λ c. search needs)
     element-copy-out-assigned
-    reach-requires
-    subset-requires-2
-    not-opened-requires-4
+    (λ c κs. search needs)
+    (λ c κs. search needs)
+    (λ c κs. search needs)
     returns-4
-    breaks-some-requires
-    not-opened-requires-5
+    (λ c κs. search needs)
+    (λ c κs. search needs)
     returns-5
-    lowest-free-requires
-    not-opened-requires-6
+    (λ c κs. search needs)
+    (λ c κs. search needs)
     returns-6
-    not-opened-requires-7
+    (λ c κs. search needs)
     returns-7
-    cast-at
+    (λ c. search needs)
     cast-t43
-    mul-t29
-    element-set-from-after
+    (λ c. search needs)
+    (λ c. search needs)
     returns-8)

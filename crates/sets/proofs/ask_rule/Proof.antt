@@ -1,3 +1,4 @@
+-- The rule asked of the array that a sweep fills is asked of each user, or of each session. Assumes nothing.
 use borrow.Author.Needs.{needs}
 use mathlib.Core.Path.{_≡_, refl, ap, _∙_}
 use Prim.Native.Nat.{ℕ}
@@ -18,27 +19,6 @@ whole c = rw length-map at (c .authorised-all .ok .1 .1 .0 .1 .0 .1)
 enum-told : tie.Need-enum-told
 enum-told c = search needs
 
-authorised-all-requires : tie.Need-authorised-all-requires
-authorised-all-requires c κs = search needs
-
-slice-aggregate-some-breaks : tie.Need-slice-aggregate-some-breaks
-slice-aggregate-some-breaks c = search needs
-
-some-breaks-requires : tie.Need-some-breaks-requires
-some-breaks-requires c κs = search needs
-
-enum-told-2 : tie.Need-enum-told-2
-enum-told-2 c = search needs
-
-active-roles-requires : tie.Need-active-roles-requires
-active-roles-requires c κs = search needs
-
-slice-aggregate-some-breaks-2 : tie.Need-slice-aggregate-some-breaks-2
-slice-aggregate-some-breaks-2 c = search needs
-
-some-breaks-requires-2 : tie.Need-some-breaks-requires-2
-some-breaks-requires-2 c κs = search needs
-
 returns : tie.Need-returns
 unfolding view broken usersCut
 returns c = rw (c .before .before .before .before .before .before .before .enum-told .given .1) (record { broken = c .some-breaks .ensures ∙ asked-of 256 (c .before .before .before .before .before .before .before .before .before .args .set) (c .before .before .before .authorised-all .result .roles) (authorised (view (c .before .before .before .before .before .before .before .before .before .args .t1))) (whole (c .before .before .before)) (c .before .before .before .authorised-all .ensures .each); cut = c .before .before .before .authorised-all .ensures .cut })
@@ -52,12 +32,12 @@ ask-rule-spec =
     tie.close
     (tie.spec
     enum-told
-    authorised-all-requires
-    slice-aggregate-some-breaks
-    some-breaks-requires
-    enum-told-2
-    active-roles-requires
-    slice-aggregate-some-breaks-2
-    some-breaks-requires-2
+    (λ c κs. search needs)
+    (λ c. search needs)
+    (λ c κs. search needs)
+    (λ c. search needs)
+    (λ c κs. search needs)
+    (λ c. search needs)
+    (λ c κs. search needs)
     returns
     returns-2)

@@ -1,44 +1,75 @@
+-- Both tests of `nossd` and `nodsd` are refusals of the sheet; past them the store leaves no set by the name. Assumes nothing.
 use borrow.Author.Needs.{needs}
+use mathlib.Core.Bool.{false}
 use mathlib.Core.List.{[]}
 use mathlib.Core.Path.{_≡_, sym, ap, _∙_}
+use Prim.Native.Nat.{ℕ, _<_}
 use borrow.Author.Tests.{leb-false}
+use Rattle.model.specs.Model.{Model}
 use Rattle.model.specs.Sheet.{verdict, settle, done}
 use Rattle.model.specs.commands.Naming.{noSet}
 use Rattle.model.specs.commands.Sets.{setsOf, dropSet}
+use Rattle.model.specs.declared.Kind.{Kind}
 use Rattle.policy.specs.View.{view, seen}
-use Rattle.sets.proofs.Laws.{sets-among}
+use Rattle.sets.proofs.Laws.{set-found}
 use Rattle.sets.proofs.drop_set.Statement.{statement}
 use Rattle.sets.proofs.drop_set.Tie as tie
 
--- what each test finds, in the words of the definition
-beyond : (c : tie.After-set-beyond) → noSet (c .before .args .name .number) ≡ c .set-beyond .result
-beyond c = sym (c .set-beyond .ensures)
+-- the policy and the sessions at entry, and what the command names
+abbrev m : tie.Start → Model
+m c = view (c .args .s)
 
-found : (c : tie.After-set-at) → setsOf (c .before .before .before .before .before .args .kind) (view (c .before .before .before .before .before .args .s)) (c .before .before .before .before .before .args .name .number) ≡ c .set-at .result
-found c = sets-among (c .before .before .before .before .before .args .s) (c .before .before .before .before .before .args .kind) (c .before .before .before .before .before .args .name .number) ∙ sym (c .set-at .ensures)
+abbrev kind : tie.Start → Kind
+kind c = c .args .kind
 
-set-beyond-requires : tie.Need-set-beyond-requires
-set-beyond-requires c κs = search needs
+abbrev name : tie.Start → ℕ
+name c = c .args .name .number
+
+-- from a place back to one before it
+abbrev to-start : tie.Else1 → tie.Start
+to-start c = c .before .before
+
+abbrev to-1 : tie.After-set-at → tie.Else1
+to-1 c = c .before .before .before
+
+-- what the tests find, and what is known past them
+clear-1 : (c : tie.Else1) → noSet (name (to-start c)) ≡ false
+clear-1 c = sym (c .before .set-beyond .ensures) ∙ c .if1 .left
+
+within : (c : tie.Else1) → name (to-start c) < 16
+within c = leb-false 16 (name (to-start c)) (clear-1 c)
+
+old : (c : tie.After-set-at) → let s = to-start (to-1 c) in setsOf (kind s) (m s) (name s) ≡ c .set-at .result
+old c = let s = to-start (to-1 c) in set-found (s .args .s) (kind s) (name s) (c .set-at .result) (c .set-at .ensures)
 
 returns : tie.Need-returns
 unfolding seen dropSet settle verdict
-returns c = rw (beyond (c .before) ∙ c .if1 .taken)
-
-set-at-requires : tie.Need-set-at-requires
-set-at-requires c κs = search needs
+returns c = rw (c .refused .ensures, ← c .before .before .set-beyond .ensures, c .before .if1 .taken)
 
 returns-2 : tie.Need-returns-2
 unfolding seen dropSet settle verdict
-returns-2 c = rw (beyond (c .before .before .before .before .before .before) ∙ c .before .before .before .before .before .if1 .left, found (c .before .before), c .if2 .taken)
+returns-2 c =
+    let at = c .before .before .before in
+    rw (c .refused2 .ensures, clear-1 (to-1 at), old at, c .before .if2 .taken)
 
 store-requires : tie.Need-store-requires
-store-requires c κs = leb-false 16 (c .before .before .before .before .before .before .before .args .name .number) (beyond (c .before .before .before .before .before .before) ∙ c .before .before .before .before .before .if1 .left)
+store-requires c κs = within (to-1 (c .before .before))
 
 returns-3 : tie.Need-returns-3
 unfolding seen dropSet settle verdict
-returns-3 c = rw (beyond (c .before .before .before .before .before .before .before) ∙ c .before .before .before .before .before .before .if1 .left, found (c .before .before .before), c .before .if2 .left) (ap (done []) (c .store .ensures))
+returns-3 c =
+    let at = c .before .before .before in
+    rw (clear-1 (to-1 at), old at, c .before .if2 .left) (ap (done []) (c .store .ensures))
 
 pub drop-set-spec : {M : Type 1} → statement M
 drop-set-spec =
     tie.close
-    (tie.spec set-beyond-requires returns set-at-requires returns-2 store-requires returns-3)
+    (tie.spec
+    (λ c κs. search needs)
+    (λ c κs. search needs)
+    returns
+    (λ c κs. search needs)
+    (λ c κs. search needs)
+    returns-2
+    store-requires
+    returns-3)

@@ -1,3 +1,4 @@
+-- The two tests are the last refusals of a set command; past them the set is stored among those of its kind. Assumes nothing.
 use borrow.Author.Needs.{needs}
 use mathlib.Core.List.{[]}
 use mathlib.Core.Path.{_≡_, sym, ap, _∙_}
@@ -16,22 +17,13 @@ breaking c = sym (c .ask-rule .ensures .broken)
 cutting : (c : tie.After-ask-rule) → askingCut (c .before .args .kind) (view (c .before .args .s)) ≡ c .ask-rule .result .cut
 cutting c = sym (c .ask-rule .ensures .cut)
 
-ask-rule-requires : tie.Need-ask-rule-requires
-ask-rule-requires c κs = search needs
-
-rule-answer-requires : tie.Need-rule-answer-requires
-rule-answer-requires c κs = search needs
-
 returns : tie.Need-returns
 unfolding seen placeSet
-returns c = rw (c .rule-answer .ensures, breaking (c .before .before) ∙ c .before .if1 .taken) (sym (rule-refused (c .before .before .before .args .kind) _ _ _))
+returns c = rw (c .refused .ensures, c .before .rule-answer .ensures, breaking (c .before .before .before) ∙ c .before .before .if1 .taken) (sym (rule-refused (c .before .before .before .before .args .kind) _ _ _))
 
 returns-2 : tie.Need-returns-2
 unfolding seen placeSet settle verdict
-returns-2 c = rw (breaking (c .before .before) ∙ c .before .if1 .left, cutting (c .before .before) ∙ c .if2 .taken)
-
-store-requires : tie.Need-store-requires
-store-requires c κs = search needs
+returns-2 c = rw (c .refused2 .ensures, breaking (c .before .before .before) ∙ c .before .before .if1 .left, cutting (c .before .before .before) ∙ c .before .if2 .taken)
 
 returns-3 : tie.Need-returns-3
 unfolding seen placeSet settle verdict
@@ -40,4 +32,12 @@ returns-3 c = rw (breaking (c .before .before .before) ∙ c .before .before .if
 pub place-spec : {M : Type 1} → statement M
 place-spec =
     tie.close
-    (tie.spec ask-rule-requires rule-answer-requires returns returns-2 store-requires returns-3)
+    (tie.spec
+    (λ c κs. search needs)
+    (λ c κs. search needs)
+    (λ c κs. search needs)
+    returns
+    (λ c κs. search needs)
+    returns-2
+    (λ c κs. search needs)
+    returns-3)

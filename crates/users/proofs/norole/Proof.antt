@@ -1,174 +1,131 @@
+-- Each test of `norole` is a refusal of the sheet, in its order; past all four, the three tables are stripped of the role and the sessions shed. Assumes nothing.
 use borrow.Author.Needs.{needs}
 use borrow.Author.Tests.{leb-false}
-use mathlib.Core.Bool.{Bool, true, false, _||_}
-use mathlib.Core.List.{[], List, map}
-use mathlib.Core.Path.{_≡_, refl, sym, ap, _∙_}
+use mathlib.Core.Bool.{false, not, _||_}
+use mathlib.Core.List.{[]}
+use mathlib.Core.Path.{_≡_, sym, ap, _∙_}
 use Prim.Native.Nat.{ℕ, _<_}
-use native.Mathlib.Omega.{arith}
-use lib.ListN.{length, set}
-use Rattle.roleset.specs.Roles.{has, without, none}
-use Rattle.hierarchy.specs.Lines.{tableOf}
-use Rattle.model.specs.Model.{Model, put, withSessions}
+use Rattle.model.specs.Model.{Model}
 use Rattle.model.specs.Sheet.{verdict, settle, done}
-use Rattle.model.specs.Words.{shed, shedCut}
+use Rattle.model.specs.Words.{shedCut}
+use Rattle.model.specs.commands.Naming.{noRole, roleMissing}
 use Rattle.model.specs.commands.Users.{norole, withoutRole, inSet}
-use Rattle.policy.specs.View.{view, seen, sessionsIn}
+use Rattle.policy.specs.View.{view, seen}
 use Rattle.policy.proofs.Values.{sized}
-use Rattle.policy.proofs.Tables.{set-put}
-use Rattle.sweeps.proofs.Shedding.{shed-cut, shed-after}
-use Rattle.sweeps.proofs.Strips.{strip-table, strip-length}
+use Rattle.users.proofs.Laws.{role-cut, role-gone}
 use Rattle.users.proofs.norole.Statement.{statement}
 use Rattle.users.proofs.norole.Tie as tie
 
--- what each test finds, in the words of the definition
-standing : (c : tie.After-either) → (inSet (view (c .before .before .before .before .before .before .before .before .before .args .s) .ssd) (c .before .before .before .before .before .before .before .before .before .args .r .number) || inSet (view (c .before .before .before .before .before .before .before .before .before .args .s) .dsd) (c .before .before .before .before .before .before .before .before .before .args .r .number)) ≡ c .either .result
+-- the policy and the sessions at entry, and the role
+abbrev m : tie.Start → Model
+m c = view (c .args .s)
+
+abbrev role : tie.Start → ℕ
+role c = c .args .r .number
+
+-- from a place back to one before it
+abbrev to-start : tie.Else1 → tie.Start
+to-start c = c .before .before
+
+abbrev to-1 : tie.Else2 → tie.Else1
+to-1 c = c .before .before
+
+abbrev to-2 : tie.Else3 → tie.Else2
+to-2 c = c .before .before .before .before .before .before
+
+abbrev to-3 : tie.After-shed → tie.Else3
+to-3 c = c .before .before .before .before .before .before .before .before .before .before .before .before .before
+
+-- what the tests find, and what is known past them
+clear-1 : (c : tie.Else1) → noRole (role (to-start c)) ≡ false
+clear-1 c = sym (c .before .role-beyond .ensures) ∙ c .if1 .left
+
+within : (c : tie.Else1) → role (to-start c) < 64
+within c = leb-false 64 (role (to-start c)) (clear-1 c)
+
+found-2 : (c : tie.After-has) → let s = to-start (c .before) in roleMissing (m s) (role s) ≡ not (c .has .result)
 unfolding view
-standing c = cc
+found-2 c = ap not (sym (c .has .ensures))
 
--- the role is within its range
-within : (c : tie.Else1) → c .before .before .args .r .number < 64
-within c = leb-false 64 (c .before .before .args .r .number) (sym (c .before .role-beyond .ensures) ∙ c .if1 .left)
+clear-2 : (c : tie.Else2) → let s = to-start (to-1 c) in roleMissing (m s) (role s) ≡ false
+clear-2 c = found-2 (c .before) ∙ c .if2 .left
 
--- the lines and the assignments without the role
-juniors-after : (c : tie.After-shed) → _≡_ {A = ℕ → ℕ} (tableOf (set (c .before .before .before .before .before .before .before .before .before .strip .last .0) (c .before .before .before .before .before .before .before .before .before .before .before .before .before .before .before .before .before .before .before .before .before .before .before .args .r .number) 0)) (withoutRole (view (c .before .before .before .before .before .before .before .before .before .before .before .before .before .before .before .before .before .before .before .before .before .before .before .args .s)) (c .before .before .before .before .before .before .before .before .before .before .before .before .before .before .before .before .before .before .before .before .before .before .before .args .r .number) .juniors)
-unfolding withoutRole view
-juniors-after c =
-    let whole : length (c .before .before .before .before .before .before .before .before .before .before .before .before .before .before .before .before .before .before .before .before .before .before .before .args .s .juniors) ≡ 64 = sized (c .before .before .before .before .before .before .before .before .before .before .before .before .before .before .before .before .before .before .before .before .before .before .before .args .s) _ (c .before .before .before .before .before .before .before .before .before .before .before .before .before .before .before .before .before .before .before .before .before .before .before .good .0) .juniors in
-    ap (λ (l : List ℕ). tableOf (set l (c .before .before .before .before .before .before .before .before .before .before .before .before .before .before .before .before .before .before .before .before .before .before .before .args .r .number) 0)) (c .before .before .before .before .before .before .before .before .before .strip .ensures)
-    ∙ set-put (map (λ x. without x (c .before .before .before .before .before .before .before .before .before .before .before .before .before .before .before .before .before .before .before .before .before .before .before .args .r .number)) (c .before .before .before .before .before .before .before .before .before .before .before .before .before .before .before .before .before .before .before .before .before .before .before .args .s .juniors)) (c .before .before .before .before .before .before .before .before .before .before .before .before .before .before .before .before .before .before .before .before .before .before .before .args .r .number) 0 0 (rw (strip-length (c .before .before .before .before .before .before .before .before .before .before .before .before .before .before .before .before .before .before .before .before .before .before .before .args .s .juniors) (c .before .before .before .before .before .before .before .before .before .before .before .before .before .before .before .before .before .before .before .before .before .before .before .args .r .number), whole) (within (c .before .before .before .before .before .before .before .before .before .before .before .before .before .before .before .before .before .before .before .before .before)))
-    ∙ ap (λ (f : ℕ → ℕ). put f (c .before .before .before .before .before .before .before .before .before .before .before .before .before .before .before .before .before .before .before .before .before .before .before .args .r .number) 0) (strip-table (c .before .before .before .before .before .before .before .before .before .before .before .before .before .before .before .before .before .before .before .before .before .before .before .args .s .juniors) (c .before .before .before .before .before .before .before .before .before .before .before .before .before .before .before .before .before .before .before .before .before .before .before .args .r .number))
+found-3 : (c : tie.After-either) → let s = to-start (to-1 (c .before .before .before .before .before)) in (inSet (m s .ssd) (role s) || inSet (m s .dsd) (role s)) ≡ c .either .result
+unfolding view
+found-3 c = rw (← c .before .before .in-set .ensures, ← c .before .in-set2 .ensures) (sym (c .either .ensures))
 
-assigned-after : (c : tie.After-shed) → _≡_ {A = ℕ → ℕ} (tableOf (c .before .before .before .before .before .strip2 .last .0)) (withoutRole (view (c .before .before .before .before .before .before .before .before .before .before .before .before .before .before .before .before .before .before .before .before .before .before .before .args .s)) (c .before .before .before .before .before .before .before .before .before .before .before .before .before .before .before .before .before .before .before .before .before .before .before .args .r .number) .assigned)
-unfolding withoutRole view
-assigned-after c = ap tableOf (c .before .before .before .before .before .strip2 .ensures) ∙ strip-table (c .before .before .before .before .before .before .before .before .before .before .before .before .before .before .before .before .before .before .before .before .before .before .before .args .s .assigned) (c .before .before .before .before .before .before .before .before .before .before .before .before .before .before .before .before .before .before .before .before .before .before .before .args .r .number)
+clear-3 : (c : tie.Else3) → let s = to-start (to-1 (to-2 c)) in (inSet (m s .ssd) (role s) || inSet (m s .dsd) (role s)) ≡ false
+clear-3 c = found-3 (c .before) ∙ c .if3 .left
 
-holders-after : (c : tie.After-without) → _≡_ {A = ℕ → ℕ} (tableOf (c .before .before .before .strip3 .last .0)) (withoutRole (view (c .before .before .before .before .before .before .before .before .before .before .before .before .before .before .before .before .before .before .before .before .before .before .before .before .before .before .before .before .before .before .args .s)) (c .before .before .before .before .before .before .before .before .before .before .before .before .before .before .before .before .before .before .before .before .before .before .before .before .before .before .before .before .before .before .args .r .number) .holders)
-unfolding withoutRole view
-holders-after c = ap tableOf (c .before .before .before .strip3 .ensures) ∙ strip-table (c .before .before .before .before .before .before .before .before .before .before .before .before .before .before .before .before .before .before .before .before .before .before .before .before .before .before .before .before .before .before .args .s .holders) (c .before .before .before .before .before .before .before .before .before .before .before .before .before .before .before .before .before .before .before .before .before .before .before .before .before .before .before .before .before .before .args .r .number)
-
-cutting : (c : tie.After-shed) → shedCut (withoutRole (view (c .before .before .before .before .before .before .before .before .before .before .before .before .before .before .before .before .before .before .before .before .before .before .before .args .s)) (c .before .before .before .before .before .before .before .before .before .before .before .before .before .before .before .before .before .before .before .before .before .before .before .args .r .number)) ≡ c .shed .result .cut
-unfolding withoutRole view
-cutting c = shed-cut (withoutRole (view (c .before .before .before .before .before .before .before .before .before .before .before .before .before .before .before .before .before .before .before .before .before .before .before .args .s)) (c .before .before .before .before .before .before .before .before .before .before .before .before .before .before .before .before .before .before .before .before .before .before .before .args .r .number)) _ _ _ (c .shed .result) (c .shed .ensures) (juniors-after c) (assigned-after c) refl
-
-left-over : (c : tie.After-shed) → shed (withoutRole (view (c .before .before .before .before .before .before .before .before .before .before .before .before .before .before .before .before .before .before .before .before .before .before .before .args .s)) (c .before .before .before .before .before .before .before .before .before .before .before .before .before .before .before .before .before .before .before .before .before .before .before .args .r .number)) ≡ withSessions (withoutRole (view (c .before .before .before .before .before .before .before .before .before .before .before .before .before .before .before .before .before .before .before .before .before .before .before .args .s)) (c .before .before .before .before .before .before .before .before .before .before .before .before .before .before .before .before .before .before .before .before .before .before .before .args .r .number)) (sessionsIn (c .shed .result .sessions))
-unfolding withoutRole view
-left-over c = shed-after (withoutRole (view (c .before .before .before .before .before .before .before .before .before .before .before .before .before .before .before .before .before .before .before .before .before .before .before .args .s)) (c .before .before .before .before .before .before .before .before .before .before .before .before .before .before .before .before .before .before .before .before .before .before .before .args .r .number)) _ _ _ (c .shed .result) (c .shed .ensures) (juniors-after c) (assigned-after c) refl
-
-role-beyond-requires : tie.Need-role-beyond-requires
-role-beyond-requires c κs = search needs
-
-refused-requires : tie.Need-refused-requires
-refused-requires c κs = search needs
+found-4 : (c : tie.After-shed) → let s = to-start (to-1 (to-2 (to-3 c))) in shedCut (withoutRole (m s) (role s)) ≡ c .shed .result .cut
+found-4 c =
+    let c1 = to-1 (to-2 (to-3 c)) in
+    let s = to-start c1 in
+    role-cut (s .args .s) (sized _ _ (s .good .0)) (role s) _ _ (c .shed .result) (within c1) (c .before .before .before .before .before .before .before .before .before .strip .ensures) (c .before .before .before .before .before .strip2 .ensures) (c .shed .ensures)
 
 returns : tie.Need-returns
 unfolding seen norole settle verdict
 returns c = rw (c .refused .ensures, ← c .before .before .role-beyond .ensures, c .before .if1 .taken)
 
-has-requires : tie.Need-has-requires
-has-requires c κs = search needs
-
-refused-requires-2 : tie.Need-refused-requires-2
-refused-requires-2 c κs = search needs
-
 returns-2 : tie.Need-returns-2
-unfolding seen norole settle verdict view
-returns-2 c = rw (c .refused2 .ensures, ← c .before .before .before .before .role-beyond .ensures, c .before .before .before .if1 .left, ← c .before .before .has .ensures, c .before .if2 .taken)
-
-in-set-requires : tie.Need-in-set-requires
-in-set-requires c κs = search needs
-
-in-set-requires-2 : tie.Need-in-set-requires-2
-in-set-requires-2 c κs = search needs
-
-either-requires : tie.Need-either-requires
-either-requires c κs = search needs
-
-refused-requires-3 : tie.Need-refused-requires-3
-refused-requires-3 c κs = search needs
+unfolding seen norole settle verdict
+returns-2 c = rw (c .refused2 .ensures, clear-1 (c .before .before .before), found-2 (c .before .before) ∙ c .before .if2 .taken)
 
 returns-3 : tie.Need-returns-3
-unfolding seen norole settle verdict view
-returns-3 c = rw (c .refused3 .ensures, ← c .before .before .before .before .before .before .before .before .before .before .role-beyond .ensures, c .before .before .before .before .before .before .before .before .before .if1 .left, ← c .before .before .before .before .before .before .before .before .has .ensures, c .before .before .before .before .before .before .before .if2 .left, standing (c .before .before) ∙ c .before .if3 .taken)
-
-cast-at : tie.Need-cast-at
-cast-at c = search needs
-
-slice-aggregate-strip : tie.Need-slice-aggregate-strip
-slice-aggregate-strip c = search needs
-
-strip-requires : tie.Need-strip-requires
-strip-requires c κs = search needs
-
-mul-juniors : tie.Need-mul-juniors
-mul-juniors c = search needs
+unfolding seen norole settle verdict
+returns-3 c =
+    let c2 = c .before .before .before .before .before .before .before in
+    rw (c .refused3 .ensures, clear-1 (to-1 c2), clear-2 c2, found-3 (c .before .before) ∙ c .before .if3 .taken)
 
 array-write-juniors : tie.Need-array-write-juniors
-array-write-juniors c = within (c .before .before .before .before .before .before .before .before .before .before .before .before .before)
-
-slice-aggregate-strip-2 : tie.Need-slice-aggregate-strip-2
-slice-aggregate-strip-2 c = search needs
-
-strip-requires-2 : tie.Need-strip-requires-2
-strip-requires-2 c κs = search needs
-
-shed-requires : tie.Need-shed-requires
-shed-requires c κs = search needs
-
-refused-requires-4 : tie.Need-refused-requires-4
-refused-requires-4 c κs = search needs
+array-write-juniors c = within (to-1 (to-2 (c .before .before .before .before .before)))
 
 returns-4 : tie.Need-returns-4
-unfolding seen norole settle verdict view
-returns-4 c = rw (c .refused4 .ensures, ← c .before .before .before .before .before .before .before .before .before .before .before .before .before .before .before .before .before .before .before .before .before .before .before .before .role-beyond .ensures, c .before .before .before .before .before .before .before .before .before .before .before .before .before .before .before .before .before .before .before .before .before .before .before .if1 .left, ← c .before .before .before .before .before .before .before .before .before .before .before .before .before .before .before .before .before .before .before .before .before .before .has .ensures, c .before .before .before .before .before .before .before .before .before .before .before .before .before .before .before .before .before .before .before .before .before .if2 .left, standing (c .before .before .before .before .before .before .before .before .before .before .before .before .before .before .before .before) ∙ c .before .before .before .before .before .before .before .before .before .before .before .before .before .before .before .if3 .left, cutting (c .before .before) ∙ c .before .if4 .taken)
+unfolding seen norole settle verdict
+returns-4 c =
+    let c3 = to-3 (c .before .before) in
+    let c2 = to-2 c3 in
+    rw (c .refused4 .ensures, clear-1 (to-1 c2), clear-2 c2, clear-3 c3, found-4 (c .before .before) ∙ c .before .if4 .taken)
 
 slice-aggregate-strip-3 : tie.Need-slice-aggregate-strip-3
-slice-aggregate-strip-3 c = sym (sized (c .before .before .before .before .before .before .before .before .before .before .before .before .before .before .before .before .before .before .before .before .before .before .before .before .before .before .args .s) _ (c .before .before .before .before .before .before .before .before .before .before .before .before .before .before .before .before .before .before .before .before .before .before .before .before .before .before .good .0) .holders)
-
-strip-requires-3 : tie.Need-strip-requires-3
-strip-requires-3 c κs = search needs
-
-without-requires : tie.Need-without-requires
-without-requires c κs = search needs
+slice-aggregate-strip-3 c = let s = to-start (to-1 (to-2 (to-3 (c .before .before .before)))) in sym (sized (s .args .s) _ (s .good .0) .holders)
 
 returns-5 : tie.Need-returns-5
-unfolding seen norole settle verdict view withoutRole
+unfolding seen norole settle verdict
 returns-5 c =
-    rw (← c .before .before .before .before .before .before .before .before .before .before .before .before .before .before .before .before .before .before .before .before .before .before .before .before .before .before .before .before .before .role-beyond .ensures, c .before .before .before .before .before .before .before .before .before .before .before .before .before .before .before .before .before .before .before .before .before .before .before .before .before .before .before .before .if1 .left, ← c .before .before .before .before .before .before .before .before .before .before .before .before .before .before .before .before .before .before .before .before .before .before .before .before .before .before .before .has .ensures, c .before .before .before .before .before .before .before .before .before .before .before .before .before .before .before .before .before .before .before .before .before .before .before .before .before .before .if2 .left, standing (c .before .before .before .before .before .before .before .before .before .before .before .before .before .before .before .before .before .before .before .before .before) ∙ c .before .before .before .before .before .before .before .before .before .before .before .before .before .before .before .before .before .before .before .before .if3 .left, cutting (c .before .before .before .before .before .before .before) ∙ c .before .before .before .before .before .before .if4 .left)
-    (ap (λ (roles : ℕ). done [] (after roles (tableOf (set (c .before .before .before .before .before .before .before .before .before .before .before .before .before .before .before .before .strip .last .0) (c .before .before .before .before .before .before .before .before .before .before .before .before .before .before .before .before .before .before .before .before .before .before .before .before .before .before .before .before .before .before .args .r .number) 0)) (tableOf (c .before .before .before .before .before .before .before .before .before .before .before .before .strip2 .last .0)) (tableOf (c .before .before .before .strip3 .last .0)))) (c .without .ensures .is)
-    ∙ ap (λ (juniors : ℕ → ℕ). done [] (after (without (c .before .before .before .before .before .before .before .before .before .before .before .before .before .before .before .before .before .before .before .before .before .before .before .before .before .before .before .before .before .before .args .s .roles) (c .before .before .before .before .before .before .before .before .before .before .before .before .before .before .before .before .before .before .before .before .before .before .before .before .before .before .before .before .before .before .args .r .number)) juniors (tableOf (c .before .before .before .before .before .before .before .before .before .before .before .before .strip2 .last .0)) (tableOf (c .before .before .before .strip3 .last .0)))) (juniors-after (c .before .before .before .before .before .before .before))
-    ∙ ap (λ (assigned : ℕ → ℕ). done [] (after (without (c .before .before .before .before .before .before .before .before .before .before .before .before .before .before .before .before .before .before .before .before .before .before .before .before .before .before .before .before .before .before .args .s .roles) (c .before .before .before .before .before .before .before .before .before .before .before .before .before .before .before .before .before .before .before .before .before .before .before .before .before .before .before .before .before .before .args .r .number)) (withoutRole (view (c .before .before .before .before .before .before .before .before .before .before .before .before .before .before .before .before .before .before .before .before .before .before .before .before .before .before .before .before .before .before .args .s)) (c .before .before .before .before .before .before .before .before .before .before .before .before .before .before .before .before .before .before .before .before .before .before .before .before .before .before .before .before .before .before .args .r .number) .juniors) assigned (tableOf (c .before .before .before .strip3 .last .0)))) (assigned-after (c .before .before .before .before .before .before .before))
-    ∙ ap (λ (holders : ℕ → ℕ). done [] (after (without (c .before .before .before .before .before .before .before .before .before .before .before .before .before .before .before .before .before .before .before .before .before .before .before .before .before .before .before .before .before .before .args .s .roles) (c .before .before .before .before .before .before .before .before .before .before .before .before .before .before .before .before .before .before .before .before .before .before .before .before .before .before .before .before .before .before .args .r .number)) (withoutRole (view (c .before .before .before .before .before .before .before .before .before .before .before .before .before .before .before .before .before .before .before .before .before .before .before .before .before .before .before .before .before .before .args .s)) (c .before .before .before .before .before .before .before .before .before .before .before .before .before .before .before .before .before .before .before .before .before .before .before .before .before .before .before .before .before .before .args .r .number) .juniors) (withoutRole (view (c .before .before .before .before .before .before .before .before .before .before .before .before .before .before .before .before .before .before .before .before .before .before .before .before .before .before .before .before .before .before .args .s)) (c .before .before .before .before .before .before .before .before .before .before .before .before .before .before .before .before .before .before .before .before .before .before .before .before .before .before .before .before .before .before .args .r .number) .assigned) holders)) (holders-after c)
-    ∙ ap (done []) (sym (left-over (c .before .before .before .before .before .before .before))))
-  where
-    after : ℕ → (ℕ → ℕ) → (ℕ → ℕ) → (ℕ → ℕ) → Model
-    after roles juniors assigned holders = record { users = view (c .before .before .before .before .before .before .before .before .before .before .before .before .before .before .before .before .before .before .before .before .before .before .before .before .before .before .before .before .before .before .args .s) .users; roles = roles; juniors = juniors; assigned = assigned; holders = holders; ssd = view (c .before .before .before .before .before .before .before .before .before .before .before .before .before .before .before .before .before .before .before .before .before .before .before .before .before .before .before .before .before .before .args .s) .ssd; dsd = view (c .before .before .before .before .before .before .before .before .before .before .before .before .before .before .before .before .before .before .before .before .before .before .before .before .before .before .before .before .before .before .args .s) .dsd; sessions = sessionsIn (c .before .before .before .before .before .before .before .shed .result .sessions) }
+    let swept = c .before .before .before .before .before .before .before in
+    let c3 = to-3 swept in
+    let c2 = to-2 c3 in
+    let s = to-start (to-1 c2) in
+    rw (clear-1 (to-1 c2), clear-2 c2, clear-3 c3, found-4 swept ∙ c .before .before .before .before .before .before .if4 .left)
+    (ap (done []) (role-gone (s .args .s) (sized _ _ (s .good .0)) (role s) _ _ (swept .shed .result) (within (to-1 c2)) (swept .before .before .before .before .before .before .before .before .before .strip .ensures) (swept .before .before .before .before .before .strip2 .ensures) (swept .shed .ensures) (c .without .result) _ (c .without .ensures .is) (c .before .before .before .strip3 .ensures)))
 
 pub norole-spec : {M : Type 1} → statement M
 norole-spec =
     tie.close
     (tie.spec
-    role-beyond-requires
-    refused-requires
+    (λ c κs. search needs)
+    (λ c κs. search needs)
     returns
-    has-requires
-    refused-requires-2
+    (λ c κs. search needs)
+    (λ c κs. search needs)
     returns-2
-    in-set-requires
-    in-set-requires-2
-    either-requires
-    refused-requires-3
+    (λ c κs. search needs)
+    (λ c κs. search needs)
+    (λ c κs. search needs)
+    (λ c κs. search needs)
     returns-3
-    cast-at
-    slice-aggregate-strip
-    strip-requires
-    mul-juniors
+    (λ c. search needs)
+    (λ c. search needs)
+    (λ c κs. search needs)
+    (λ c. search needs)
     array-write-juniors
-    slice-aggregate-strip-2
-    strip-requires-2
-    shed-requires
-    refused-requires-4
+    (λ c. search needs)
+    (λ c κs. search needs)
+    (λ c κs. search needs)
+    (λ c κs. search needs)
     returns-4
     slice-aggregate-strip-3
-    strip-requires-3
-    without-requires
+    (λ c κs. search needs)
+    (λ c κs. search needs)
     returns-5)
