@@ -1,14 +1,13 @@
 -- What a line's numbers are, as the code holds them, and what a question leaves. Assumes nothing.
 use mathlib.Core.Bool.{Bool, true, false}
-use mathlib.Core.List.{List, [], _∷_, _++_}
-use mathlib.Core.Logic.{_⊎_}
+use mathlib.Core.List.{List, [], _++_}
 use mathlib.Core.Path.{_≡_, refl, sym, ap, ap₂, _∙_}
-use Prim.Native.Nat.{ℕ, suc, _+_, _-_, _≤_, _<_}
+use Prim.Native.Nat.{ℕ, _+_, _-_, _≤_, _<_}
 use native.Mathlib.Omega.{arith}
 use native.Mathlib.Decide.{decLt}
 use lib.Dec.{eqb}
 use lib.ListN.{length, getD, take, drop, replicate, length-append, length-replicate, length-drop, getD-replicate, List·getD-append, List·getD-eq-default}
-use lib.Seq.{getD-append-add, drop-append-le, take-at, take-append-seam, length-take-le}
+use lib.Seq.{getD-append-add, drop-append-le, take-at}
 use Rattle.model.specs.Model.{Model}
 use Rattle.model.specs.Sheet.{Told, Refusal, verdict, settle, done, refused}
 use Rattle.model.specs.Questions.{ask}
@@ -22,7 +21,10 @@ use Rattle.words.proofs.Tables.{takes-enough}
 use Rattle.reading.specs.Form.{Parsed, line, noLine, parse, Written, render}
 use Rattle.reading.specs.Holding.{padded, full, blank, held}
 use Rattle.reading.specs.declared.Line.{Line}
+use Rattle.meaning.specs.Meaning.{meant}
+use Rattle.meaning.specs.declared.Meant.{Meant}
 use Rattle.reading.proofs.Back.{parsed-written}
+use Rattle.script.specs.Script.{obey, obeyed, doing}
 
 -- ---- the numbers of a line in their array
 
@@ -123,23 +125,23 @@ module _ (text : List ℕ) (l : Line) (r : Reads text l) where
   written : Written text (l .word) ns
   written = parsed-written text (l .word) ns (r .is)
 
-  pub known : l .word < 41
+  known : l .word < 41
   known = written .known
 
-  pub few : length ns ≤ 256
+  few : length ns ≤ 256
   unfolding render
   few = omega (arith, written .short, ap length (written .is), length-append (spelling (l .word)) (numbered ns), numbered-long ns)
 
   pub enough : wordOf (l .word) .numbers ≤ l .count
   enough = omega (arith, takes-enough (l .word) (length ns) (written .fits), r .count)
 
-  pub long : length (l .numbers) ≡ 256
+  long : length (l .numbers) ≡ 256
   long = ap length (r .numbers) ∙ padded-long ns few
 
-  pub at : (i : ℕ) → getD (l .numbers) i 0 ≡ getD ns i 0
+  at : (i : ℕ) → getD (l .numbers) i 0 ≡ getD ns i 0
   at i = ap (λ (x : List ℕ). getD x i 0) (r .numbers) ∙ padded-at ns few i
 
-  pub list : (from : ℕ) → from ≡ wordOf (l .word) .numbers → take (l .count - from) (drop from (l .numbers)) ≡ drop (wordOf (l .word) .numbers) ns
+  list : (from : ℕ) → from ≡ wordOf (l .word) .numbers → take (l .count - from) (drop from (l .numbers)) ≡ drop (wordOf (l .word) .numbers) ns
   list from e =
       ap₂ (λ (n : ℕ) (x : List ℕ). take (n - from) (drop from x)) (r .count) (r .numbers) ∙ padded-list ns few from (omega (arith, enough, e, r .count))
       ∙ ap (λ (n : ℕ). drop n ns) e
@@ -147,3 +149,8 @@ module _ (text : List ℕ) (l : Line) (r : Reads text l) where
   -- the room is enough for the list
   pub room : l .count ≤ length (l .numbers)
   room = omega (arith, few, r .count, long)
+
+  -- what the text tells: what its command or question tells, by the numbers that the code holds
+  pub obeys : (m : Model) (x : Meant) (from : ℕ) → x ≡ meant (l .word) (getD (l .numbers) 0 0) (getD (l .numbers) 1 0) (getD (l .numbers) 2 0) → from ≡ wordOf (l .word) .numbers → obey m text ≡ doing m x (take (l .count - from) (drop from (l .numbers)))
+  unfolding obey
+  obeys m x from e f = ap (obeyed m) (r .is) ∙ rw (e, at 0, at 1, at 2, list from f)
