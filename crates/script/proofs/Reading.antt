@@ -1,19 +1,13 @@
--- What a line's numbers are, as the code holds them, and what a question leaves. Assumes nothing.
+-- What a line's numbers are, as the code holds them, and what it tells by them. Assumes nothing.
 use mathlib.Core.Bool.{Bool, true, false}
 use mathlib.Core.List.{List, [], _++_}
 use mathlib.Core.Path.{_≡_, refl, sym, ap, ap₂, _∙_}
 use Prim.Native.Nat.{ℕ, _+_, _-_, _≤_, _<_}
 use native.Mathlib.Omega.{arith}
 use native.Mathlib.Decide.{decLt}
-use lib.Dec.{eqb}
 use lib.ListN.{length, getD, take, drop, replicate, length-append, length-replicate, length-drop, getD-replicate, List·getD-append, List·getD-eq-default}
 use lib.Seq.{getD-append-add, drop-append-le, take-at}
 use Rattle.model.specs.Model.{Model}
-use Rattle.model.specs.Sheet.{Told, Refusal, verdict, settle, done, refused}
-use Rattle.model.specs.Questions.{ask}
-use Rattle.model.specs.commands.Sessions.{check}
-use Rattle.model.specs.declared.Question.{Question}
-use Rattle.model.specs.declared.Question.the-variants.{Check, AssignedUsers, AssignedRoles, AuthUsers, AuthRoles, RolePerms, UserPerms, SessionRoles, SessionPerms, RoleOps, UserOps, Sets, SetRoles, SetCount}
 use Rattle.decimal.specs.Decimal.{numbered}
 use Rattle.decimal.proofs.Laws.{numbered-long}
 use Rattle.words.specs.Words.{wordOf, spelling}
@@ -57,33 +51,6 @@ module _ (ns : List ℕ) (h : length ns ≤ 256) where
 pub padded-long : (ns : List ℕ) → length ns ≤ 256 → length (padded ns) ≡ 256
 unfolding padded
 padded-long ns h = omega (arith, length-append ns (replicate (256 - length ns) 0), length-replicate {A = ℕ} (256 - length ns) 0)
-
--- ---- questions change nothing
-
-same : (rs : List Refusal) (m : Model) (list : List ℕ) → settle rs m list m .after ≡ m
-unfolding settle
-same rs m list = go (eqb (verdict rs) 0)
-  where
-    go : (t : Bool) → elim t as (λ _. Told) [ true ↦ done list m | false ↦ refused (verdict rs) m ] .after ≡ m
-    go true = refl
-    go false = refl
-
-pub asked-same : (m : Model) (room : ℕ) (q : Question) → ask m room q .after ≡ m
-unfolding ask check
-asked-same m room (Check s op obj) = same _ _ _
-asked-same m room (AssignedUsers r) = same _ _ _
-asked-same m room (AssignedRoles u) = same _ _ _
-asked-same m room (AuthUsers r) = same _ _ _
-asked-same m room (AuthRoles u) = same _ _ _
-asked-same m room (RolePerms r) = same _ _ _
-asked-same m room (UserPerms u) = same _ _ _
-asked-same m room (SessionRoles s) = same _ _ _
-asked-same m room (SessionPerms s) = same _ _ _
-asked-same m room (RoleOps r obj) = same _ _ _
-asked-same m room (UserOps u obj) = same _ _ _
-asked-same m room (Sets kind) = same _ _ _
-asked-same m room (SetRoles kind name) = same _ _ _
-asked-same m room (SetCount kind name) = same _ _ _
 
 -- ---- the line that was read
 

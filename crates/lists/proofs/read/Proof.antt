@@ -22,12 +22,6 @@ abbrev μ-loop : tie.MeasureT-loop
 loop-holds : tie.Need-loop-holds Inv-loop μ-loop
 loop-holds c = ((omega arith, omega arith), refl, refl, joining-start _)
 
-mul-r : tie.Need-mul-r Inv-loop μ-loop
-mul-r c = search needs
-
-shared-slice-read-r : tie.Need-shared-slice-read-r Inv-loop μ-loop
-shared-slice-read-r c = search needs
-
 -- the number read is a 16-bit one
 small : (c : tie.After-shared-slice-known2 Inv-loop μ-loop) → getD (c .before .before .before .before .args .list .now) (c .before .before .loop .i) 0 < 2 ^ 16
 small c = omega (arith, c .shared-slice-known2 .given (c .before .before .loop .i))
@@ -35,20 +29,11 @@ small c = omega (arith, c .shared-slice-known2 .given (c .before .before .loop .
 cast-if1 : tie.Need-cast-if1 Inv-loop μ-loop
 cast-if1 c = omega (arith, small c)
 
-with-requires : tie.Need-with-requires Inv-loop μ-loop
-with-requires c κs = search needs
-
 cast-bound : tie.Need-cast-bound Inv-loop μ-loop
 cast-bound c = omega (arith, small (c .before .before .before))
 
 add-bound : tie.Need-add-bound Inv-loop μ-loop
 add-bound c = omega (arith, small (c .before .before .before))
-
-add-i : tie.Need-add-i Inv-loop μ-loop
-add-i c = search needs
-
-loop-less : tie.Need-loop-less Inv-loop μ-loop
-loop-less c = search needs
 
 loop-again : tie.Need-loop-again Inv-loop μ-loop
 loop-again c =
@@ -83,13 +68,13 @@ read-spec =
     Inv-loop
     μ-loop
     loop-holds
-    mul-r
-    shared-slice-read-r
+    (λ c. search needs)
+    (λ c. search needs)
     cast-if1
-    with-requires
+    (λ c κs. search needs)
     cast-bound
     add-bound
-    add-i
-    loop-less
+    (λ c. search needs)
+    (λ c. search needs)
     loop-again
     returns)

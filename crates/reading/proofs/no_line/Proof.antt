@@ -1,4 +1,3 @@
-use borrow.Author.Needs.{needs}
 use mathlib.Core.Path.{refl}
 use Rattle.reading.specs.Holding.{blank}
 use Rattle.reading.proofs.no_line.Statement.{statement}

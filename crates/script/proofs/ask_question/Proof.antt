@@ -8,10 +8,10 @@ use lib.Dec.{eqb}
 use lib.ListN.{length, take, drop, replicate, length-replicate, length-append}
 use lib.Seq.{length-take-le, take-append-seam}
 use Rattle.model.specs.Questions.{ask}
+use Rattle.model.proofs.Asking.{asked-same}
 use Rattle.policy.specs.View.{view}
 use Rattle.reviews.specs.Reviewing.{Reviewed}
 use Rattle.reviews.proofs.Promised.{asked-with-room, results-fit}
-use Rattle.script.proofs.Reading.{asked-same}
 use Rattle.script.proofs.ask_question.Statement.{statement}
 use Rattle.script.proofs.ask_question.Tie as tie
 

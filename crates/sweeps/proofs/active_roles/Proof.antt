@@ -20,24 +20,6 @@ abbrev μ-loop : tie.MeasureT-loop
 loop-holds : tie.Need-loop-holds Inv-loop μ-loop
 loop-holds c = (omega arith, swept-start 0 _ _ 64 _ (omega arith) (zeros 64))
 
-mul-session : tie.Need-mul-session Inv-loop μ-loop
-mul-session c = search needs
-
-array-copy-out-session : tie.Need-array-copy-out-session Inv-loop μ-loop
-array-copy-out-session c = search needs
-
-mul-table : tie.Need-mul-table Inv-loop μ-loop
-mul-table c = search needs
-
-array-write-table : tie.Need-array-write-table Inv-loop μ-loop
-array-write-table c = search needs
-
-add-k : tie.Need-add-k Inv-loop μ-loop
-add-k c = search needs
-
-loop-less : tie.Need-loop-less Inv-loop μ-loop
-loop-less c = search needs
-
 loop-again : tie.Need-loop-again Inv-loop μ-loop
 loop-again c =
     let at = c .before .before in
@@ -59,11 +41,11 @@ active-roles-spec =
     Inv-loop
     μ-loop
     loop-holds
-    mul-session
-    array-copy-out-session
-    mul-table
-    array-write-table
-    add-k
-    loop-less
+    (λ c. search needs)
+    (λ c. search needs)
+    (λ c. search needs)
+    (λ c. search needs)
+    (λ c. search needs)
+    (λ c. search needs)
     loop-again
     returns)

@@ -28,27 +28,6 @@ abbrev μ-loop : tie.MeasureT-loop
 loop-holds : tie.Need-loop-holds Inv-loop μ-loop
 loop-holds c = (omega arith, swept-start 0 _ _ 256 _ (omega arith) (zeros 256), sym (some-start _))
 
-mul-reach : tie.Need-mul-reach Inv-loop μ-loop
-mul-reach c = search needs
-
-element-copy-out-reach : tie.Need-element-copy-out-reach Inv-loop μ-loop
-element-copy-out-reach c = search needs
-
-reach-requires : tie.Need-reach-requires Inv-loop μ-loop
-reach-requires c κs = search needs
-
-mul-roles : tie.Need-mul-roles Inv-loop μ-loop
-mul-roles c = search needs
-
-array-write-roles : tie.Need-array-write-roles Inv-loop μ-loop
-array-write-roles c = search needs
-
-add-u : tie.Need-add-u Inv-loop μ-loop
-add-u c = search needs
-
-loop-less : tie.Need-loop-less Inv-loop μ-loop
-loop-less c = search needs
-
 loop-again : tie.Need-loop-again Inv-loop μ-loop
 loop-again c =
     let at = c .before .before .before .before in
@@ -74,12 +53,12 @@ authorised-all-spec =
     Inv-loop
     μ-loop
     loop-holds
-    mul-reach
-    element-copy-out-reach
-    reach-requires
-    mul-roles
-    array-write-roles
-    add-u
-    loop-less
+    (λ c. search needs)
+    (λ c. search needs)
+    (λ c κs. search needs)
+    (λ c. search needs)
+    (λ c. search needs)
+    (λ c. search needs)
+    (λ c. search needs)
     loop-again
     returns)

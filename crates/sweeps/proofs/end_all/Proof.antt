@@ -23,27 +23,6 @@ abbrev μ-loop : tie.MeasureT-loop
 loop-holds : tie.Need-loop-holds Inv-loop μ-loop
 loop-holds c = (omega arith, swept-start noSession _ _ 64 _ (omega arith) (λ k. refl))
 
-mul-session : tie.Need-mul-session Inv-loop μ-loop
-mul-session c = search needs
-
-array-copy-out-session : tie.Need-array-copy-out-session Inv-loop μ-loop
-array-copy-out-session c = search needs
-
-cast-if2 : tie.Need-cast-if2 Inv-loop μ-loop
-cast-if2 c = search needs
-
-mul-after : tie.Need-mul-after Inv-loop μ-loop
-mul-after c = search needs
-
-array-set-from-after : tie.Need-array-set-from-after Inv-loop μ-loop
-array-set-from-after c = search needs
-
-add-k : tie.Need-add-k Inv-loop μ-loop
-add-k c = search needs
-
-loop-less : tie.Need-loop-less Inv-loop μ-loop
-loop-less c = search needs
-
 loop-again : tie.Need-loop-again Inv-loop μ-loop
 loop-again c =
     let at = c .before .before .before in
@@ -72,12 +51,12 @@ end-all-spec =
     Inv-loop
     μ-loop
     loop-holds
-    mul-session
-    array-copy-out-session
-    cast-if2
-    mul-after
-    array-set-from-after
-    add-k
-    loop-less
+    (λ c. search needs)
+    (λ c. search needs)
+    (λ c. search needs)
+    (λ c. search needs)
+    (λ c. search needs)
+    (λ c. search needs)
+    (λ c. search needs)
     loop-again
     returns)

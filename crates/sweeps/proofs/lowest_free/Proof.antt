@@ -19,25 +19,10 @@ abbrev μ-loop : tie.MeasureT-loop
 loop-holds : tie.Need-loop-holds Inv-loop μ-loop
 loop-holds c = (omega arith, refl)
 
-cast-session : tie.Need-cast-session Inv-loop μ-loop
-cast-session c = search needs
-
-mul-session : tie.Need-mul-session Inv-loop μ-loop
-mul-session c = search needs
-
-array-copy-out-session : tie.Need-array-copy-out-session Inv-loop μ-loop
-array-copy-out-session c = search needs
-
 returns : tie.Need-returns Inv-loop μ-loop
 returns c =
     let at = c .before .before .before .before in
     sym (look-found (sessionsIn (at .before .args .t1)) (at .loop .k) (omega arith) (not-true _ (c .if1 .taken))) ∙ at .loop .inv .1
-
-add-k : tie.Need-add-k Inv-loop μ-loop
-add-k c = search needs
-
-loop-less : tie.Need-loop-less Inv-loop μ-loop
-loop-less c = search needs
 
 loop-again : tie.Need-loop-again Inv-loop μ-loop
 loop-again c =
@@ -57,11 +42,11 @@ lowest-free-spec =
     Inv-loop
     μ-loop
     loop-holds
-    cast-session
-    mul-session
-    array-copy-out-session
+    (λ c. search needs)
+    (λ c. search needs)
+    (λ c. search needs)
     returns
-    add-k
-    loop-less
+    (λ c. search needs)
+    (λ c. search needs)
     loop-again
     returns-2)

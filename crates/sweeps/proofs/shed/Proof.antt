@@ -36,39 +36,6 @@ abbrev μ-loop : tie.MeasureT-loop
 loop-holds : tie.Need-loop-holds Inv-loop μ-loop
 loop-holds c = (omega arith, swept-start noSession _ _ 64 _ (omega arith) (λ k. refl), sym (some-start _))
 
-mul-session : tie.Need-mul-session Inv-loop μ-loop
-mul-session c = search needs
-
-array-copy-out-session : tie.Need-array-copy-out-session Inv-loop μ-loop
-array-copy-out-session c = search needs
-
-cast-reach : tie.Need-cast-reach Inv-loop μ-loop
-cast-reach c = search needs
-
-mul-reach : tie.Need-mul-reach Inv-loop μ-loop
-mul-reach c = search needs
-
-element-copy-out-reach : tie.Need-element-copy-out-reach Inv-loop μ-loop
-element-copy-out-reach c = search needs
-
-reach-requires : tie.Need-reach-requires Inv-loop μ-loop
-reach-requires c κs = search needs
-
-both-requires : tie.Need-both-requires Inv-loop μ-loop
-both-requires c κs = search needs
-
-mul-after : tie.Need-mul-after Inv-loop μ-loop
-mul-after c = search needs
-
-array-set-from-after : tie.Need-array-set-from-after Inv-loop μ-loop
-array-set-from-after c = search needs
-
-add-k : tie.Need-add-k Inv-loop μ-loop
-add-k c = search needs
-
-loop-less : tie.Need-loop-less Inv-loop μ-loop
-loop-less c = search needs
-
 loop-again : tie.Need-loop-again Inv-loop μ-loop
 loop-again c =
     let at = c .before .before .before in
@@ -100,16 +67,16 @@ shed-spec =
     Inv-loop
     μ-loop
     loop-holds
-    mul-session
-    array-copy-out-session
-    cast-reach
-    mul-reach
-    element-copy-out-reach
-    reach-requires
-    both-requires
-    mul-after
-    array-set-from-after
-    add-k
-    loop-less
+    (λ c. search needs)
+    (λ c. search needs)
+    (λ c. search needs)
+    (λ c. search needs)
+    (λ c. search needs)
+    (λ c κs. search needs)
+    (λ c κs. search needs)
+    (λ c. search needs)
+    (λ c. search needs)
+    (λ c. search needs)
+    (λ c. search needs)
     loop-again
     returns)
