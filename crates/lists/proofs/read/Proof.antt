@@ -1,5 +1,4 @@
--- `lists::read` meets its contract. The loop's invariant: each finding so far, with what the rest of the list holds, is that of the whole list. The measure is
--- what is left of the list. Assumes nothing.
+-- What was found in the part read, with what the rest holds, is what the whole list holds. Assumes nothing.
 use borrow.Author.Needs.{needs}
 use mathlib.Core.Bool.{_&&_, _||_}
 use mathlib.Core.Logic.{⊎-elim}

@@ -1,15 +1,8 @@
+-- As many roles in common as the cardinality, counted. Assumes nothing.
 use borrow.Author.Needs.{needs}
-use borrow.Author.Tests.{le-leb}
-use mathlib.Core.Path.{refl}
 use Rattle.model.specs.Words.{breaks}
 use Rattle.separation.proofs.breaks.Statement.{statement}
 use Rattle.separation.proofs.breaks.Tie as tie
-
-both-requires : tie.Need-both-requires
-both-requires c κs = search needs
-
-count-requires : tie.Need-count-requires
-count-requires c κs = search needs
 
 returns : tie.Need-returns
 unfolding breaks
@@ -20,4 +13,4 @@ unfolding breaks
 returns-2 c = rw (c .if1 .left)
 
 pub breaks-spec : {M : Type 1} → statement M
-breaks-spec = tie.close (tie.spec both-requires count-requires returns returns-2)
+breaks-spec = tie.close (tie.spec (λ c κs. search needs) (λ c κs. search needs) returns returns-2)

@@ -1,3 +1,4 @@
+-- The sets are asked one by one: none that was passed is broken. Assumes nothing.
 use borrow.Author.Needs.{needs}
 use mathlib.Core.Bool.{false}
 use mathlib.Core.Path.{_≡_, sym, _∙_}
@@ -19,27 +20,12 @@ abbrev μ-loop : tie.MeasureT-loop
 loop-holds : tie.Need-loop-holds Inv-loop μ-loop
 loop-holds c = (search needs, some-start _)
 
-mul-set : tie.Need-mul-set Inv-loop μ-loop
-mul-set c = search needs
-
-array-copy-out-set : tie.Need-array-copy-out-set Inv-loop μ-loop
-array-copy-out-set c = search needs
-
-breaks-requires : tie.Need-breaks-requires Inv-loop μ-loop
-breaks-requires c κs = search needs
-
 returns : tie.Need-returns Inv-loop μ-loop
 unfolding breaksSome
 returns c =
     let at = c .before .before .before .before .before .args in
     let n = c .before .before .before .before .loop .n in
     sym (some-intro 16 (λ k. breaks (setsIn (at .t1) k) (at .held)) n (c .before .before .before .loop-test .taken) (sym (c .before .breaks .ensures) ∙ c .if1 .taken))
-
-add-n : tie.Need-add-n Inv-loop μ-loop
-add-n c = search needs
-
-loop-less : tie.Need-loop-less Inv-loop μ-loop
-loop-less c = search needs
 
 loop-again : tie.Need-loop-again Inv-loop μ-loop
 loop-again c = (search needs, some-more _ _ (c .before .before .before .before .loop .inv .1) (sym (c .before .breaks .ensures) ∙ c .if1 .left))
@@ -55,11 +41,11 @@ breaks-some-spec =
     Inv-loop
     μ-loop
     loop-holds
-    mul-set
-    array-copy-out-set
-    breaks-requires
+    (λ c. search needs)
+    (λ c. search needs)
+    (λ c κs. search needs)
     returns
-    add-n
-    loop-less
+    (λ c. search needs)
+    (λ c. search needs)
     loop-again
     returns-2)

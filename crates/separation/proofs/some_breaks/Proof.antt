@@ -1,3 +1,4 @@
+-- The entries are asked one by one: none that was passed breaks the set. Assumes nothing.
 use borrow.Author.Needs.{needs}
 use mathlib.Core.Bool.{false}
 use mathlib.Core.Path.{_≡_, sym, _∙_}
@@ -20,23 +21,8 @@ abbrev μ-loop : tie.MeasureT-loop
 loop-holds : tie.Need-loop-holds Inv-loop μ-loop
 loop-holds c = (search needs, some-start _)
 
-mul : tie.Need-mul-breaks Inv-loop μ-loop
-mul c = search needs
-
-read : tie.Need-shared-slice-read-breaks Inv-loop μ-loop
-read c = search needs
-
-requires : tie.Need-breaks-requires Inv-loop μ-loop
-requires c κs = search needs
-
 returns : tie.Need-returns Inv-loop μ-loop
 returns c = sym (some-intro _ _ (c .before .before .before .before .loop .k) (c .before .before .before .loop-test .taken) (sym (c .before .breaks .ensures) ∙ c .if1 .taken))
-
-add-k : tie.Need-add-k Inv-loop μ-loop
-add-k c = search needs
-
-loop-less : tie.Need-loop-less Inv-loop μ-loop
-loop-less c = search needs
 
 loop-again : tie.Need-loop-again Inv-loop μ-loop
 loop-again c = (search needs, some-more _ _ (c .before .before .before .before .loop .inv .1) (sym (c .before .breaks .ensures) ∙ c .if1 .left))
@@ -45,4 +31,4 @@ returns-2 : tie.Need-returns-2 Inv-loop μ-loop
 returns-2 c = let whole : c .before .loop .k ≡ length (c .before .before .before .args .table .now) = omega arith in sym (rw whole at (c .before .loop .inv .1))
 
 pub some-breaks-spec : {M : Type 1} → statement M
-some-breaks-spec = tie.close (tie.spec Inv-loop μ-loop loop-holds mul read requires returns add-k loop-less loop-again returns-2)
+some-breaks-spec = tie.close (tie.spec Inv-loop μ-loop loop-holds (λ c. search needs) (λ c. search needs) (λ c κs. search needs) returns (λ c. search needs) (λ c. search needs) loop-again returns-2)

@@ -1,5 +1,4 @@
--- `sweeps::active_roles` meets its contract. The loop's invariant: the places passed hold their sessions' active roles. The measure is what is left of 64.
--- Assumes nothing.
+-- The places passed hold their sessions' active roles. Assumes nothing.
 use borrow.Author.Needs.{needs}
 use mathlib.Core.Path.{_≡_, refl, sym, ap}
 use Prim.Native.Nat.{_≤_, _<_, _-_}

@@ -1,5 +1,4 @@
--- `sweeps::authorised_all` meets its contract. The loop's invariant: the places passed hold what their users' walks meet, and the flag says whether one of
--- those was cut off. The measure is what is left of 256. Assumes nothing.
+-- The places passed hold what their users' walks meet, and the flag says whether one of them was cut off. Assumes nothing.
 use borrow.Author.Needs.{needs}
 use mathlib.Core.List.{List}
 use mathlib.Core.Logic.{⊎-elim}

@@ -1,5 +1,4 @@
--- `sweeps::end_all` meets its contract. The loop's invariant: the sessions passed are ended if they are the user's, and the others as before. The measure is
--- what is left of 64. Assumes nothing.
+-- The sessions passed are ended where they are the user's, and the others are as before. Assumes nothing.
 use borrow.Author.Needs.{needs}
 use mathlib.Core.Logic.{⊎-elim}
 use mathlib.Core.Path.{_≡_, refl, ap}

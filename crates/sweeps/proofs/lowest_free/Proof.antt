@@ -1,4 +1,4 @@
--- `sweeps::lowest_free` meets its contract. The loop's invariant: looking from k on finds what is asked. The measure is what is left of 64. Assumes nothing.
+-- Looking from the place on finds what is asked. Assumes nothing.
 use borrow.Author.Needs.{needs}
 use mathlib.Core.Path.{_≡_, refl, sym, _∙_}
 use Prim.Native.Nat.{_≤_, _-_}

@@ -1,5 +1,4 @@
--- `sweeps::shed` meets its contract. The loop's invariant: the sessions passed are shedded and the others as before; the flag says whether a walk of one
--- passed was cut off. The measure is what is left of 64. Assumes nothing.
+-- The sessions passed have shed their roles, the others are as before, and the flag says whether a walk was cut off. Assumes nothing.
 use borrow.Author.Needs.{needs}
 use mathlib.Core.Bool.{Bool, true, false, _&&_}
 use mathlib.Core.List.{List}

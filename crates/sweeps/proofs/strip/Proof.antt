@@ -1,5 +1,4 @@
--- `sweeps::strip` meets its contract. The loop's invariant: the sets passed are without the role, and the others as before. The measure is what is left of
--- the table. Assumes nothing.
+-- The sets passed are without the role, and the others are as before. Assumes nothing.
 use borrow.Author.Needs.{needs}
 use mathlib.Core.Path.{refl, sym, ap, _∙_}
 use Prim.Native.Nat.{ℕ, _≤_, _<_, _-_}
