@@ -1,3 +1,4 @@
+-- The digits passed have given their value, and the others are still to be taken. Assumes nothing.
 use borrow.Author.Needs.{needs}
 use mathlib.Core.Path.{_≡_, refl}
 use Prim.Native.Nat.{_≤_, _<_, _-_}

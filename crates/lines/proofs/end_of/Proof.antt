@@ -1,3 +1,4 @@
+-- No byte that was passed is a stop byte. Assumes nothing.
 use borrow.Author.Needs.{needs}
 use mathlib.Core.Path.{_≡_, refl, ap}
 use Prim.Native.Nat.{_+_, _≤_, _<_, _-_}

@@ -1,6 +1,4 @@
--- `lines::tallied` meets its contract: a walk of its MIR, by hand. The tally is copied into a local, which is lent to `bump` for a lifetime that is made for the
--- call; what lies in the local afterwards is what `bump` left there, and is returned. All that the proof knows of `bump` is that it meets its contract.
--- Assumes nothing.
+-- A walk of the code by hand: the tally is copied into a local that is lent to `bump`, and what that leaves is returned. Assumes nothing.
 use mathlib.Core.Bool.{Bool}
 use mathlib.Core.Path.{_≡_, refl}
 use Prim.Native.Nat.{ℕ}

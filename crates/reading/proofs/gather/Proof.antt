@@ -1,3 +1,4 @@
+-- The parts between the spaces are taken one by one: the first for a word, the others for numbers. Assumes nothing.
 use borrow.Author.Needs.{needs}
 use mathlib.Core.Path.{_≡_, sym, ap, _∙_}
 use Prim.Native.Nat.{ℕ, _-_}

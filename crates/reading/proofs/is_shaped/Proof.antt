@@ -1,3 +1,4 @@
+-- There is such a word, and so many numbers may follow it. Assumes nothing.
 use borrow.Author.Needs.{needs}
 use mathlib.Core.Path.{sym, _∙_}
 use borrow.Author.Tests.{lt-ltb, le-ltb}

@@ -1,3 +1,4 @@
+-- What was gathered is a line exactly where its rendering is the text. Assumes nothing.
 use borrow.Author.Needs.{needs}
 use mathlib.Core.List.{List}
 use mathlib.Core.Path.{_≡_, sym, ap, ap₂, _∙_}
