@@ -1,3 +1,4 @@
+-- The first n bytes are there where the buffer is so long. Assumes nothing.
 use borrow.Author.Needs.{needs}
 use mathlib.Core.Path.{sym}
 use lib.Seq.{length-take-le}
