@@ -48,6 +48,7 @@ fn refuse() {
     write_total(Tally { done: 0, others: 1 });
 }
 
+// One byte more than the longest script is asked for, to tell a longer one.
 fn main() {
     let mut input = [0u8; 32769];
     let n = io::read_full(STDIN_FILENO, &mut input);

@@ -2,14 +2,14 @@
 use mathlib.Core.Bool.{Bool, true, false}
 use mathlib.Core.List.{List, [], _∷_, _++_, append-assoc, append-nil}
 use mathlib.Core.Path.{_≡_, refl, sym, ap, ap₂, _∙_}
-use Prim.Native.Nat.{ℕ, suc, _+_, _*_, _/_, _%_, _-_, _≤_, _<_, min}
+use Prim.Native.Nat.{ℕ, suc, _+_, _*_, _/_, _%_, _-_, _≤_, _<_}
 use native.Mathlib.Nat.{add-zero, add-suc, suc-add}
 use native.Mathlib.Numerals.{add-one}
 use native.Mathlib.Omega.{arith}
 use native.Mathlib.Decide.{decLe, decLt}
 use lib.Dec.{leb}
-use lib.ListN.{length, set, getD, take, length-append, length-set, length-take}
-use lib.Seq.{sets, set-out, sets-eq, length-sets, take-append-seam, take-suc, length-take-le, take-all}
+use lib.ListN.{length, set, getD, take, length-append}
+use lib.Seq.{sets, set-out, sets-eq, length-sets, take-append-seam, take-suc}
 use borrow.Author.Tests.{le-leb, lt-leb}
 use Rattle.decimal.specs.Decimal.{digit, lead, decimal, numbered, taken, takenFrom, value, space}
 use Rattle.decimal.specs.Putting.{Put}

@@ -22,9 +22,10 @@ use Rattle.model.specs.declared.Command.the-variants.{AddUser, AddRole, NoUser,
 use Rattle.model.specs.declared.Kind.the-variants.{Static, Dynamic}
 use Rattle.model.specs.declared.Question.{Question}
 use Rattle.model.specs.declared.Question.the-variants.{Check, AssignedUsers, AssignedRoles, AuthUsers, AuthRoles, RolePerms, UserPerms, SessionRoles, SessionPerms, RoleOps, UserOps, Sets, SetRoles, SetCount}
+use Rattle.model.proofs.Asking.{asked-same}
 use Rattle.policyform.specs.Promises.{Loads}
 use Rattle.policyform.specs.Rules.{rulesBroken}
-use Rattle.sound.proofs.Sheet.{refusal-changes-nothing, settle-answer, settle-same}
+use Rattle.sound.proofs.Sheet.{refusal-changes-nothing, settle-answer}
 use Rattle.demands.specs.Demand1.{Demand1, Harmless}
 
 -- every number of the list is on the sheet
@@ -87,23 +88,6 @@ question-harmless m room (Sets kind) = settled _ m _ _ refl
 question-harmless m room (SetRoles kind name) = settled _ m _ _ refl
 question-harmless m room (SetCount kind name) = settled _ m _ _ refl
 
-asking : (m : Model) (room : ℕ) (q : Question) → ask m room q .after ≡ m
-unfolding ask check
-asking m room (Check s op obj) = settle-same _ m _
-asking m room (AssignedUsers r) = settle-same _ m _
-asking m room (AssignedRoles u) = settle-same _ m _
-asking m room (AuthUsers r) = settle-same _ m _
-asking m room (AuthRoles u) = settle-same _ m _
-asking m room (RolePerms r) = settle-same _ m _
-asking m room (UserPerms u) = settle-same _ m _
-asking m room (SessionRoles s) = settle-same _ m _
-asking m room (SessionPerms s) = settle-same _ m _
-asking m room (RoleOps r obj) = settle-same _ m _
-asking m room (UserOps u obj) = settle-same _ m _
-asking m room (Sets kind) = settle-same _ m _
-asking m room (SetRoles kind name) = settle-same _ m _
-asking m room (SetCount kind name) = settle-same _ m _
-
 -- whatever a load tells is harmless: of the form, it is settled; not of the form, it is 14
 load-harmless : (m : Model) (bytes : List ℕ) (told : Told) → Loads m bytes told → Harmless m told
 unfolding rulesBroken
@@ -112,4 +96,4 @@ load-harmless m bytes told (inr h) = rw (h .tells) (settled (rulesBroken (h .mod
 
 -- after any answer but 0 the policy, the sessions and the results are what they were: all commands and all questions
 pub demand1 : Demand1
-demand1 = record { commands = command-harmless; questions = question-harmless; loads = load-harmless; asking = asking }
+demand1 = record { commands = command-harmless; questions = question-harmless; loads = load-harmless; asking = asked-same }

@@ -1,5 +1,4 @@
--- The answers and the numbers 0 to 15 are one to one.
--- Assumes nothing.
+-- The answers and the numbers 0 to 15 are one to one. Assumes nothing.
 use mathlib.Core.Path.{_≡_, refl, sym, ap, _∙_}
 use mathlib.Core.List.{List, [], _∷_}
 use Prim.Native.Nat.{ℕ, zero, suc, _+_, _<_}

@@ -3,7 +3,7 @@ use mathlib.Core.Bool.{Bool, false}
 use mathlib.Core.Path.{_≡_, ap}
 use Prim.Native.Nat.{ℕ, _<_}
 use lib.ListN.{length, set}
-use Rattle.model.specs.Model.{Model, RoleSet, Session, noSet, noSession, put, withUsers, withJuniors, withAssigned, withHolders, withSsd, withDsd, withSessions}
+use Rattle.model.specs.Model.{RoleSet, Session, noSet, noSession, put, withUsers, withJuniors, withAssigned, withHolders, withSsd, withDsd, withSessions}
 use Rattle.policy.specs.declared.State.{State}
 use Rattle.policy.specs.View.{view}
 use Rattle.policy.proofs.Tables.{set-put}

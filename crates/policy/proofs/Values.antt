@@ -1,19 +1,16 @@
 -- Values of the type `State`: their lengths, and that a value is fixed by what it means. Assumes nothing.
-use mathlib.Core.Bool.{Bool, false}
+use mathlib.Core.Bool.{false}
 use mathlib.Core.List.{List}
-use mathlib.Core.Path.{_≡_, refl, sym, ap, _∙_}
-use Prim.Native.Nat.{ℕ}
-use lib.ListN.{length, length-map}
+use mathlib.Core.Path.{_≡_, sym, ap, _∙_}
+use lib.ListN.{length-map}
 use mir.Val.{Val}
 use denote.Laws.{Is}
 use denote.Struct.Declared.{row}
-use Rattle.numbers.specs.Answers.{numberOf}
-use Rattle.numbers.specs.declared.Answer.{Answer}
 use Rattle.numbers.proofs.Answers.{number-one-to-one}
-use Rattle.model.specs.Model.{Model, RoleSet, Session, noSet, noSession}
+use Rattle.model.specs.Model.{Model, noSet, noSession}
 use Rattle.model.specs.Sheet.{Told}
 use Rattle.policy.specs.Sized.{Sized}
-use Rattle.policy.specs.View.{view, seen, flags, sessionsIn}
+use Rattle.policy.specs.View.{view, seen}
 use Rattle.policy.specs.declared.State.{State}
 use Rattle.policy.specs.declared.Outcome.{Outcome}
 use Rattle.policy.proofs.State.{the-type}

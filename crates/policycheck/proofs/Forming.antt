@@ -1,5 +1,5 @@
 -- From what the tests find to the form of a policy file, and back. Assumes nothing.
-use mathlib.Core.Bool.{Bool, true, false, not}
+use mathlib.Core.Bool.{Bool, true, false}
 use mathlib.Core.List.{List}
 use mathlib.Core.Path.{_≡_, refl, sym, ap, _∙_}
 use Prim.Native.Nat.{ℕ, _+_, _≤_, _<_, _^_}
@@ -16,6 +16,7 @@ use Rattle.hierarchy.specs.Lines.{tableOf}
 use Rattle.model.specs.Model.{Model, RoleSet, Session, noSet, noSession}
 use Rattle.model.specs.Sound.{Existing, SessionShape, Limits}
 use Rattle.separation.specs.Tables.{setsIn}
+use Rattle.policy.specs.Sized.{Sized}
 use Rattle.policy.specs.declared.State.{State}
 use Rattle.policy.specs.View.{flags, sessionsIn, view}
 use Rattle.policyform.specs.Form.{SetForm, Formed}
@@ -44,35 +45,27 @@ set-of m n x f = record { absent = f .absent; small = f .small; members = inside
 pub session-of : (m : Model) (n : ℕ) (x : Session) → SessionShape m n x → SessionFine (m .users) (m .roles) x
 session-of m n x f = record { closed = f .closed; owned = f .owned; active = inside m (x .active) (f .active) }
 
-pub formed-view : (s : State) → length (s .users) ≡ 256 → length (s .holders) ≡ 4096 → length (s .ssd) ≡ 16 → length (s .dsd) ≡ 16 → length (s .sessions) ≡ 64 → s .roles < 2 ^ 64 → TablesFine (view s) → Limits (view s) → ((n : ℕ) → SetFine (s .roles) (setsIn (s .ssd) n)) → ((n : ℕ) → SetFine (s .roles) (setsIn (s .dsd) n)) → ((n : ℕ) → SessionFine (flags (s .users)) (s .roles) (sessionsIn (s .sessions) n)) → Formed (view s)
+pub formed-view : (s : State) → Sized s → s .roles < 2 ^ 64 → TablesFine (view s) → Limits (view s) → ((n : ℕ) → SetFine (s .roles) (setsIn (s .ssd) n)) → ((n : ℕ) → SetFine (s .roles) (setsIn (s .dsd) n)) → ((n : ℕ) → SessionFine (flags (s .users)) (s .roles) (sessionsIn (s .sessions) n)) → Formed (view s)
 unfolding view
-formed-view s users holders ssd dsd sessions roles t limits a b x = record {
-  users = λ u e. inside-array (s .users) false u 256 (λ y. y) users refl e;
+formed-view s long roles t limits a b x = record {
+  users = λ u e. inside-array (s .users) false u 256 (λ y. y) (long .users) refl e;
   roles = roles;
   seniors = t .seniors;
   juniors = λ k. existing (view s) (tableOf (s .juniors) k) (t .juniors k);
   assignees = t .assignees;
   assigned = λ k. existing (view s) (tableOf (s .assigned) k) (t .assigned k);
-  permissions = λ p r e. inside-array (s .holders) 0 p 4096 (λ y. has y r) holders (has-none r) e;
+  permissions = λ p r e. inside-array (s .holders) 0 p 4096 (λ y. has y r) (long .holders) (has-none r) e;
   holders = λ k. existing (view s) (tableOf (s .holders) k) (t .holders k);
-  ssd = λ n. record { absent = a n .absent; named = λ e. inside-array (s .ssd) noSet n 16 (λ y. y .there) ssd refl e; small = a n .small; members = existing (view s) (setsIn (s .ssd) n .roles) (a n .members) };
-  dsd = λ n. record { absent = b n .absent; named = λ e. inside-array (s .dsd) noSet n 16 (λ y. y .there) dsd refl e; small = b n .small; members = existing (view s) (setsIn (s .dsd) n .roles) (b n .members) };
-  sessions = λ n. record { closed = x n .closed; numbered = λ e. inside-array (s .sessions) noSession n 64 (λ y. y .live) sessions refl e; owned = x n .owned; active = existing (view s) (sessionsIn (s .sessions) n .active) (x n .active) };
+  ssd = λ n. record { absent = a n .absent; named = λ e. inside-array (s .ssd) noSet n 16 (λ y. y .there) (long .ssd) refl e; small = a n .small; members = existing (view s) (setsIn (s .ssd) n .roles) (a n .members) };
+  dsd = λ n. record { absent = b n .absent; named = λ e. inside-array (s .dsd) noSet n 16 (λ y. y .there) (long .dsd) refl e; small = b n .small; members = existing (view s) (setsIn (s .dsd) n .roles) (b n .members) };
+  sessions = λ n. record { closed = x n .closed; numbered = λ e. inside-array (s .sessions) noSession n 64 (λ y. y .live) (long .sessions) refl e; owned = x n .owned; active = existing (view s) (sessionsIn (s .sessions) n .active) (x n .active) };
   limits = limits;
 }
 
 -- a table that has one member more than the limit, or not
-pub within-limit : (l : List ℕ) (n most : ℕ) (b : Bool) → length l ≡ n → b ≡ leb (most + 1) (total (length l) (λ k. count (tableOf l k))) → b ≡ false → total n (λ k. count (tableOf l k)) ≤ most
-within-limit l n most b long e h = let x = leb-false (most + 1) (total (length l) (λ k. count (tableOf l k))) (sym e ∙ h) in omega (arith, ap (λ (j : ℕ). total j (λ k. count (tableOf l k))) long)
+module _ (l : List ℕ) (n most : ℕ) {b : Bool} (long : length l ≡ n) (e : b ≡ leb (most + 1) (total (length l) (λ k. count (tableOf l k)))) where
+  pub within-limit : b ≡ false → total n (λ k. count (tableOf l k)) ≤ most
+  within-limit h = rw (← long) (let x = leb-false (most + 1) (total (length l) (λ k. count (tableOf l k))) (sym e ∙ h) in omega arith)
 
-pub past-limit : (l : List ℕ) (n most : ℕ) (b : Bool) → length l ≡ n → b ≡ leb (most + 1) (total (length l) (λ k. count (tableOf l k))) → b ≡ true → total n (λ k. count (tableOf l k)) ≤ most → ⊥
-past-limit l n most b long e h few = let x = leb-true (most + 1) (total (length l) (λ k. count (tableOf l k))) (sym e ∙ h) in omega (arith, ap (λ (j : ℕ). total j (λ k. count (tableOf l k))) long)
-
--- a negated test
-pub taken-not : (b : Bool) → not b ≡ true → b ≡ false
-taken-not true e = sym e
-taken-not false e = refl
-
-pub left-not : (b : Bool) → not b ≡ false → b ≡ true
-left-not true e = refl
-left-not false e = sym e
+  pub past-limit : b ≡ true → total n (λ k. count (tableOf l k)) ≤ most → ⊥
+  past-limit h few = let x = leb-true (most + 1) (total (length l) (λ k. count (tableOf l k))) (sym e ∙ h) in let y = rw (← long) at few in omega arith

@@ -75,6 +75,7 @@ fn assignees(assigned: &[u64], users: [bool; 256]) -> bool
     true
 }
 
+// Is the set all zero where it is not there, and are its roles among the roles?
 fn set_fine(set: RoleSet, roles: u64) -> bool
     ensures { λ b. ⌜ Tells b (SetFine roles set) ⌝ }
 {
@@ -84,6 +85,7 @@ fn set_fine(set: RoleSet, roles: u64) -> bool
     if set.card == 0 { set.roles == 0 } else { false }
 }
 
+// Is every set of one kind so?
 fn sets_fine(sets: [RoleSet; 16], roles: u64) -> bool
     ensures { λ b. ⌜ Tells b ((n : ℕ) → SetFine roles (setsIn sets n)) ⌝ }
 {
@@ -99,6 +101,7 @@ fn sets_fine(sets: [RoleSet; 16], roles: u64) -> bool
     true
 }
 
+// Is the session all zero where it is not live, and do its user and its roles exist?
 fn session_fine(session: SessionRecord, users: [bool; 256], roles: u64) -> bool
     ensures { λ b. ⌜ Tells b (SessionFine (flags users) roles session) ⌝ }
 {
@@ -116,6 +119,7 @@ fn session_fine(session: SessionRecord, users: [bool; 256], roles: u64) -> bool
     }
 }
 
+// Is every session so?
 fn sessions_fine(sessions: [SessionRecord; 64], users: [bool; 256], roles: u64) -> bool
     ensures { λ b. ⌜ Tells b ((s : ℕ) → SessionFine (flags users) roles (sessionsIn sessions s)) ⌝ }
 {

@@ -1,24 +1,22 @@
 -- What is written is read back: a line is the rendering of its word and numbers, and of no others. Assumes nothing.
 use mathlib.Core.Bool.{Bool, true, false, _&&_, not}
-use mathlib.Core.List.{List, [], _∷_, _++_, map, append-nil, append-assoc}
+use mathlib.Core.List.{List, [], _∷_, _++_, map, append-nil}
 use mathlib.Core.Path.{_≡_, refl, sym, ap, ap₂, _∙_}
-use Prim.Native.Nat.{ℕ, suc, _+_, _*_, _-_, _≤_, _<_}
-use native.Mathlib.Nat.{add-zero}
+use Prim.Native.Nat.{ℕ, suc, _+_, _-_, _≤_, _<_}
 use native.Mathlib.Numerals.{add-one}
 use native.Mathlib.Omega.{arith}
-use lib.Dec.{T, eqb, leb, ltb}
-use lib.ListN.{length, getD, take, drop, length-append}
+use lib.Dec.{eqb, leb, ltb}
+use lib.ListN.{length, drop}
 use lib.Seq.{drop-append-add}
-use borrow.Author.Tests.{eqb-true, eq-eqb, ne-eqb, le-leb, leb-true, lt-ltb, ltb-true}
+use borrow.Author.Tests.{ne-eqb, le-leb, leb-true, lt-ltb, ltb-true}
 use Rattle.decimal.specs.Decimal.{digit, lead, decimal, numbered, value, taken, takenFrom, space}
-use Rattle.decimal.proofs.Laws.{value-decimal, decimal-long, numbered-long}
-use Rattle.words.specs.Words.{wordCount, spelling, takes, which, words}
-use Rattle.words.specs.Bytes.{same}
+use Rattle.decimal.proofs.Laws.{value-decimal, decimal-long}
+use Rattle.words.specs.Words.{spelling, which, words}
 use Rattle.words.proofs.Laws.{same-equal, same-refl}
 use Rattle.words.proofs.Tables.{which-spelling, lengths, over-words}
-use Rattle.lines.specs.Parts.{joined, partsOf, upTo, partAt, placePast}
-use Rattle.lines.proofs.Laws.{After, after, at-stop, before-stop, cut, kept}
-use Rattle.reading.specs.Form.{render, Small, Written, Parsed, line, noLine, wordIn, numbersIn, shaped, again, parse}
+use Rattle.lines.specs.Parts.{joined, partsOf, upTo, placePast}
+use Rattle.lines.proofs.Laws.{after, at-stop, before-stop, cut, kept}
+use Rattle.reading.specs.Form.{render, Small, Written, line, noLine, wordIn, numbersIn, shaped, again, parse}
 
 -- ---- a text without spaces
 

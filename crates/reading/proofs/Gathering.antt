@@ -1,11 +1,11 @@
 -- The numbers of a line, gathered one after another, and what follows where the text is too long or has too many. Assumes nothing.
-use mathlib.Core.Bool.{Bool, true, false, _&&_, and-false}
+use mathlib.Core.Bool.{Bool, true, false, and-false}
 use mathlib.Core.List.{List, [], _∷_, _++_, map, append-nil, append-assoc}
 use mathlib.Core.Path.{_≡_, refl, sym, ap, ap₂, _∙_}
-use Prim.Native.Nat.{ℕ, suc, _+_, _*_, _-_, _≤_, _<_}
+use Prim.Native.Nat.{ℕ, suc, _+_, _-_, _≤_, _<_}
 use native.Mathlib.Numerals.{add-one}
 use native.Mathlib.Omega.{arith}
-use lib.Dec.{leb, ltb}
+use lib.Dec.{leb}
 use lib.ListN.{length, take, drop, set, replicate, length-append, length-set, take-append-drop, length-replicate}
 use lib.Seq.{take-suc-set, drop-set-lt, drop-cons, length-take-le, take-append-seam}
 use borrow.Author.Tests.{leb-true, leb-false, le-leb, lt-leb}
@@ -16,10 +16,10 @@ use Rattle.words.specs.Bytes.{same}
 use Rattle.words.proofs.Laws.{same-length}
 use Rattle.lines.specs.Parts.{partsOf, partAt, placePast}
 use Rattle.lines.proofs.Laws.{parts-at, parts-none}
-use Rattle.reading.specs.Form.{render, wordIn, numbersIn, shaped, again, parse, line, noLine}
-use Rattle.reading.specs.Holding.{padded, full, blank, held, gathered}
+use Rattle.reading.specs.Form.{render, wordIn, numbersIn, shaped, parse, noLine}
+use Rattle.reading.specs.Holding.{padded, full, blank, gathered}
 use Rattle.reading.specs.declared.Line.{Line}
-use Rattle.reading.proofs.Back.{refused, accepted}
+use Rattle.reading.proofs.Back.{refused}
 
 -- so many numbers are gathered, and the place in the text is past them
 pub record Gathers (text numbers : List ℕ) (at count : ℕ) : Type 0 where

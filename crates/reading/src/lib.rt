@@ -14,6 +14,7 @@ pub struct Line {
     pub numbers: [u16; 256],
 }
 
+// What a text that is no line is read as.
 fn no_line() -> Line
     ensures { λ r. ⌜ r ≡ blank ⌝ }
 {

@@ -9,6 +9,7 @@ fn print_front(bytes: &[u8], n: usize) {
     }
 }
 
+// Loads what it reads, and saves it again where it was loaded.
 fn main() {
     let mut bytes = io::large_buffer();
     let n = io::read_full(STDIN_FILENO, &mut bytes);

@@ -3,7 +3,7 @@ use mathlib.Core.Bool.{Bool, true, false, not, _&&_}
 use mathlib.Core.List.{List}
 use mathlib.Core.Logic.{_⊎_, inl, inr}
 use mathlib.Core.Path.{_≡_, refl, sym, ap, _∙_}
-use Prim.Native.Nat.{ℕ, _+_, _<_}
+use Prim.Native.Nat.{ℕ, _+_, _≤_, _<_}
 use native.Mathlib.Omega.{arith}
 use lib.ListN.{length, set, length-set}
 use lib.Seq.{getD-set-same, getD-set-other}
@@ -19,18 +19,23 @@ use Rattle.reviews.specs.Reviewing.{meets, touched, meeting}
 
 -- a table of n places, the first k of which hold what f says
 pub record Filled (f : ℕ → ℕ) (n k : ℕ) (t : List ℕ) : Type 0 where
+  pub few : k ≤ n
   pub long : length t ≡ n
   pub each : (j : ℕ) → j < k → tableOf t j ≡ f j
 
-pub fill-start : (f : ℕ → ℕ) (n : ℕ) (t : List ℕ) → length t ≡ n → Filled f n 0 t
-fill-start f n t h = record { long = h; each = λ j l. absurd (omega arith) }
+module _ {f : ℕ → ℕ} {n : ℕ} where
+  pub fill-start : {t : List ℕ} → length t ≡ n → Filled f n 0 t
+  fill-start h = record { few = omega arith; long = h; each = λ j l. absurd (omega arith) }
 
-pub fill-next : (f : ℕ → ℕ) (n k v : ℕ) (t : List ℕ) → k < n → v ≡ f k → Filled f n k t → Filled f n (k + 1) (set t k v)
-fill-next f n k v t h e s = record { long = length-set t k v ∙ s .long; each = λ j l. go j (last-or-below j k (omega arith)) }
-  where
-    go : (j : ℕ) → (j ≡ k) ⊎ (j < k) → tableOf (set t k v) j ≡ f j
-    go j (inl p) = rw p (getD-set-same t k v 0 (omega (arith, s .long)) ∙ e)
-    go j (inr p) = getD-set-other t k j v 0 (λ q. omega arith) ∙ s .each j p
+  pub fill-next : {k v : ℕ} {t : List ℕ} → k < n → v ≡ f k → Filled f n k t → Filled f n (k + 1) (set t k v)
+  fill-next {k} {v} {t} h e s = record { few = omega arith; long = length-set t k v ∙ s .long; each = λ j l. go j (last-or-below j k (omega arith)) }
+    where
+      go : (j : ℕ) → (j ≡ k) ⊎ (j < k) → tableOf (set t k v) j ≡ f j
+      go j (inl p) = rw p (getD-set-same t k v 0 (omega (arith, s .long)) ∙ e)
+      go j (inr p) = getD-set-other t k j v 0 (λ q. omega arith) ∙ s .each j p
+
+  pub fill-end : {k : ℕ} {t : List ℕ} → n ≤ k → Filled f n k t → (j : ℕ) → j < n → tableOf t j ≡ f j
+  fill-end h s j l = s .each j (omega arith)
 
 -- the places that have one of the roles are the members that the test names
 pub meeting-members : (roles : ℕ) (table : List ℕ) (n : ℕ) (f : ℕ → Bool) → length table ≡ n → ((k : ℕ) → k < n → f k ≡ touched roles table k) → members n f ≡ meeting roles table

@@ -6,4 +6,5 @@ mod Writing
 mod Settling
 mod Filling
 mod OfKind
+mod Walking
 mod Fitting

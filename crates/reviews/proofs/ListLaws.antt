@@ -1,5 +1,4 @@
--- A list of members is strictly ascending, so that nothing stands in it twice, and k is in it exactly if k is below the bound and passes the test.
--- Assumes nothing.
+-- A list of members is strictly ascending, and k is in it exactly if k is below the bound and passes the test. Assumes nothing.
 use mathlib.Core.Bool.{Bool, true, false, _&&_, _||_}
 use mathlib.Core.List.{List, [], _∷_, _++_}
 use mathlib.Core.Logic.{_⊎_, inl, inr}

@@ -6,16 +6,13 @@ use Prim.Native.Nat.{ℕ, zero, suc, _+_, _*_, _/_, _%_, _^_, _-_, _≤_, _<_, m
 use native.Mathlib.Omega.{arith}
 use native.Mathlib.Decide.{decLt}
 use native.Mathlib.Nat.{pow-suc, pow-succ', mod-lt, zero-div, div-eq-of-lt, div-lt-iff-lt-mul, lt-of-lt-of-le}
-use native.Mathlib.Numerals.{add-one, one-add}
-use lib.Dec.{eqb, ltb}
-use lib.Pow.{high, low, split, field, mod-mod-pow, pow-pos, pow-mono, shr-shr}
-use lib.Bits.{bitAnd, bitOr, bitXor, or-shr, and-shr, xor-shr, or-step, and-step, xor-step, or-lt, and-lt, xor-lt, differ}
-use lib.Count.{ones, ones-cat, ones-step, trailingZeros, under}
-use borrow.Author.Tests.{eq-eqb, ne-eqb, eqb-true, eqb-false, lt-ltb, le-ltb}
-use Rattle.roleset.specs.Bounded.{bit, some, every, tally}
+use lib.Dec.{eqb}
+use lib.Pow.{high, low, split, field, mod-mod-pow, pow-pos, pow-mono}
+use lib.Bits.{bitAnd, bitOr, or-shr, and-shr, or-step, and-step}
+use borrow.Author.Tests.{eq-eqb, ne-eqb}
+use Rattle.roleset.specs.Bounded.{bit, some, tally}
 use Rattle.roleset.specs.Roles.{has, pack, those, with, without, union, both, minus, subset, isEmpty, count}
-use Rattle.roleset.specs.Promises.{Made, Answers, Lowest}
-use Rattle.roleset.proofs.BoundedLaws.{clash, and-left, and-right, and-both, or-left, or-right, or-cases, not-yes, yes-not, agree, never, last-or-below, some-intro, some-elim, some-none, some-false, every-intro, every-elim, every-ext, tally-le, tally-mono, tally-ext, tally-none, tally-change, tally-either}
+use Rattle.roleset.proofs.BoundedLaws.{clash, and-left, and-right, or-left, or-right, not-yes, yes-not, last-or-below, some-elim, some-none, some-false, every-intro, every-elim, tally-le, tally-mono, tally-ext, tally-none, tally-change, tally-either}
 
 -- ---- bit k of a number
 

@@ -5,17 +5,17 @@ use mathlib.Core.Path.{_≡_, refl, sym, ap, ap₂, _∙_, subst}
 use Prim.Native.Nat.{ℕ, zero, suc, _+_, _*_, _/_, _%_, _^_, _-_, _≤_, _<_}
 use native.Mathlib.Omega.{arith}
 use native.Mathlib.Decide.{decLt}
-use native.Mathlib.Nat.{mod-lt, mod-eq-of-lt, div-eq-of-lt, pow-succ', div-lt-iff-lt-mul, one-mul, add-zero}
+use native.Mathlib.Nat.{mod-lt, mod-eq-of-lt, div-eq-of-lt, pow-succ', div-lt-iff-lt-mul, one-mul}
 use lib.Dec.{eqb, ltb}
 use lib.Pow.{split, pow-pos, pow-lt, shr-shr}
 use lib.Bits.{bitAnd, bitOr, bitXor, xor-shr, xor-step, or-lt, and-lt, xor-lt, differ}
 use lib.Count.{ones, ones-cat, trailingZeros, under, trailing-of-zero}
-use borrow.Author.Tests.{eq-eqb, ne-eqb, eqb-true, lt-ltb, le-ltb}
+use borrow.Author.Tests.{eq-eqb, ne-eqb, eqb-true, lt-ltb}
 use Rattle.roleset.specs.Bounded.{bit, tally}
 use Rattle.roleset.specs.Roles.{has, those, with, without, union, both, minus, subset, isEmpty, count}
 use Rattle.roleset.specs.Promises.{Made, Answers, Lowest}
 use Rattle.roleset.proofs.BoundedLaws.{clash, and-left, and-right, agree, never, tally-ext}
-use Rattle.roleset.proofs.Laws.{digit, digit-bit, has-mod, has-top, has-low, has-none, has-beyond, is-those, has-or, has-and, ext, subset-true, subset-intro, member-small, isEmpty-zero, isEmpty-false, isEmpty-none}
+use Rattle.roleset.proofs.Laws.{digit, digit-bit, has-mod, has-top, has-low, has-none, is-those, has-or, has-and, ext, subset-true, subset-intro, member-small, isEmpty-zero, isEmpty-false, isEmpty-none}
 
 -- a number below 2 ^ 64 whose members are those that pass the test is the set that the definition gives
 made : (s : ℕ) (f g : ℕ → Bool) → s < 2 ^ 64 → ((k : ℕ) → has s k ≡ g k) → ((k : ℕ) → k < 64 → g k ≡ f k) → Made s (those f) g

@@ -69,7 +69,7 @@ pub fn count(s: u64) -> u16
     u64::count_ones(s) as u16
 }
 
-// The lowest role of s, which has one.
+// The lowest role of s; 64 where it has none.
 pub fn lowest(s: u64) -> u16
     ensures { λ r. ⌜ (r ≤ 64) × ((isEmpty s ≡ false → Lowest s r) × (isEmpty s ≡ true → r ≡ 64)) ⌝ }
 {

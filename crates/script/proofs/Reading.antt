@@ -1,20 +1,13 @@
--- What a line's numbers are, as the code holds them, and what a question leaves. Assumes nothing.
+-- What a line's numbers are, as the code holds them, and what it tells by them. Assumes nothing.
 use mathlib.Core.Bool.{Bool, true, false}
-use mathlib.Core.List.{List, [], _∷_, _++_}
-use mathlib.Core.Logic.{_⊎_}
+use mathlib.Core.List.{List, [], _++_}
 use mathlib.Core.Path.{_≡_, refl, sym, ap, ap₂, _∙_}
-use Prim.Native.Nat.{ℕ, suc, _+_, _-_, _≤_, _<_}
+use Prim.Native.Nat.{ℕ, _+_, _-_, _≤_, _<_}
 use native.Mathlib.Omega.{arith}
 use native.Mathlib.Decide.{decLt}
-use lib.Dec.{eqb}
 use lib.ListN.{length, getD, take, drop, replicate, length-append, length-replicate, length-drop, getD-replicate, List·getD-append, List·getD-eq-default}
-use lib.Seq.{getD-append-add, drop-append-le, take-at, take-append-seam, length-take-le}
+use lib.Seq.{getD-append-add, drop-append-le, take-at}
 use Rattle.model.specs.Model.{Model}
-use Rattle.model.specs.Sheet.{Told, Refusal, verdict, settle, done, refused}
-use Rattle.model.specs.Questions.{ask}
-use Rattle.model.specs.commands.Sessions.{check}
-use Rattle.model.specs.declared.Question.{Question}
-use Rattle.model.specs.declared.Question.the-variants.{Check, AssignedUsers, AssignedRoles, AuthUsers, AuthRoles, RolePerms, UserPerms, SessionRoles, SessionPerms, RoleOps, UserOps, Sets, SetRoles, SetCount}
 use Rattle.decimal.specs.Decimal.{numbered}
 use Rattle.decimal.proofs.Laws.{numbered-long}
 use Rattle.words.specs.Words.{wordOf, spelling}
@@ -22,7 +15,10 @@ use Rattle.words.proofs.Tables.{takes-enough}
 use Rattle.reading.specs.Form.{Parsed, line, noLine, parse, Written, render}
 use Rattle.reading.specs.Holding.{padded, full, blank, held}
 use Rattle.reading.specs.declared.Line.{Line}
+use Rattle.meaning.specs.Meaning.{meant}
+use Rattle.meaning.specs.declared.Meant.{Meant}
 use Rattle.reading.proofs.Back.{parsed-written}
+use Rattle.script.specs.Script.{obey, obeyed, doing}
 
 -- ---- the numbers of a line in their array
 
@@ -55,33 +51,6 @@ module _ (ns : List ℕ) (h : length ns ≤ 256) where
 pub padded-long : (ns : List ℕ) → length ns ≤ 256 → length (padded ns) ≡ 256
 unfolding padded
 padded-long ns h = omega (arith, length-append ns (replicate (256 - length ns) 0), length-replicate {A = ℕ} (256 - length ns) 0)
-
--- ---- questions change nothing
-
-same : (rs : List Refusal) (m : Model) (list : List ℕ) → settle rs m list m .after ≡ m
-unfolding settle
-same rs m list = go (eqb (verdict rs) 0)
-  where
-    go : (t : Bool) → elim t as (λ _. Told) [ true ↦ done list m | false ↦ refused (verdict rs) m ] .after ≡ m
-    go true = refl
-    go false = refl
-
-pub asked-same : (m : Model) (room : ℕ) (q : Question) → ask m room q .after ≡ m
-unfolding ask check
-asked-same m room (Check s op obj) = same _ _ _
-asked-same m room (AssignedUsers r) = same _ _ _
-asked-same m room (AssignedRoles u) = same _ _ _
-asked-same m room (AuthUsers r) = same _ _ _
-asked-same m room (AuthRoles u) = same _ _ _
-asked-same m room (RolePerms r) = same _ _ _
-asked-same m room (UserPerms u) = same _ _ _
-asked-same m room (SessionRoles s) = same _ _ _
-asked-same m room (SessionPerms s) = same _ _ _
-asked-same m room (RoleOps r obj) = same _ _ _
-asked-same m room (UserOps u obj) = same _ _ _
-asked-same m room (Sets kind) = same _ _ _
-asked-same m room (SetRoles kind name) = same _ _ _
-asked-same m room (SetCount kind name) = same _ _ _
 
 -- ---- the line that was read
 
@@ -123,23 +92,23 @@ module _ (text : List ℕ) (l : Line) (r : Reads text l) where
   written : Written text (l .word) ns
   written = parsed-written text (l .word) ns (r .is)
 
-  pub known : l .word < 41
+  known : l .word < 41
   known = written .known
 
-  pub few : length ns ≤ 256
+  few : length ns ≤ 256
   unfolding render
   few = omega (arith, written .short, ap length (written .is), length-append (spelling (l .word)) (numbered ns), numbered-long ns)
 
   pub enough : wordOf (l .word) .numbers ≤ l .count
   enough = omega (arith, takes-enough (l .word) (length ns) (written .fits), r .count)
 
-  pub long : length (l .numbers) ≡ 256
+  long : length (l .numbers) ≡ 256
   long = ap length (r .numbers) ∙ padded-long ns few
 
-  pub at : (i : ℕ) → getD (l .numbers) i 0 ≡ getD ns i 0
+  at : (i : ℕ) → getD (l .numbers) i 0 ≡ getD ns i 0
   at i = ap (λ (x : List ℕ). getD x i 0) (r .numbers) ∙ padded-at ns few i
 
-  pub list : (from : ℕ) → from ≡ wordOf (l .word) .numbers → take (l .count - from) (drop from (l .numbers)) ≡ drop (wordOf (l .word) .numbers) ns
+  list : (from : ℕ) → from ≡ wordOf (l .word) .numbers → take (l .count - from) (drop from (l .numbers)) ≡ drop (wordOf (l .word) .numbers) ns
   list from e =
       ap₂ (λ (n : ℕ) (x : List ℕ). take (n - from) (drop from x)) (r .count) (r .numbers) ∙ padded-list ns few from (omega (arith, enough, e, r .count))
       ∙ ap (λ (n : ℕ). drop n ns) e
@@ -147,3 +116,8 @@ module _ (text : List ℕ) (l : Line) (r : Reads text l) where
   -- the room is enough for the list
   pub room : l .count ≤ length (l .numbers)
   room = omega (arith, few, r .count, long)
+
+  -- what the text tells: what its command or question tells, by the numbers that the code holds
+  pub obeys : (m : Model) (x : Meant) (from : ℕ) → x ≡ meant (l .word) (getD (l .numbers) 0 0) (getD (l .numbers) 1 0) (getD (l .numbers) 2 0) → from ≡ wordOf (l .word) .numbers → obey m text ≡ doing m x (take (l .count - from) (drop from (l .numbers)))
+  unfolding obey
+  obeys m x from e f = ap (obeyed m) (r .is) ∙ rw (e, at 0, at 1, at 2, list from f)

@@ -1,19 +1,17 @@
 -- One line of a script and what is still to be printed, and all of it joined. Assumes nothing.
 use mathlib.Core.Bool.{Bool, true, false, _&&_}
 use mathlib.Core.List.{List, [], _∷_, _++_}
-use mathlib.Core.Path.{_≡_, refl, sym, ap, ap₂, _∙_}
-use Prim.Native.Nat.{ℕ, _+_, _*_, _≤_, _<_}
+use mathlib.Core.Path.{_≡_, refl, sym, ap, _∙_}
+use Prim.Native.Nat.{ℕ, _+_, _≤_, _<_}
 use native.Mathlib.Omega.{arith}
-use lib.Dec.{eqb, ltb}
+use lib.Dec.{eqb}
 use lib.ListN.{length, getD, take, drop, length-append}
 use borrow.Author.Tests.{lt-ltb, le-ltb}
 use Rattle.model.specs.Model.{Model, empty}
 use Rattle.model.specs.Sheet.{Told}
 use Rattle.model.specs.Step.{step}
-use Rattle.model.specs.declared.Command.{Command}
 use Rattle.policy.specs.View.{view}
 use Rattle.decimal.specs.Decimal.{decimal, numbered}
-use Rattle.decimal.specs.Putting.{Put}
 use Rattle.decimal.proofs.Laws.{decimal-short, numbered-short, put-front}
 use Rattle.words.specs.Words.{wordOf}
 use Rattle.lines.specs.Parts.{partsOf, partAt, placePast}

@@ -1,10 +1,7 @@
 -- What a sweep that sheds gives, said of a model with the same lines, assignments and sessions. Assumes nothing.
-use mathlib.Core.Bool.{_&&_}
 use mathlib.Core.List.{List}
 use mathlib.Core.Path.{_≡_, sym, ap, _∙_}
 use Prim.Native.Nat.{ℕ}
-use Rattle.roleset.specs.Bounded.{some}
-use Rattle.hierarchy.specs.Walks.{reach}
 use Rattle.model.specs.Model.{Model, Session, withSessions}
 use Rattle.model.specs.Words.{shed, shedCut, shedded}
 use Rattle.policy.specs.View.{sessionsIn}

@@ -1,4 +1,4 @@
--- `hierarchy::at_or_above` meets its contract: the walk over the turned lines depends on the turned array only through its 64 places. Assumes nothing.
+-- The walk over the turned lines depends on the turned array only through its 64 places. Assumes nothing.
 use mathlib.Core.Path.{_∙_}
 use Rattle.roleset.specs.Roles.{none, with}
 use Rattle.hierarchy.specs.Lines.{tableOf}
@@ -8,15 +8,6 @@ use borrow.Author.Needs.{needs}
 use Rattle.hierarchy.proofs.at_or_above.Statement.{statement}
 use Rattle.hierarchy.proofs.at_or_above.Tie as tie
 
-turned-requires : tie.Need-turned-requires
-turned-requires c κs = search needs
-
-with-requires : tie.Need-with-requires
-with-requires c κs = search needs
-
-reach-requires : tie.Need-reach-requires
-reach-requires c κs = search needs
-
 returns : tie.Need-returns
 unfolding atOrAbove
 returns c =
@@ -24,4 +15,4 @@ returns c =
     c .reach .ensures ∙ rw (c .before .before .with .ensures .is) (reach-ext (tableOf (c .before .before .before .turned .result)) (turned (tableOf (start .args .juniors .now))) (with none (start .args .r)) (c .before .before .before .turned .ensures))
 
 pub at-or-above-spec : {M : Type 1} → statement M
-at-or-above-spec = tie.close (tie.spec turned-requires with-requires reach-requires returns)
+at-or-above-spec = tie.close (tie.spec (λ c κs. search needs) (λ c κs. search needs) (λ c κs. search needs) returns)

@@ -1,4 +1,4 @@
--- `hierarchy::circular` meets its contract: the number with 64 ones is the set of all roles, which computes. Assumes nothing.
+-- The number with 64 ones is the set of all roles, which computes. Assumes nothing.
 use borrow.Author.Needs.{needs}
 use mathlib.Core.Path.{ap}
 use Rattle.roleset.specs.Roles.{those, pack}
@@ -7,12 +7,9 @@ use Rattle.hierarchy.specs.declared.Walk.{Walk}
 use Rattle.hierarchy.proofs.circular.Statement.{statement}
 use Rattle.hierarchy.proofs.circular.Tie as tie
 
-reach-requires : tie.Need-reach-requires
-reach-requires c κs = search needs
-
 returns : tie.Need-returns
 unfolding circular those pack
 returns c = ap (λ (w : Walk). w .cut) (c .reach .ensures)
 
 pub circular-spec : {M : Type 1} → statement M
-circular-spec = tie.close (tie.spec reach-requires returns)
+circular-spec = tie.close (tie.spec (λ c κs. search needs) returns)

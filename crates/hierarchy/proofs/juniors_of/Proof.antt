@@ -1,10 +1,9 @@
--- `hierarchy::juniors_of` meets its contract. The loop's invariant: what is met so far, joined to the juniors of the roles that are left, is what is asked.
--- The measure is how many roles are left. Assumes nothing.
+-- What is met so far, with the juniors of the roles that are left, is what is asked. Assumes nothing.
 use mathlib.Core.Bool.{true}
 use mathlib.Core.Path.{_≡_, sym, ap, _∙_}
 use Prim.Native.Nat.{_^_, _<_}
 use native.Mathlib.Omega.{arith}
-use Rattle.roleset.specs.Roles.{has, without, union, count}
+use Rattle.roleset.specs.Roles.{has, union, count}
 use Rattle.roleset.proofs.Laws.{member-small, union-small, without-small, count-without}
 use Rattle.hierarchy.specs.Lines.{tableOf}
 use Rattle.hierarchy.specs.Walks.{juniorsOf}

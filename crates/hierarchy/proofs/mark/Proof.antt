@@ -1,5 +1,4 @@
--- `hierarchy::mark` meets its contract. The loop's invariant: marking the places that are left gives what is asked. The measure is how many are left.
--- Assumes nothing.
+-- Marking the places that are left gives what is asked. Assumes nothing.
 use mathlib.Core.Bool.{true}
 use mathlib.Core.Path.{_≡_, refl, sym, ap, _∙_}
 use Prim.Native.Nat.{ℕ, _^_, _<_}

@@ -1,5 +1,4 @@
--- `hierarchy::turned` meets its contract. The loop's invariant: place k holds the seniors of k among the roles passed. The measure is what is left of 64.
--- Assumes nothing.
+-- Place k holds the seniors of k among the roles passed. Assumes nothing.
 use mathlib.Core.Path.{_≡_, refl, sym, _∙_}
 use Prim.Native.Nat.{ℕ, _-_, _<_, _≤_}
 use native.Mathlib.Omega.{arith}

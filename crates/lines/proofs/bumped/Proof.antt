@@ -4,12 +4,6 @@ use Rattle.lines.specs.Tallies.{counted}
 use Rattle.lines.proofs.bumped.Statement.{statement}
 use Rattle.lines.proofs.bumped.Tie as tie
 
-one-more-requires : tie.Need-one-more-requires
-one-more-requires c κs = search needs
-
-one-more-requires-2 : tie.Need-one-more-requires-2
-one-more-requires-2 c κs = search needs
-
 returns : tie.Need-returns
 unfolding counted
 returns c = rw (c .before .if1 .taken, c .one-more .ensures)
@@ -19,4 +13,4 @@ unfolding counted
 returns-2 c = rw (c .before .if1 .left, c .one-more2 .ensures)
 
 pub bumped-spec : {M : Type 1} → statement M
-bumped-spec = tie.close (tie.spec one-more-requires one-more-requires-2 returns returns-2)
+bumped-spec = tie.close (tie.spec (λ c κs. search needs) (λ c κs. search needs) returns returns-2)

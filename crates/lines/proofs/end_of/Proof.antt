@@ -1,9 +1,9 @@
+-- No byte that was passed is a stop byte. Assumes nothing.
 use borrow.Author.Needs.{needs}
-use mathlib.Core.List.{List, [], _∷_}
-use mathlib.Core.Path.{_≡_, refl, sym, ap, _∙_}
-use Prim.Native.Nat.{ℕ, _+_, _≤_, _<_, _-_}
+use mathlib.Core.Path.{_≡_, refl, ap}
+use Prim.Native.Nat.{_+_, _≤_, _<_, _-_}
 use native.Mathlib.Omega.{arith}
-use lib.ListN.{length, getD, drop}
+use lib.ListN.{length}
 use Rattle.lines.specs.Parts.{partAt}
 use Rattle.lines.proofs.Laws.{part-stops, part-goes-on, part-none}
 use Rattle.lines.proofs.end_of.Statement.{statement}
@@ -18,20 +18,11 @@ abbrev μ-loop : tie.MeasureT-loop
 loop-holds : tie.Need-loop-holds Inv-loop μ-loop
 loop-holds c = (omega arith, refl)
 
-shared-slice-read-if1 : tie.Need-shared-slice-read-if1 Inv-loop μ-loop
-shared-slice-read-if1 c = search needs
-
 returns : tie.Need-returns Inv-loop μ-loop
 returns c =
     let l : c .before .before .before .loop .end < length (c .before .before .before .before .args .s .now) = omega arith in
     let e = ap length (part-stops (c .before .before .before .before .args .stop) (c .before .before .before .before .args .s .now) (c .before .before .before .loop .end) l (c .if1 .taken)) in
     omega (arith, e, c .before .before .before .loop .inv .1)
-
-add-end : tie.Need-add-end Inv-loop μ-loop
-add-end c = search needs
-
-loop-less : tie.Need-loop-less Inv-loop μ-loop
-loop-less c = search needs
 
 loop-again : tie.Need-loop-again Inv-loop μ-loop
 loop-again c =
@@ -52,9 +43,9 @@ end-of-spec =
     Inv-loop
     μ-loop
     loop-holds
-    shared-slice-read-if1
+    (λ c. search needs)
     returns
-    add-end
-    loop-less
+    (λ c. search needs)
+    (λ c. search needs)
     loop-again
     returns-2)

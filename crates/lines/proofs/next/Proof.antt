@@ -1,7 +1,4 @@
--- `lines::next` meets its contract: a walk of its MIR, by hand. The borrow of the reader is opened, the text and the place are copied out of it, `past` is called on
--- them and the place that it answers is stored, `part_at` is called on the text and the place before, and the borrow is closed at the reader with the new place.
--- A reader is Copy: what it owns is had twice, and of one copy what the text owns goes to the two callees. All that the proof knows of these is that they meet their
--- contracts. Assumes nothing.
+-- A walk of the code by hand: the text and the place are copied out of the reader, the place past the part is stored, and the part is returned. Assumes nothing.
 use mathlib.Core.Path.{_≡_, refl, ap}
 use Prim.Native.Nat.{ℕ, _<_, _^_}
 use mathlib.Core.List.{List, [], _∷_}

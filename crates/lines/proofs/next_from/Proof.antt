@@ -1,6 +1,4 @@
--- `lines::next_from` meets its contract: a walk of its MIR, by hand. A reader of the text and of what stands behind `at` is made in a local and lent to `next`, for a
--- lifetime that is made for the call and ends within 'a; what `next` left in the local is taken back, and its place is stored behind `at`.
--- All that the proof knows of `next` is that it meets its contract. Assumes nothing.
+-- A walk of the code by hand: a reader is made and lent to `next`, and the place that it leaves is stored. Assumes nothing.
 use mathlib.Core.Path.{_≡_, refl}
 use Prim.Native.Nat.{ℕ, _<_, _^_}
 use mathlib.Core.List.{List, [], _∷_}

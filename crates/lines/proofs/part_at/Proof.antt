@@ -1,6 +1,7 @@
+-- The part from the place to its end; past the text it is empty. Assumes nothing.
 use borrow.Author.Needs.{needs}
-use mathlib.Core.Path.{_≡_, refl, sym, ap, _∙_}
-use Prim.Native.Nat.{ℕ, _+_, _≤_, _<_, _-_}
+use mathlib.Core.Path.{_≡_, sym, ap, _∙_}
+use Prim.Native.Nat.{ℕ, _≤_, _-_}
 use native.Mathlib.Omega.{arith}
 use lib.ListN.{length, take, drop}
 use Rattle.lines.specs.Parts.{partAt}
@@ -8,20 +9,8 @@ use Rattle.lines.proofs.Laws.{part-within, part-front, part-none}
 use Rattle.lines.proofs.part_at.Statement.{statement}
 use Rattle.lines.proofs.part_at.Tie as tie
 
-end-of-requires : tie.Need-end-of-requires
-end-of-requires c κs = search needs
-
-sub-result : tie.Need-sub-result
-sub-result c = search needs
-
-part-result-start : tie.Need-part-result-start
-part-result-start c = search needs
-
 part-result-end : tie.Need-part-result-end
 part-result-end c = let h : c .before .before .before .args .at ≤ length (c .before .before .before .args .s .now) = omega arith in omega (arith, c .end-of .ensures, part-within (c .before .before .before .args .stop) (c .before .before .before .args .s .now) (c .before .before .before .args .at) h)
-
-slice-aggregate-result : tie.Need-slice-aggregate-result
-slice-aggregate-result c = search needs
 
 returns : tie.Need-returns
 returns c =
@@ -35,10 +24,10 @@ pub part-at-spec : {M : Type 1} → statement M
 part-at-spec =
     tie.close
     (tie.spec
-    end-of-requires
-    sub-result
-    part-result-start
+    (λ c κs. search needs)
+    (λ c. search needs)
+    (λ c. search needs)
     part-result-end
-    slice-aggregate-result
+    (λ c. search needs)
     returns
     returns-2)

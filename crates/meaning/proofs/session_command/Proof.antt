@@ -1,26 +1,15 @@
-use borrow.Author.Needs.{needs}
-use mathlib.Core.Path.{_≡_}
-use Prim.Native.Nat.{ℕ}
-use native.Mathlib.Omega.{arith}
+-- The commands on sessions, by their words: each arm is its row of the table, and the last arm has the last word. Assumes nothing.
 use Rattle.meaning.specs.Meaning.{meant, meanings}
+use Rattle.meaning.proofs.Passing.{last}
 use Rattle.meaning.proofs.session_command.Statement.{statement}
 use Rattle.meaning.proofs.session_command.Tie as tie
 
-returns : tie.Need-returns
-unfolding meant meanings
-returns c = rw (c .match .keys1)
-
-returns-2 : tie.Need-returns-2
-unfolding meant meanings
-returns-2 c = rw (c .match .keys2)
-
-returns-3 : tie.Need-returns-3
-unfolding meant meanings
-returns-3 c = rw (c .match .keys3)
-
-returns-4 : tie.Need-returns-4
-unfolding meant meanings
-returns-4 c = let e : c .before .args .word ≡ 13 = omega (arith, c .before .pre) in rw e
-
 pub session-command-spec : {M : Type 1} → statement M
-session-command-spec = tie.close (tie.spec returns returns-2 returns-3 returns-4)
+unfolding meant meanings
+session-command-spec =
+    tie.close
+    (tie.spec
+    (λ c. rw (c .match .keys1))
+    (λ c. rw (c .match .keys2))
+    (λ c. rw (c .match .keys3))
+    (λ c. rw (last 10 3 (c .before .args .word) (c .before .pre .0) (c .before .pre .1) (c .match .rest))))

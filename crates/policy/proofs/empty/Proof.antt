@@ -1,5 +1,5 @@
+-- Arrays that repeat nothing hold the empty model. Assumes nothing.
 use mathlib.Core.Bool.{false}
-use mathlib.Core.Path.{refl}
 use Prim.Native.Nat.{ℕ}
 use Rattle.model.specs.Model.{empty, noSet, noSession}
 use Rattle.policy.specs.View.{view}

@@ -1,7 +1,8 @@
+-- The members are counted set by set, up to the limit. Assumes nothing.
 use borrow.Author.Needs.{needs}
-use borrow.Author.Tests.{le-leb, lt-leb}
-use mathlib.Core.Path.{_≡_, refl, sym, ap, _∙_}
-use Prim.Native.Nat.{ℕ, _≤_, _<_, _-_, _+_, _^_}
+use borrow.Author.Tests.{le-leb}
+use mathlib.Core.Path.{_≡_, sym, ap}
+use Prim.Native.Nat.{_≤_, _<_, _-_, _+_, _^_}
 use native.Mathlib.Omega.{arith}
 use lib.Dec.{leb}
 use lib.ListN.{length}
@@ -29,27 +30,6 @@ returns c =
     let enough : c .before .before .before .before .args .most ≤ total (length table) (λ j. count (tableOf table j)) = omega (arith, at .inv .1) in
     sym (le-leb (c .before .before .before .before .args .most) (total (length table) (λ j. count (tableOf table j))) enough)
 
-mul-count : tie.Need-mul-count Inv-loop μ-loop
-mul-count c = search needs
-
-shared-slice-read-count : tie.Need-shared-slice-read-count Inv-loop μ-loop
-shared-slice-read-count c = search needs
-
-count-requires : tie.Need-count-requires Inv-loop μ-loop
-count-requires c κs = search needs
-
-cast-n : tie.Need-cast-n Inv-loop μ-loop
-cast-n c = search needs
-
-add-n : tie.Need-add-n Inv-loop μ-loop
-add-n c = search needs
-
-add-k : tie.Need-add-k Inv-loop μ-loop
-add-k c = search needs
-
-loop-less : tie.Need-loop-less Inv-loop μ-loop
-loop-less c = search needs
-
 loop-again : tie.Need-loop-again Inv-loop μ-loop
 loop-again c = (search needs, total-more (c .before .before .before .before .loop .k) _ _ _ (c .before .before .before .before .loop .inv .1) (c .count .ensures .0))
 
@@ -64,12 +44,12 @@ full-spec =
     μ-loop
     loop-holds
     returns
-    mul-count
-    shared-slice-read-count
-    count-requires
-    cast-n
-    add-n
-    add-k
-    loop-less
+    (λ c. search needs)
+    (λ c. search needs)
+    (λ c κs. search needs)
+    (λ c. search needs)
+    (λ c. search needs)
+    (λ c. search needs)
+    (λ c. search needs)
     loop-again
     returns-2)

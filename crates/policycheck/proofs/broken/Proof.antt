@@ -1,9 +1,10 @@
+-- The rules are asked in their order: the first that is broken is the answer. Assumes nothing.
 use borrow.Author.Needs.{needs}
-use mathlib.Core.Bool.{Bool, true, false, not, _||_}
-use mathlib.Core.Path.{_≡_, refl, sym, ap, ap₂, _∙_}
-use Prim.Native.Nat.{ℕ, _<_, _^_}
+use mathlib.Core.Bool.{_||_}
+use mathlib.Core.Path.{_≡_, sym, ap, _∙_}
+use Prim.Native.Nat.{ℕ}
 use native.Mathlib.Omega.{arith}
-use lib.ListN.{length, length-map}
+use lib.ListN.{length, drop, length-map}
 use Rattle.roleset.specs.Bounded.{some}
 use Rattle.roleset.proofs.BoundedLaws.{some-ext}
 use Rattle.hierarchy.specs.Lines.{tableOf}
@@ -11,7 +12,7 @@ use Rattle.hierarchy.specs.Walks.{reach, circular}
 use Rattle.model.specs.Sheet.{verdict}
 use Rattle.model.specs.Words.{breaksSome, staticBroken, dynamicBroken}
 use Rattle.model.specs.commands.Inheriting.{usersCut}
-use Rattle.policy.specs.View.{view, sessionsIn}
+use Rattle.policy.specs.View.{view}
 use Rattle.policyform.specs.Rules.{badSet, unauthorised, rulesBroken}
 use Rattle.policycheck.proofs.broken.Statement.{statement}
 use Rattle.policycheck.proofs.broken.Tie as tie
@@ -47,90 +48,75 @@ cutting : (c : tie.After-authorised-all) → usersCut (view (c .before .before .
 unfolding view usersCut
 cutting c = sym (c .authorised-all .ensures .cut)
 
-circular-requires : tie.Need-circular-requires
-circular-requires c κs = search needs
+-- what is left to ask after each test
+past1 : (c : tie.Else1) → verdict (rulesBroken (view (c .before .before .before .before .args .t1))) ≡ verdict (drop 1 (rulesBroken (view (c .before .before .before .before .args .t1))))
+unfolding rulesBroken verdict
+past1 c = rw (circling (c .before) ∙ c .if1 .left)
+
+past2 : (c : tie.Else2) → verdict (rulesBroken (view (c .before .before .before .before .before .before .before .before .before .before .args .t1))) ≡ verdict (drop 2 (rulesBroken (view (c .before .before .before .before .before .before .before .before .before .before .args .t1))))
+unfolding rulesBroken verdict
+past2 c = past1 (c .before .before .before .before .before .before) ∙ rw (cardinalities (c .before) ∙ c .if2 .left)
+
+past3 : (c : tie.Else3) → verdict (rulesBroken (view (c .before .before .before .before .before .before .before .before .before .before .before .before .before .before .before .before .before .before .before .args .t1))) ≡ verdict (drop 3 (rulesBroken (view (c .before .before .before .before .before .before .before .before .before .before .before .before .before .before .before .before .before .before .before .args .t1))))
+unfolding rulesBroken verdict
+past3 c = past2 (c .before .before .before .before .before .before .before .before .before) ∙ rw (acting (c .before) ∙ c .if3 .left)
+
+past4 : (c : tie.Else4) → verdict (rulesBroken (view (c .before .before .before .before .before .before .before .before .before .before .before .before .before .before .before .before .before .before .before .before .before .before .before .args .t1))) ≡ verdict (drop 4 (rulesBroken (view (c .before .before .before .before .before .before .before .before .before .before .before .before .before .before .before .before .before .before .before .before .before .before .before .args .t1))))
+unfolding rulesBroken verdict
+past4 c = past3 (c .before .before .before .before) ∙ rw (static (c .before) ∙ c .if4 .left)
+
+past5 : (c : tie.Else5) → verdict (rulesBroken (view (c .before .before .before .before .before .before .before .before .before .before .before .before .before .before .before .before .before .before .before .before .before .before .before .before .before .before .before .before .before .args .t1))) ≡ verdict (drop 5 (rulesBroken (view (c .before .before .before .before .before .before .before .before .before .before .before .before .before .before .before .before .before .before .before .before .before .before .before .before .before .before .before .before .before .args .t1))))
+unfolding rulesBroken verdict
+past5 c = past4 (c .before .before .before .before .before .before) ∙ rw (dynamic (c .before) ∙ c .if5 .left)
 
 returns : tie.Need-returns
 unfolding rulesBroken verdict
 returns c = sym (rw (circling (c .before) ∙ c .if1 .taken))
 
-bad-set-requires : tie.Need-bad-set-requires
-bad-set-requires c κs = search needs
-
-bad-set-requires-2 : tie.Need-bad-set-requires-2
-bad-set-requires-2 c κs = search needs
-
-either-requires : tie.Need-either-requires
-either-requires c κs = search needs
-
 returns-2 : tie.Need-returns-2
 unfolding rulesBroken verdict
-returns-2 c = sym (rw (circling (c .before .before .before .before .before .before .before) ∙ c .before .before .before .before .before .before .if1 .left, cardinalities (c .before) ∙ c .if2 .taken))
-
-authorised-all-requires : tie.Need-authorised-all-requires
-authorised-all-requires c κs = search needs
-
-slice-aggregate-unauthorised : tie.Need-slice-aggregate-unauthorised
-slice-aggregate-unauthorised c = search needs
-
-unauthorised-requires : tie.Need-unauthorised-requires
-unauthorised-requires c κs = search needs
+returns-2 c = sym (past1 (c .before .before .before .before .before .before) ∙ rw (cardinalities (c .before) ∙ c .if2 .taken))
 
 returns-3 : tie.Need-returns-3
 unfolding rulesBroken verdict
-returns-3 c = sym (rw (circling (c .before .before .before .before .before .before .before .before .before .before .before .before .before .before .before .before) ∙ c .before .before .before .before .before .before .before .before .before .before .before .before .before .before .before .if1 .left, cardinalities (c .before .before .before .before .before .before .before .before .before .before) ∙ c .before .before .before .before .before .before .before .before .before .if2 .left, acting (c .before) ∙ c .if3 .taken))
-
-slice-aggregate-some-breaks-some : tie.Need-slice-aggregate-some-breaks-some
-slice-aggregate-some-breaks-some c = search needs
-
-some-breaks-some-requires : tie.Need-some-breaks-some-requires
-some-breaks-some-requires c κs = search needs
+returns-3 c = sym (past2 (c .before .before .before .before .before .before .before .before .before) ∙ rw (acting (c .before) ∙ c .if3 .taken))
 
 returns-4 : tie.Need-returns-4
 unfolding rulesBroken verdict
-returns-4 c = sym (rw (circling (c .before .before .before .before .before .before .before .before .before .before .before .before .before .before .before .before .before .before .before .before) ∙ c .before .before .before .before .before .before .before .before .before .before .before .before .before .before .before .before .before .before .before .if1 .left, cardinalities (c .before .before .before .before .before .before .before .before .before .before .before .before .before .before) ∙ c .before .before .before .before .before .before .before .before .before .before .before .before .before .if2 .left, acting (c .before .before .before .before .before) ∙ c .before .before .before .before .if3 .left, static (c .before) ∙ c .if4 .taken))
-
-active-roles-requires : tie.Need-active-roles-requires
-active-roles-requires c κs = search needs
-
-slice-aggregate-some-breaks-some-2 : tie.Need-slice-aggregate-some-breaks-some-2
-slice-aggregate-some-breaks-some-2 c = search needs
-
-some-breaks-some-requires-2 : tie.Need-some-breaks-some-requires-2
-some-breaks-some-requires-2 c κs = search needs
+returns-4 c = sym (past3 (c .before .before .before .before) ∙ rw (static (c .before) ∙ c .if4 .taken))
 
 returns-5 : tie.Need-returns-5
 unfolding rulesBroken verdict
-returns-5 c = sym (rw (circling (c .before .before .before .before .before .before .before .before .before .before .before .before .before .before .before .before .before .before .before .before .before .before .before .before .before .before) ∙ c .before .before .before .before .before .before .before .before .before .before .before .before .before .before .before .before .before .before .before .before .before .before .before .before .before .if1 .left, cardinalities (c .before .before .before .before .before .before .before .before .before .before .before .before .before .before .before .before .before .before .before .before) ∙ c .before .before .before .before .before .before .before .before .before .before .before .before .before .before .before .before .before .before .before .if2 .left, acting (c .before .before .before .before .before .before .before .before .before .before .before) ∙ c .before .before .before .before .before .before .before .before .before .before .if3 .left, static (c .before .before .before .before .before .before .before) ∙ c .before .before .before .before .before .before .if4 .left, dynamic (c .before) ∙ c .if5 .taken))
+returns-5 c = sym (past4 (c .before .before .before .before .before .before) ∙ rw (dynamic (c .before) ∙ c .if5 .taken))
 
 returns-6 : tie.Need-returns-6
 unfolding rulesBroken verdict
-returns-6 c = sym (rw (circling (c .before .before .before .before .before .before .before .before .before .before .before .before .before .before .before .before .before .before .before .before .before .before .before .before .before .before .before) ∙ c .before .before .before .before .before .before .before .before .before .before .before .before .before .before .before .before .before .before .before .before .before .before .before .before .before .before .if1 .left, cardinalities (c .before .before .before .before .before .before .before .before .before .before .before .before .before .before .before .before .before .before .before .before .before) ∙ c .before .before .before .before .before .before .before .before .before .before .before .before .before .before .before .before .before .before .before .before .if2 .left, acting (c .before .before .before .before .before .before .before .before .before .before .before .before) ∙ c .before .before .before .before .before .before .before .before .before .before .before .if3 .left, static (c .before .before .before .before .before .before .before .before) ∙ c .before .before .before .before .before .before .before .if4 .left, dynamic (c .before .before) ∙ c .before .if5 .left, cutting (c .before .before .before .before .before .before .before .before .before .before .before .before .before .before .before .before) ∙ c .if6 .taken))
+returns-6 c = sym (past5 (c .before) ∙ rw (cutting (c .before .before .before .before .before .before .before .before .before .before .before .before .before .before .before .before) ∙ c .if6 .taken))
 
 returns-7 : tie.Need-returns-7
 unfolding rulesBroken verdict
-returns-7 c = sym (rw (circling (c .before .before .before .before .before .before .before .before .before .before .before .before .before .before .before .before .before .before .before .before .before .before .before .before .before .before .before) ∙ c .before .before .before .before .before .before .before .before .before .before .before .before .before .before .before .before .before .before .before .before .before .before .before .before .before .before .if1 .left, cardinalities (c .before .before .before .before .before .before .before .before .before .before .before .before .before .before .before .before .before .before .before .before .before) ∙ c .before .before .before .before .before .before .before .before .before .before .before .before .before .before .before .before .before .before .before .before .if2 .left, acting (c .before .before .before .before .before .before .before .before .before .before .before .before) ∙ c .before .before .before .before .before .before .before .before .before .before .before .if3 .left, static (c .before .before .before .before .before .before .before .before) ∙ c .before .before .before .before .before .before .before .if4 .left, dynamic (c .before .before) ∙ c .before .if5 .left, cutting (c .before .before .before .before .before .before .before .before .before .before .before .before .before .before .before .before) ∙ c .if6 .left))
+returns-7 c = sym (past5 (c .before) ∙ rw (cutting (c .before .before .before .before .before .before .before .before .before .before .before .before .before .before .before .before) ∙ c .if6 .left))
 
 pub broken-spec : {M : Type 1} → statement M
 broken-spec =
     tie.close
     (tie.spec
-    circular-requires
+    (λ c κs. search needs)
     returns
-    bad-set-requires
-    bad-set-requires-2
-    either-requires
+    (λ c κs. search needs)
+    (λ c κs. search needs)
+    (λ c κs. search needs)
     returns-2
-    authorised-all-requires
-    slice-aggregate-unauthorised
-    unauthorised-requires
+    (λ c κs. search needs)
+    (λ c. search needs)
+    (λ c κs. search needs)
     returns-3
-    slice-aggregate-some-breaks-some
-    some-breaks-some-requires
+    (λ c. search needs)
+    (λ c κs. search needs)
     returns-4
-    active-roles-requires
-    slice-aggregate-some-breaks-some-2
-    some-breaks-some-requires-2
+    (λ c κs. search needs)
+    (λ c. search needs)
+    (λ c κs. search needs)
     returns-5
     returns-6
     returns-7)

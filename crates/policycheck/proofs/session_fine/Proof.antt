@@ -1,24 +1,14 @@
+-- A live session is asked for its user and its roles, one that is not for being all zero. Assumes nothing.
 use borrow.Author.Needs.{needs}
-use mathlib.Core.Bool.{Bool, true, false, not, _&&_, _||_}
-use mathlib.Core.Path.{_≡_, refl, sym, ap, _∙_}
-use Prim.Native.Nat.{ℕ, _≤_, _<_, _+_, _-_, _^_}
+use mathlib.Core.Bool.{Bool, false}
+use mathlib.Core.Path.{_≡_, ap, _∙_}
+use Prim.Native.Nat.{ℕ, _-_}
 use native.Mathlib.Omega.{arith}
-use borrow.Author.Count.{below-none, below-more}
-use borrow.Author.Tests.{eqb-true, eq-eqb, lt-ltb, le-ltb}
-use lib.Dec.{eqb, ltb}
-use lib.ListN.{length, getD, List·getD-eq-default}
-use Rattle.roleset.specs.Bounded.{some}
-use Rattle.roleset.specs.Roles.{has, subset, isEmpty, count}
-use Rattle.roleset.proofs.BoundedLaws.{clash, some-start, some-more, some-intro}
-use Rattle.roleset.proofs.Laws.{has-none, isEmpty-false}
-use Rattle.hierarchy.specs.Lines.{tableOf}
-use Rattle.model.specs.Model.{RoleSet, Session, noSet, noSession}
-use Rattle.model.specs.commands.Sets.{badCardinality}
-use Rattle.separation.specs.Tables.{setsIn}
-use Rattle.policy.specs.View.{flags, sessionsIn}
-use Rattle.policyform.specs.Rules.{badSet}
-use Rattle.policycheck.specs.Tests.{Tells, Inside, SetFine, SessionFine}
-use Rattle.policycheck.proofs.Passing.{everywhere, tells-yes, tells-no, inside-none, set-none, session-none}
+use borrow.Author.Tests.{eqb-true, eq-eqb}
+use Rattle.roleset.proofs.BoundedLaws.{clash}
+use Rattle.model.specs.Model.{Session, noSession}
+use Rattle.policy.specs.View.{flags}
+use Rattle.policycheck.proofs.Passing.{tells-no, session-none}
 use Rattle.policycheck.proofs.session_fine.Statement.{statement}
 use Rattle.policycheck.proofs.session_fine.Tie as tie
 
@@ -29,15 +19,6 @@ nothing s p q r =
     ∙ ap {B = Session} (λ (n : ℕ). record { live = false; owner = n; active = s .active }) q
     ∙ ap {B = Session} (λ (n : ℕ). record { live = false; owner = 0; active = n }) r
 
-cast-owner : tie.Need-cast-owner
-cast-owner c = search needs
-
-array-read-if2 : tie.Need-array-read-if2
-array-read-if2 c = search needs
-
-subset-requires : tie.Need-subset-requires
-subset-requires c κs = search needs
-
 returns : tie.Need-returns
 returns c =
     let s = c .before .before .before .before .args .session in
@@ -47,7 +28,7 @@ returns c =
     }
 
 returns-2 : tie.Need-returns-2
-returns-2 c = tells-no _ (λ p. clash (flags (c .before .before .before .args .t2) (c .before .before .before .args .session .owner)) (p .owned (c .before .before .if1 .taken)) (c .if2 .left))
+returns-2 c = tells-no (λ p. clash (flags (c .before .before .before .args .t2) (c .before .before .before .args .session .owner)) (p .owned (c .before .before .if1 .taken)) (c .if2 .left))
 
 returns-3 : tie.Need-returns-3
 returns-3 c =
@@ -58,9 +39,9 @@ returns-3 c =
     }
 
 returns-4 : tie.Need-returns-4
-returns-4 c = tells-no _ (λ p. c .if3 .left (ap (λ (x : Session). x .owner) (p .closed (c .before .before .if1 .left))))
+returns-4 c = tells-no (λ p. c .if3 .left (ap (λ (x : Session). x .owner) (p .closed (c .before .before .if1 .left))))
 
 pub session-fine-spec : {M : Type 1} → statement M
 session-fine-spec =
     tie.close
-    (tie.spec cast-owner array-read-if2 subset-requires returns returns-2 returns-3 returns-4)
+    (tie.spec (λ c. search needs) (λ c. search needs) (λ c κs. search needs) returns returns-2 returns-3 returns-4)

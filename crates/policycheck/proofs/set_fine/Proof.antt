@@ -1,24 +1,13 @@
+-- A set that is there is asked for its roles, one that is not for being all zero. Assumes nothing.
 use borrow.Author.Needs.{needs}
-use mathlib.Core.Bool.{Bool, true, false, not, _&&_, _||_}
-use mathlib.Core.Path.{_≡_, refl, sym, ap, _∙_}
-use Prim.Native.Nat.{ℕ, _≤_, _<_, _+_, _-_, _^_}
+use mathlib.Core.Bool.{Bool, false}
+use mathlib.Core.Path.{_≡_, ap, _∙_}
+use Prim.Native.Nat.{ℕ, _-_}
 use native.Mathlib.Omega.{arith}
-use borrow.Author.Count.{below-none, below-more}
-use borrow.Author.Tests.{eqb-true, eq-eqb, lt-ltb, le-ltb}
-use lib.Dec.{eqb, ltb}
-use lib.ListN.{length, getD, List·getD-eq-default}
-use Rattle.roleset.specs.Bounded.{some}
-use Rattle.roleset.specs.Roles.{has, subset, isEmpty, count}
-use Rattle.roleset.proofs.BoundedLaws.{clash, some-start, some-more, some-intro}
-use Rattle.roleset.proofs.Laws.{has-none, isEmpty-false}
-use Rattle.hierarchy.specs.Lines.{tableOf}
-use Rattle.model.specs.Model.{RoleSet, Session, noSet, noSession}
-use Rattle.model.specs.commands.Sets.{badCardinality}
-use Rattle.separation.specs.Tables.{setsIn}
-use Rattle.policy.specs.View.{flags, sessionsIn}
-use Rattle.policyform.specs.Rules.{badSet}
-use Rattle.policycheck.specs.Tests.{Tells, Inside, SetFine, SessionFine}
-use Rattle.policycheck.proofs.Passing.{everywhere, tells-yes, tells-no, inside-none, set-none, session-none}
+use borrow.Author.Tests.{eqb-true, eq-eqb}
+use Rattle.roleset.proofs.BoundedLaws.{clash}
+use Rattle.model.specs.Model.{RoleSet, noSet}
+use Rattle.policycheck.proofs.Passing.{tells-no, set-none}
 use Rattle.policycheck.proofs.set_fine.Statement.{statement}
 use Rattle.policycheck.proofs.set_fine.Tie as tie
 
@@ -28,9 +17,6 @@ nothing set p q r =
     ap {B = RoleSet} (λ (b : Bool). record { there = b; card = set .card; roles = set .roles }) p
     ∙ ap {B = RoleSet} (λ (n : ℕ). record { there = false; card = n; roles = set .roles }) q
     ∙ ap {B = RoleSet} (λ (n : ℕ). record { there = false; card = 0; roles = n }) r
-
-subset-requires : tie.Need-subset-requires
-subset-requires c κs = search needs
 
 returns : tie.Need-returns
 returns c =
@@ -50,7 +36,7 @@ returns-2 c =
     }
 
 returns-3 : tie.Need-returns-3
-returns-3 c = tells-no _ (λ p. c .if2 .left (ap (λ (x : RoleSet). x .card) (p .absent (c .before .before .if1 .left))))
+returns-3 c = tells-no (λ p. c .if2 .left (ap (λ (x : RoleSet). x .card) (p .absent (c .before .before .if1 .left))))
 
 pub set-fine-spec : {M : Type 1} → statement M
-set-fine-spec = tie.close (tie.spec subset-requires returns returns-2 returns-3)
+set-fine-spec = tie.close (tie.spec (λ c κs. search needs) returns returns-2 returns-3)

@@ -1,14 +1,13 @@
+-- The parts between the spaces are taken one by one: the first for a word, the others for numbers. Assumes nothing.
 use borrow.Author.Needs.{needs}
-use mathlib.Core.Path.{_≡_, refl, sym, ap, ap₂, _∙_}
-use Prim.Native.Nat.{ℕ, _+_, _≤_, _<_, _-_}
+use mathlib.Core.Path.{_≡_, sym, ap, _∙_}
+use Prim.Native.Nat.{ℕ, _-_}
 use native.Mathlib.Omega.{arith}
-use lib.ListN.{length, set}
-use Rattle.decimal.specs.Decimal.{value, space}
+use lib.ListN.{length}
+use Rattle.decimal.specs.Decimal.{space}
 use Rattle.words.specs.Words.{which}
-use Rattle.lines.specs.Parts.{partAt, placePast}
 use Rattle.lines.proofs.Laws.{past-more}
 use Rattle.reading.specs.Form.{wordIn}
-use Rattle.reading.specs.Holding.{gathered}
 use Rattle.reading.proofs.Gathering.{Gathers, gathers-start, gathers-next, gathers-all, gathers-over}
 use Rattle.reading.proofs.gather.Statement.{statement}
 use Rattle.reading.proofs.gather.Tie as tie
@@ -19,36 +18,15 @@ Inv-loop text at₀ word numbers₀ count₀ at numbers count = (word ≡ wordIn
 abbrev μ-loop : tie.MeasureT-loop
 μ-loop text at₀ word numbers₀ count₀ at numbers count = length text - at
 
-next-from-requires : tie.Need-next-from-requires Inv-loop μ-loop
-next-from-requires c κs = search needs
-
-which-requires : tie.Need-which-requires Inv-loop μ-loop
-which-requires c κs = search needs
-
 loop-holds : tie.Need-loop-holds Inv-loop μ-loop
 unfolding wordIn
 loop-holds c = (c .which .ensures ∙ ap which (c .before .next-from .ensures .0), rw (c .before .next-from .ensures .1) (gathers-start (c .before .before .before .before .args .text .now)))
 
-no-line-requires : tie.Need-no-line-requires Inv-loop μ-loop
-no-line-requires c κs = search needs
-
 returns : tie.Need-returns Inv-loop μ-loop
 returns c = c .no-line .ensures ∙ sym (gathers-over (c .before .before .before .before .before .before .before .before .args .text .now) _ _ _ (c .before .before .loop-test .taken) (c .before .if1 .taken) (c .before .before .before .loop .inv .1))
 
-next-from-requires-2 : tie.Need-next-from-requires-2 Inv-loop μ-loop
-next-from-requires-2 c κs = search needs
-
-value-requires : tie.Need-value-requires Inv-loop μ-loop
-value-requires c κs = search needs
-
-mul-numbers : tie.Need-mul-numbers Inv-loop μ-loop
-mul-numbers c = search needs
-
 array-write-numbers : tie.Need-array-write-numbers Inv-loop μ-loop
 array-write-numbers c = omega (arith, c .before .before .before .before .before .loop .inv .1 .long, c .before .before .before .if1 .left)
-
-add-count : tie.Need-add-count Inv-loop μ-loop
-add-count c = search needs
 
 loop-less : tie.Need-loop-less Inv-loop μ-loop
 loop-less c = let h = past-more space (c .before .before .before .before .before .before .before .before .before .before .args .text .now) (c .before .before .before .before .before .loop .at) (c .before .before .before .before .loop-test .taken) in omega (arith, c .before .next-from2 .ensures .1, c .before .before .before .before .loop-test .taken)
@@ -71,16 +49,16 @@ gather-spec =
     (tie.spec
     Inv-loop
     μ-loop
-    next-from-requires
-    which-requires
+    (λ c κs. search needs)
+    (λ c κs. search needs)
     loop-holds
-    no-line-requires
+    (λ c κs. search needs)
     returns
-    next-from-requires-2
-    value-requires
-    mul-numbers
+    (λ c κs. search needs)
+    (λ c κs. search needs)
+    (λ c. search needs)
     array-write-numbers
-    add-count
+    (λ c. search needs)
     loop-less
     loop-again
     cast-t16

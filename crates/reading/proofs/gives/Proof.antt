@@ -1,8 +1,8 @@
 -- The line is written at the front of a buffer with room for it, and compared with the text. Assumes nothing.
 use borrow.Author.Needs.{needs}
-use mathlib.Core.List.{List, [], _++_}
+use mathlib.Core.List.{List}
 use mathlib.Core.Path.{_≡_, sym, ap, _∙_}
-use Prim.Native.Nat.{ℕ, _+_, _≤_, _<_, _*_}
+use Prim.Native.Nat.{ℕ, _≤_}
 use native.Mathlib.Omega.{arith}
 use lib.ListN.{length, replicate, length-replicate, length-append}
 use lib.Seq.{length-take-le}
@@ -31,26 +31,11 @@ ends c = omega (arith, put c .ends, room c, length-replicate {A = ℕ} 2048 0)
 long : (c : tie.After-put-numbers) → length (c .put-numbers .last .0) ≡ 2048
 long c = put-length (put c) ∙ length-replicate {A = ℕ} 2048 0
 
-slice-aggregate-put-word : tie.Need-slice-aggregate-put-word
-slice-aggregate-put-word c = search needs
-
-put-word-requires : tie.Need-put-word-requires
-put-word-requires c κs = search needs
-
-slice-aggregate-put-numbers : tie.Need-slice-aggregate-put-numbers
-slice-aggregate-put-numbers c = search needs
-
-put-numbers-requires : tie.Need-put-numbers-requires
-put-numbers-requires c κs = search needs
-
 array-share-prefix-buf : tie.Need-array-share-prefix-buf
 array-share-prefix-buf c = omega (arith, long (c .before), ends (c .before), room (c .before))
 
 slice-aggregate-same : tie.Need-slice-aggregate-same
 slice-aggregate-same c = sym (length-take-le _ _ (omega (arith, long (c .before .before), ends (c .before .before), room (c .before .before))))
-
-same-requires : tie.Need-same-requires
-same-requires c κs = search needs
 
 returns : tie.Need-returns
 returns c =
@@ -62,11 +47,11 @@ pub gives-spec : {M : Type 1} → statement M
 gives-spec =
     tie.close
     (tie.spec
-    slice-aggregate-put-word
-    put-word-requires
-    slice-aggregate-put-numbers
-    put-numbers-requires
+    (λ c. search needs)
+    (λ c κs. search needs)
+    (λ c. search needs)
+    (λ c κs. search needs)
     array-share-prefix-buf
     slice-aggregate-same
-    same-requires
+    (λ c κs. search needs)
     returns)

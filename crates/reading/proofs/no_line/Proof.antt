@@ -1,4 +1,4 @@
-use borrow.Author.Needs.{needs}
+-- All zero is what a text that is no line is read as. Assumes nothing.
 use mathlib.Core.Path.{refl}
 use Rattle.reading.specs.Holding.{blank}
 use Rattle.reading.proofs.no_line.Statement.{statement}

@@ -1,7 +1,7 @@
+-- What was gathered is a line exactly where its rendering is the text. Assumes nothing.
 use borrow.Author.Needs.{needs}
-use mathlib.Core.Bool.{Bool, true, false, _&&_}
 use mathlib.Core.List.{List}
-use mathlib.Core.Path.{_≡_, refl, sym, ap, ap₂, _∙_}
+use mathlib.Core.Path.{_≡_, sym, ap, ap₂, _∙_}
 use Prim.Native.Nat.{ℕ, _≤_, _<_}
 use native.Mathlib.Omega.{arith}
 use lib.Dec.{leb, ltb}
@@ -11,7 +11,7 @@ use borrow.Author.Tests.{le-leb, ltb-true}
 use Rattle.words.specs.Bytes.{same}
 use Rattle.words.specs.Words.{takes}
 use Rattle.reading.specs.declared.Line.{Line}
-use Rattle.reading.specs.Form.{render, wordIn, numbersIn, shaped, again, parse}
+use Rattle.reading.specs.Form.{render, wordIn, numbersIn, shaped}
 use Rattle.reading.specs.Holding.{full, padded, held}
 use Rattle.reading.proofs.Back.{accepted, both, and-true}
 use Rattle.reading.proofs.Gathering.{good, bad, too-long, too-many, misshapen, differs, padded-front, padded-long}
@@ -47,20 +47,8 @@ shape c = c .is-shaped .ensures ∙ ap₂ shaped (word-is (c .before)) (count-is
 given : (c : tie.After-gives) → c .gives .result ≡ same (render (wordIn (c .before .before .before .before .before .before .before .before .before .args .text .now)) (numbersIn (c .before .before .before .before .before .before .before .before .before .args .text .now))) (c .before .before .before .before .before .before .before .before .before .args .text .now)
 given c = c .gives .ensures ∙ ap₂ (λ (k : ℕ) (ns : List ℕ). same (render k ns) (c .before .before .before .before .before .before .before .before .before .args .text .now)) (word-is (c .before .before .before .before .before)) (front (c .before .before .before .before .before))
 
-no-line-requires : tie.Need-no-line-requires
-no-line-requires c κs = search needs
-
 returns : tie.Need-returns
 returns c = c .no-line .ensures ∙ ap held (sym (too-long (c .before .before .before .args .text .now) (c .before .if1 .taken)))
-
-gather-requires : tie.Need-gather-requires
-gather-requires c κs = search needs
-
-is-shaped-requires : tie.Need-is-shaped-requires
-is-shaped-requires c κs = search needs
-
-cast-numbers : tie.Need-cast-numbers
-cast-numbers c = search needs
 
 array-share-prefix-numbers : tie.Need-array-share-prefix-numbers
 array-share-prefix-numbers c = within (c .before .before .before)
@@ -72,15 +60,6 @@ gives-requires : tie.Need-gives-requires
 gives-requires c κs =
     let k : wordIn (c .before .before .before .before .before .before .before .before .args .text .now) < 41 = ltb-true _ _ (and-true (ltb (wordIn (c .before .before .before .before .before .before .before .before .args .text .now)) 41) (takes (wordIn (c .before .before .before .before .before .before .before .before .args .text .now)) (length (numbersIn (c .before .before .before .before .before .before .before .before .args .text .now)))) (sym (shape (c .before .before .before)) ∙ c .before .before .if3 .taken) .0) in
     (omega (arith, word-is (c .before .before .before .before), k), omega (arith, ap length (front (c .before .before .before .before)), is-full (c .before .before .before .before) .1))
-
-no-line-requires-2 : tie.Need-no-line-requires-2
-no-line-requires-2 c κs = search needs
-
-no-line-requires-3 : tie.Need-no-line-requires-3
-no-line-requires-3 c κs = search needs
-
-no-line-requires-4 : tie.Need-no-line-requires-4
-no-line-requires-4 c κs = search needs
 
 returns-2 : tie.Need-returns-2
 returns-2 c =
@@ -102,17 +81,17 @@ pub read-line-spec : {M : Type 1} → statement M
 read-line-spec =
     tie.close
     (tie.spec
-    no-line-requires
+    (λ c κs. search needs)
     returns
-    gather-requires
-    is-shaped-requires
-    cast-numbers
+    (λ c κs. search needs)
+    (λ c κs. search needs)
+    (λ c. search needs)
     array-share-prefix-numbers
     slice-aggregate-gives
     gives-requires
-    no-line-requires-2
-    no-line-requires-3
-    no-line-requires-4
+    (λ c κs. search needs)
+    (λ c κs. search needs)
+    (λ c κs. search needs)
     returns-2
     returns-3
     returns-4

@@ -1,62 +1,36 @@
--- `reviews::role_ops` meets its contract. Assumes nothing.
+-- The operations on the object of the roles that one walk from the role reaches. Assumes nothing.
 use borrow.Author.Needs.{needs}
 use mathlib.Core.Bool.{Bool, not, _||_}
-use mathlib.Core.Path.{_≡_, sym, ap, _∙_}
+use mathlib.Core.Path.{sym, ap, _∙_}
 use lib.Dec.{leb}
 use Rattle.roleset.specs.Bounded.{members}
-use Rattle.roleset.specs.Roles.{has, none, with}
 use Rattle.hierarchy.specs.Lines.{tableOf}
-use Rattle.hierarchy.specs.Walks.{reach}
-use Rattle.hierarchy.specs.declared.Walk.{Walk}
 use Rattle.numbers.specs.Ranges.{objects}
-use Rattle.model.specs.Words.{reached, permission}
+use Rattle.model.specs.Words.{permission}
 use Rattle.model.specs.Questions.{ask, roleOps}
 use Rattle.policy.specs.View.{view}
 use Rattle.reviews.specs.Reviewing.{meets}
-use Rattle.reviews.proofs.Settling.{told-review}
+use Rattle.reviews.proofs.Walking.{walked, told-walk}
 use Rattle.reviews.proofs.role_ops.Statement.{statement}
 use Rattle.reviews.proofs.role_ops.Tie as tie
-
-with-requires : tie.Need-with-requires
-with-requires c κs = search needs
-
-reach-requires : tie.Need-reach-requires
-reach-requires c κs = search needs
-
-role-beyond-requires : tie.Need-role-beyond-requires
-role-beyond-requires c κs = search needs
-
-either-requires : tie.Need-either-requires
-either-requires c κs = search needs
-
-has-requires : tie.Need-has-requires
-has-requires c κs = search needs
-
-review-ops-requires : tie.Need-review-ops-requires
-review-ops-requires c κs = search needs
-
-same-length : tie.Need-same-length
-same-length c = search needs
 
 returns : tie.Need-returns
 unfolding ask view roleOps
 returns c =
-    let a = c .before .before .before .before .before .before .before .before .before .before .before .before .before .before .before .args in
-    let s = a .t1 in
-    let walked : reached (view s) (with none (a .r .number)) ≡ c .before .before .before .before .before .before .before .before .before .before .reach .result = ap (reach (tableOf (s .juniors))) (sym (c .before .before .before .before .before .before .before .before .before .before .before .with .ensures .is)) ∙ sym (c .before .before .before .before .before .before .before .before .before .before .reach .ensures) in
-    told-review (view s) (ap (λ (b : Bool). b || leb objects (a .obj)) (sym (c .before .before .before .before .before .before .before .before .before .role-beyond .ensures)) ∙ sym (c .before .before .before .before .before .before .before .before .either .ensures)) (ap not (sym (c .before .before .before .before .before .before .before .has .ensures))) (ap (λ (w : Walk). w .cut) walked)
-    (λ e. ap (λ (w : Walk). members 16 (λ op. meets (w .roles) (tableOf (s .holders) (permission op (a .obj))))) walked)
-    (c .before .before .review-ops .ensures)
+    let walk = c .before .before .before .before .before .before .before .before .before .before in
+    let start = walk .before .before .before .before .before in
+    let s = start .args .t1 in
+    told-walk s (ap (λ (b : Bool). b || leb objects (start .args .obj)) (sym (c .before .before .before .before .before .before .before .before .before .role-beyond .ensures)) ∙ sym (c .before .before .before .before .before .before .before .before .either .ensures)) (ap not (sym (c .before .before .before .before .before .before .before .has .ensures))) (walked s (walk .before .with .ensures .is) (walk .reach .ensures)) (λ roles. members 16 (λ op. meets roles (tableOf (s .holders) (permission op (start .args .obj))))) (c .before .before .review-ops .ensures)
 
 pub role-ops-spec : {M : Type 1} → statement M
 role-ops-spec =
     tie.close
     (tie.spec
-    with-requires
-    reach-requires
-    role-beyond-requires
-    either-requires
-    has-requires
-    review-ops-requires
-    same-length
+    (λ c κs. search needs)
+    (λ c κs. search needs)
+    (λ c κs. search needs)
+    (λ c κs. search needs)
+    (λ c κs. search needs)
+    (λ c κs. search needs)
+    (λ c. search needs)
     returns)

@@ -1,4 +1,4 @@
--- `reviews::set_names` meets its contract. Assumes nothing.
+-- The places of the sets that are there: each holds role 0, and no other place does. Assumes nothing.
 use borrow.Author.Needs.{needs}
 use mathlib.Core.List.{List}
 use mathlib.Core.Path.{_≡_, refl, sym, ap, _∙_}
@@ -16,21 +16,6 @@ use Rattle.reviews.proofs.OfKind.{kind-named}
 use Rattle.reviews.proofs.set_names.Statement.{statement}
 use Rattle.reviews.proofs.set_names.Tie as tie
 
-sets-of-requires : tie.Need-sets-of-requires
-sets-of-requires c κs = search needs
-
-there-requires : tie.Need-there-requires
-there-requires c κs = search needs
-
-slice-aggregate-review : tie.Need-slice-aggregate-review
-slice-aggregate-review c = search needs
-
-review-requires : tie.Need-review-requires
-review-requires c κs = search needs
-
-same-length : tie.Need-same-length
-same-length c = search needs
-
 returns : tie.Need-returns
 unfolding ask view setNames
 returns c =
@@ -45,9 +30,9 @@ pub set-names-spec : {M : Type 1} → statement M
 set-names-spec =
     tie.close
     (tie.spec
-    sets-of-requires
-    there-requires
-    slice-aggregate-review
-    review-requires
-    same-length
+    (λ c κs. search needs)
+    (λ c κs. search needs)
+    (λ c. search needs)
+    (λ c κs. search needs)
+    (λ c. search needs)
     returns)

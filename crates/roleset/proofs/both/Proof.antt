@@ -1,3 +1,4 @@
+-- The machine's `&` is the intersection. Assumes nothing.
 use Rattle.roleset.proofs.Machine.{and-made}
 use Rattle.roleset.proofs.both.Statement.{statement}
 use Rattle.roleset.proofs.both.Tie as tie

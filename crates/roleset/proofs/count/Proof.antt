@@ -1,3 +1,4 @@
+-- The machine counts the ones. Assumes nothing.
 use native.Mathlib.Omega.{arith}
 use lib.Count.{ones-le}
 use Rattle.roleset.proofs.Machine.{ones-count}

@@ -1,3 +1,4 @@
+-- No bit is 1 exactly where the number is 0. Assumes nothing.
 use Rattle.roleset.proofs.Machine.{zero-empty}
 use Rattle.roleset.proofs.is_empty.Statement.{statement}
 use Rattle.roleset.proofs.is_empty.Tie as tie

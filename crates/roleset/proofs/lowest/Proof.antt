@@ -1,3 +1,4 @@
+-- The lowest bit that is 1 is the lowest member. Assumes nothing.
 use native.Mathlib.Omega.{arith}
 use lib.Count.{trailing-le}
 use Rattle.roleset.proofs.Machine.{trailing-member, trailing-empty}

@@ -1,3 +1,4 @@
+-- What is in both is taken out of the first. Assumes nothing.
 use Rattle.roleset.proofs.Machine.{less-made}
 use Rattle.roleset.proofs.minus.Statement.{statement}
 use Rattle.roleset.proofs.minus.Tie as tie

@@ -1,3 +1,4 @@
+-- What both have is all of the first. Assumes nothing.
 use Rattle.roleset.proofs.Machine.{and-subset}
 use Rattle.roleset.proofs.subset.Statement.{statement}
 use Rattle.roleset.proofs.subset.Tie as tie

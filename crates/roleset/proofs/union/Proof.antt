@@ -1,3 +1,4 @@
+-- The machine's `|` is the union. Assumes nothing.
 use Rattle.roleset.proofs.Machine.{or-made}
 use Rattle.roleset.proofs.union.Statement.{statement}
 use Rattle.roleset.proofs.union.Tie as tie

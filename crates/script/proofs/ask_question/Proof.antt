@@ -1,17 +1,17 @@
+-- The review's results are those of the question asked with room for all, and the state is as it was. Assumes nothing.
 use borrow.Author.Needs.{needs}
-use mathlib.Core.List.{List, [], _∷_, _++_}
-use mathlib.Core.Path.{_≡_, refl, sym, ap, ap₂, _∙_}
+use mathlib.Core.List.{List}
+use mathlib.Core.Path.{_≡_, sym, ap, ap₂, _∙_}
 use Prim.Native.Nat.{ℕ, _≤_}
 use native.Mathlib.Omega.{arith}
 use lib.Dec.{eqb}
-use lib.ListN.{length, take, drop, replicate, length-replicate, length-append, length-drop}
+use lib.ListN.{length, take, drop, replicate, length-replicate, length-append}
 use lib.Seq.{length-take-le, take-append-seam}
 use Rattle.model.specs.Questions.{ask}
+use Rattle.model.proofs.Asking.{asked-same}
 use Rattle.policy.specs.View.{view}
 use Rattle.reviews.specs.Reviewing.{Reviewed}
 use Rattle.reviews.proofs.Promised.{asked-with-room, results-fit}
-use Rattle.script.specs.Script.{answerText}
-use Rattle.script.proofs.Reading.{asked-same}
 use Rattle.script.proofs.ask_question.Statement.{statement}
 use Rattle.script.proofs.ask_question.Tie as tie
 
@@ -30,32 +30,11 @@ within c =
     let results = ask (view (c .before .before .before .args .s)) 4096 (c .before .before .before .args .q) .results in
     omega (arith, few c, reviewed c .count, ap length (reviewed c .buffer), length-append results (drop (length results) (replicate 4096 0)))
 
-slice-aggregate-ask : tie.Need-slice-aggregate-ask
-slice-aggregate-ask c = search needs
-
-ask-requires : tie.Need-ask-requires
-ask-requires c κs = search needs
-
-number-of-requires : tie.Need-number-of-requires
-number-of-requires c κs = search needs
-
-is-done-requires : tie.Need-is-done-requires
-is-done-requires c κs = search needs
-
-cast-results : tie.Need-cast-results
-cast-results c = search needs
-
 array-share-prefix-results : tie.Need-array-share-prefix-results
 array-share-prefix-results c = within (c .before .before .before .before)
 
 slice-aggregate-answer-text : tie.Need-slice-aggregate-answer-text
 slice-aggregate-answer-text c = sym (length-take-le _ _ (within (c .before .before .before .before .before)))
-
-answer-text-requires : tie.Need-answer-text-requires
-answer-text-requires c κs = search needs
-
-same-length : tie.Need-same-length
-same-length c = search needs
 
 returns : tie.Need-returns
 returns c =
@@ -69,13 +48,13 @@ pub ask-question-spec : {M : Type 1} → statement M
 ask-question-spec =
     tie.close
     (tie.spec
-    slice-aggregate-ask
-    ask-requires
-    number-of-requires
-    is-done-requires
-    cast-results
+    (λ c. search needs)
+    (λ c κs. search needs)
+    (λ c κs. search needs)
+    (λ c κs. search needs)
+    (λ c. search needs)
     array-share-prefix-results
     slice-aggregate-answer-text
-    answer-text-requires
-    same-length
+    (λ c κs. search needs)
+    (λ c. search needs)
     returns)

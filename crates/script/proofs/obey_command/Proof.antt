@@ -1,15 +1,12 @@
+-- The step's answer is put, with the session's number where there is a result. Assumes nothing.
 use borrow.Author.Needs.{needs}
-use mathlib.Core.Bool.{Bool, true, false, _&&_}
-use mathlib.Core.List.{List, [], _∷_}
-use mathlib.Core.Path.{_≡_, refl, sym, ap, ap₂, _∙_}
+use mathlib.Core.Bool.{Bool, _&&_}
+use mathlib.Core.Path.{_≡_, sym, ap, ap₂, _∙_}
 use Prim.Native.Nat.{ℕ}
 use lib.Dec.{eqb}
-use Rattle.decimal.specs.Putting.{Put}
 use Rattle.model.specs.Step.{step}
 use Rattle.policy.specs.View.{view}
 use Rattle.sessions.specs.Answering.{given}
-use Rattle.engine.specs.Stepping.{first}
-use Rattle.script.specs.Script.{answerText}
 use Rattle.script.specs.Opening.{opensSession}
 use Rattle.script.proofs.Results.{command-results}
 use Rattle.script.proofs.obey_command.Statement.{statement}
@@ -27,27 +24,6 @@ results-are c =
     ap₂ (λ (b : Bool) (n : ℕ). given b n) (c .has-result .ensures ∙ ap (λ (b : Bool). opensSession (c .before .before .before .before .before .before .before .before .args .c) && b) (ok-is (c .before .before))) (c .before .before .before .before .before .step .ensures .opened)
     ∙ sym (command-results (view (c .before .before .before .before .before .before .before .before .args .s)) (c .before .before .before .before .before .before .before .before .args .c) (c .before .before .before .before .before .before .before .before .args .list .now))
 
-step-requires : tie.Need-step-requires
-step-requires c κs = search needs
-
-is-done-requires : tie.Need-is-done-requires
-is-done-requires c κs = search needs
-
-number-of-requires : tie.Need-number-of-requires
-number-of-requires c κs = search needs
-
-has-result-requires : tie.Need-has-result-requires
-has-result-requires c κs = search needs
-
-slice-aggregate-answer-text : tie.Need-slice-aggregate-answer-text
-slice-aggregate-answer-text c = search needs
-
-answer-text-requires : tie.Need-answer-text-requires
-answer-text-requires c κs = search needs
-
-same-length : tie.Need-same-length
-same-length c = search needs
-
 returns : tie.Need-returns
 returns c =
     record {
@@ -55,18 +31,6 @@ returns c =
       ok = ok-is (c .before .before .before .before .before .before .before .before);
       state = c .before .before .before .before .before .before .before .before .before .before .before .step .ensures .after;
     }
-
-array-share-prefix-result : tie.Need-array-share-prefix-result
-array-share-prefix-result c = search needs
-
-slice-aggregate-answer-text-2 : tie.Need-slice-aggregate-answer-text-2
-slice-aggregate-answer-text-2 c = search needs
-
-answer-text-requires-2 : tie.Need-answer-text-requires-2
-answer-text-requires-2 c κs = search needs
-
-same-length-2 : tie.Need-same-length-2
-same-length-2 c = search needs
 
 returns-2 : tie.Need-returns-2
 returns-2 c =
@@ -80,16 +44,16 @@ pub obey-command-spec : {M : Type 1} → statement M
 obey-command-spec =
     tie.close
     (tie.spec
-    step-requires
-    is-done-requires
-    number-of-requires
-    has-result-requires
-    slice-aggregate-answer-text
-    answer-text-requires
-    same-length
+    (λ c κs. search needs)
+    (λ c κs. search needs)
+    (λ c κs. search needs)
+    (λ c κs. search needs)
+    (λ c. search needs)
+    (λ c κs. search needs)
+    (λ c. search needs)
     returns
-    array-share-prefix-result
-    slice-aggregate-answer-text-2
-    answer-text-requires-2
-    same-length-2
+    (λ c. search needs)
+    (λ c. search needs)
+    (λ c κs. search needs)
+    (λ c. search needs)
     returns-2)

@@ -1,6 +1,6 @@
 -- The line at the place is answered and counted. Assumes nothing.
 use borrow.Author.Needs.{needs}
-use mathlib.Core.Path.{_≡_, ap, _∙_}
+use mathlib.Core.Path.{ap, _∙_}
 use mathlib.Core.Bool.{Bool}
 use Rattle.lines.specs.Tallies.{counted}
 use Rattle.script.specs.Lines.{Answers, toldAt}
@@ -10,18 +10,6 @@ use Rattle.script.proofs.turn.Tie as tie
 -- what the line tells
 answers : (c : tie.After-answer-line) → Answers (toldAt (c .before .before .before .before .before .before .before .before .args .script .now) (c .before .before .before .before .before .before .before .before .args .p)) (c .before .before .before .before .before .before .before .before .args .buf .now) (c .answer-line .last .1 .1 .0) (c .answer-line .result)
 answers c = rw (← c .before .before .next-from .ensures .0) (c .answer-line .ensures)
-
-next-from-requires : tie.Need-next-from-requires
-next-from-requires c κs = search needs
-
-answer-line-requires : tie.Need-answer-line-requires
-answer-line-requires c κs = search needs
-
-tallied-requires : tie.Need-tallied-requires
-tallied-requires c κs = search needs
-
-same-length : tie.Need-same-length
-same-length c = search needs
 
 returns : tie.Need-returns
 returns c =
@@ -36,4 +24,4 @@ returns c =
 pub turn-spec : {M : Type 1} → statement M
 turn-spec =
     tie.close
-    (tie.spec next-from-requires answer-line-requires tallied-requires same-length returns)
+    (tie.spec (λ c κs. search needs) (λ c κs. search needs) (λ c κs. search needs) (λ c. search needs) returns)

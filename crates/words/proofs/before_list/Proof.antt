@@ -12,12 +12,6 @@ use Rattle.words.proofs.before_list.Tie as tie
 digit : (c : tie.After-row-of) → getD (c .row-of .result) 14 0 ≡ 48 + wordOf (c .before .args .k) .numbers
 digit c = rw (c .row-of .ensures) (row-digit (wordOf (c .before .args .k)))
 
-row-of-requires : tie.Need-row-of-requires
-row-of-requires c κs = search needs
-
-array-read-result : tie.Need-array-read-result
-array-read-result c = search needs
-
 sub-result : tie.Need-sub-result
 sub-result c = omega (arith, digit c)
 
@@ -29,4 +23,4 @@ returns c = omega (arith, digit c)
 
 pub before-list-spec : {M : Type 1} → statement M
 before-list-spec =
-    tie.close (tie.spec row-of-requires array-read-result sub-result cast-result returns)
+    tie.close (tie.spec (λ c κs. search needs) (λ c. search needs) sub-result cast-result returns)

@@ -5,14 +5,8 @@ use Rattle.words.proofs.Rows.{row-mark}
 use Rattle.words.proofs.has_list.Statement.{statement}
 use Rattle.words.proofs.has_list.Tie as tie
 
-row-of-requires : tie.Need-row-of-requires
-row-of-requires c κs = search needs
-
-array-read-result : tie.Need-array-read-result
-array-read-result c = search needs
-
 returns : tie.Need-returns
 returns c = rw (c .row-of .ensures) (row-mark (wordOf (c .before .args .k)))
 
 pub has-list-spec : {M : Type 1} → statement M
-has-list-spec = tie.close (tie.spec row-of-requires array-read-result returns)
+has-list-spec = tie.close (tie.spec (λ c κs. search needs) (λ c. search needs) returns)

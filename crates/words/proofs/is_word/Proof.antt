@@ -20,12 +20,6 @@ loop-holds : tie.Need-loop-holds Inv-loop μ-loop
 unfolding letters
 loop-holds c = (omega arith, refl)
 
-letter-requires : tie.Need-letter-requires Inv-loop μ-loop
-letter-requires c κs = search needs
-
-shared-slice-read-if1 : tie.Need-shared-slice-read-if1 Inv-loop μ-loop
-shared-slice-read-if1 c = search needs
-
 returns : tie.Need-returns Inv-loop μ-loop
 returns c =
     let s = c .before .before .before .before .before .before .args in
@@ -40,12 +34,6 @@ returns-2 c =
     let p : i < length (s .text .now) = omega arith in
     sym (c .before .before .before .before .before .loop .inv .1 ∙ text-longer (s .text .now) (take 14 (s .row)) i p (sym (c .before .before .before .letter .ensures) ∙ c .if2 .taken))
 
-add-i : tie.Need-add-i Inv-loop μ-loop
-add-i c = search needs
-
-loop-less : tie.Need-loop-less Inv-loop μ-loop
-loop-less c = search needs
-
 loop-again : tie.Need-loop-again Inv-loop μ-loop
 loop-again c =
     let s = c .before .before .before .before .before .before .before .args in
@@ -53,9 +41,6 @@ loop-again c =
     let p : i < length (s .text .now) = omega arith in
     let here = c .before .before .before .letter .ensures in
     (search needs, c .before .before .before .before .before .loop .inv .1 ∙ letter-equal (s .text .now) (take 14 (s .row)) i p (c .before .if1 .left ∙ here) (λ e. c .if2 .left (here ∙ e)))
-
-letter-requires-2 : tie.Need-letter-requires-2 Inv-loop μ-loop
-letter-requires-2 c κs = search needs
 
 returns-3 : tie.Need-returns-3 Inv-loop μ-loop
 returns-3 c =
@@ -71,12 +56,12 @@ is-word-spec =
     Inv-loop
     μ-loop
     loop-holds
-    letter-requires
-    shared-slice-read-if1
+    (λ c κs. search needs)
+    (λ c. search needs)
     returns
     returns-2
-    add-i
-    loop-less
+    (λ c. search needs)
+    (λ c. search needs)
     loop-again
-    letter-requires-2
+    (λ c κs. search needs)
     returns-3)

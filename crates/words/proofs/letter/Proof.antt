@@ -9,9 +9,6 @@ use Rattle.words.proofs.Rows.{getD-within}
 use Rattle.words.proofs.letter.Statement.{statement}
 use Rattle.words.proofs.letter.Tie as tie
 
-array-read-result : tie.Need-array-read-result
-array-read-result c = search needs
-
 returns : tie.Need-returns
 returns c =
     let whole : c .before .args .i < length (c .before .args .t1) = omega arith in
@@ -21,4 +18,4 @@ returns-2 : tie.Need-returns-2
 returns-2 c = sym (List·getD-eq-default (take 14 (c .before .args .t1)) 32 (omega (arith, length-take 14 (c .before .args .t1))))
 
 pub letter-spec : {M : Type 1} → statement M
-letter-spec = tie.close (tie.spec array-read-result returns returns-2)
+letter-spec = tie.close (tie.spec (λ c. search needs) returns returns-2)

@@ -18,15 +18,9 @@ Inv-loop buf₀ at k row next₀ i₀ buf next i = Put buf₀ at (take i (take 1
 abbrev μ-loop : tie.MeasureT-loop
 μ-loop buf₀ at k row next₀ i₀ buf next i = 14 - i
 
-row-of-requires : tie.Need-row-of-requires Inv-loop μ-loop
-row-of-requires c κs = search needs
-
 loop-holds : tie.Need-loop-holds Inv-loop μ-loop
 unfolding letters
 loop-holds c = (put-none _ _, refl)
-
-letter-requires : tie.Need-letter-requires Inv-loop μ-loop
-letter-requires c κs = search needs
 
 same-length : tie.Need-same-length Inv-loop μ-loop
 same-length c = put-length (c .before .before .before .loop .inv .0)
@@ -35,15 +29,6 @@ returns : tie.Need-returns Inv-loop μ-loop
 returns c =
     let e = all-put (take 14 (c .before .before .before .before .row-of .result)) (c .before .before .before .loop .i) (sym (c .before .letter .ensures) ∙ c .if1 .taken) in
     rw (e ∙ c .before .before .before .loop .inv .1 ∙ ap letters (c .before .before .before .before .row-of .ensures) ∙ row-letters (c .before .before .before .before .before .before .args .k)) at (c .before .before .before .loop .inv .0)
-
-put-requires : tie.Need-put-requires Inv-loop μ-loop
-put-requires c κs = search needs
-
-add-i : tie.Need-add-i Inv-loop μ-loop
-add-i c = search needs
-
-loop-less : tie.Need-loop-less Inv-loop μ-loop
-loop-less c = search needs
 
 loop-again : tie.Need-loop-again Inv-loop μ-loop
 loop-again c =
@@ -67,14 +52,14 @@ put-word-spec =
     (tie.spec
     Inv-loop
     μ-loop
-    row-of-requires
+    (λ c κs. search needs)
     loop-holds
-    letter-requires
+    (λ c κs. search needs)
     same-length
     returns
-    put-requires
-    add-i
-    loop-less
+    (λ c κs. search needs)
+    (λ c. search needs)
+    (λ c. search needs)
     loop-again
     same-length-2
     returns-2)

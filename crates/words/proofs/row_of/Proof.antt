@@ -7,12 +7,6 @@ use Rattle.words.proofs.Rows.{row-at, past-last}
 use Rattle.words.proofs.row_of.Statement.{statement}
 use Rattle.words.proofs.row_of.Tie as tie
 
-mul-result : tie.Need-mul-result
-mul-result c = search needs
-
-array-copy-out-result : tie.Need-array-copy-out-result
-array-copy-out-result c = search needs
-
 returns : tie.Need-returns
 unfolding words row
 returns c = row-at (c .before .before .args .k) (c .before .if1 .taken)
@@ -22,4 +16,4 @@ unfolding row
 returns-2 c = sym (ap row (past-last (c .before .args .k) (c .if1 .left)))
 
 pub row-of-spec : {M : Type 1} → statement M
-row-of-spec = tie.close (tie.spec mul-result array-copy-out-result returns returns-2)
+row-of-spec = tie.close (tie.spec (λ c. search needs) (λ c. search needs) returns returns-2)

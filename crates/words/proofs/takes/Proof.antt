@@ -7,12 +7,6 @@ use Rattle.words.proofs.Tables.{fits}
 use Rattle.words.proofs.takes.Statement.{statement}
 use Rattle.words.proofs.takes.Tie as tie
 
-before-list-requires : tie.Need-before-list-requires
-before-list-requires c κs = search needs
-
-has-list-requires : tie.Need-has-list-requires
-has-list-requires c κs = search needs
-
 returns : tie.Need-returns
 unfolding takes
 returns c =
@@ -26,4 +20,4 @@ returns-2 c =
     rw (c .before .before .before-list .ensures) (sym (fits (wordOf (c .before .before .before .args .k)) (c .before .before .before .args .n) false listed))
 
 pub takes-spec : {M : Type 1} → statement M
-takes-spec = tie.close (tie.spec before-list-requires has-list-requires returns returns-2)
+takes-spec = tie.close (tie.spec (λ c κs. search needs) (λ c κs. search needs) returns returns-2)

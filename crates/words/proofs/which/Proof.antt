@@ -23,18 +23,6 @@ loop-holds : tie.Need-loop-holds Inv-loop μ-loop
 unfolding words row
 loop-holds c = (omega arith, refl, let e = which-starts (c .before .args .text .now) in omega (arith, e))
 
-cast-is-word : tie.Need-cast-is-word Inv-loop μ-loop
-cast-is-word c = search needs
-
-mul-is-word : tie.Need-mul-is-word Inv-loop μ-loop
-mul-is-word c = search needs
-
-array-copy-out-is-word : tie.Need-array-copy-out-is-word Inv-loop μ-loop
-array-copy-out-is-word c = search needs
-
-is-word-requires : tie.Need-is-word-requires Inv-loop μ-loop
-is-word-requires c κs = search needs
-
 -- what the comparison with a row says of its word
 compared : (c : tie.After-is-word Inv-loop μ-loop) → c .is-word .result ≡ same (c .before .before .before .before .before .args .text .now) (spelling (c .before .before .before .loop .k))
 compared c =
@@ -47,12 +35,6 @@ returns : tie.Need-returns Inv-loop μ-loop
 returns c =
     let e = found (c .before .before .before .before .before .before .args .text .now) (c .before .before .before .before .loop .k) (c .before .before .before .loop-test .taken) (sym (compared (c .before)) ∙ c .if1 .taken) in
     omega (arith, e, c .before .before .before .before .loop .inv .2)
-
-add-k : tie.Need-add-k Inv-loop μ-loop
-add-k c = search needs
-
-loop-less : tie.Need-loop-less Inv-loop μ-loop
-loop-less c = search needs
 
 loop-again : tie.Need-loop-again Inv-loop μ-loop
 loop-again c =
@@ -72,12 +54,12 @@ which-spec =
     Inv-loop
     μ-loop
     loop-holds
-    cast-is-word
-    mul-is-word
-    array-copy-out-is-word
-    is-word-requires
+    (λ c. search needs)
+    (λ c. search needs)
+    (λ c. search needs)
+    (λ c κs. search needs)
     returns
-    add-k
-    loop-less
+    (λ c. search needs)
+    (λ c. search needs)
     loop-again
     returns-2)

@@ -1,5 +1,4 @@
--- `reviews::listing::count` meets its contract. The loop's invariant: n is the number of the places passed that have one of the roles. The measure is what
--- is left of the table. Assumes nothing.
+-- The places passed that have one of the roles are counted: their list's length. Assumes nothing.
 use borrow.Author.Needs.{needs}
 use mathlib.Core.Bool.{Bool}
 use mathlib.Core.Logic.{⊎-elim}
@@ -23,23 +22,8 @@ abbrev μ-loop : tie.MeasureT-loop
 loop-holds : tie.Need-loop-holds Inv-loop μ-loop
 loop-holds c = (omega arith, sym (ap length (members-start _)))
 
-mul-meet : tie.Need-mul-meet Inv-loop μ-loop
-mul-meet c = search needs
-
-shared-slice-read-meet : tie.Need-shared-slice-read-meet Inv-loop μ-loop
-shared-slice-read-meet c = search needs
-
-meet-requires : tie.Need-meet-requires Inv-loop μ-loop
-meet-requires c κs = search needs
-
 add-n : tie.Need-add-n Inv-loop μ-loop
 add-n c = let a = c .before .before .before .before .before .before .args in omega (arith, members-most (c .before .before .before .before .loop .k) (touched (a .roles) (a .table .now)))
-
-add-k : tie.Need-add-k Inv-loop μ-loop
-add-k c = search needs
-
-loop-less : tie.Need-loop-less Inv-loop μ-loop
-loop-less c = search needs
 
 loop-again : tie.Need-loop-again Inv-loop μ-loop
 loop-again c =
@@ -66,11 +50,11 @@ count-spec =
     Inv-loop
     μ-loop
     loop-holds
-    mul-meet
-    shared-slice-read-meet
-    meet-requires
+    (λ c. search needs)
+    (λ c. search needs)
+    (λ c κs. search needs)
     add-n
-    add-k
-    loop-less
+    (λ c. search needs)
+    (λ c. search needs)
     loop-again
     returns)

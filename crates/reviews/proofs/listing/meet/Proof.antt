@@ -1,4 +1,4 @@
--- `reviews::listing::meet` meets its contract. Assumes nothing.
+-- Two sets have a role in common where their intersection is not empty. Assumes nothing.
 use borrow.Author.Needs.{needs}
 use mathlib.Core.Bool.{not}
 use mathlib.Core.Path.{ap, _∙_}
@@ -6,14 +6,8 @@ use Rattle.roleset.specs.Roles.{isEmpty}
 use Rattle.reviews.proofs.listing.meet.Statement.{statement}
 use Rattle.reviews.proofs.listing.meet.Tie as tie
 
-both-requires : tie.Need-both-requires
-both-requires c κs = search needs
-
-is-empty-requires : tie.Need-is-empty-requires
-is-empty-requires c κs = search needs
-
 returns : tie.Need-returns
 returns c = ap not (c .is-empty .ensures .is ∙ ap isEmpty (c .before .both .ensures .is))
 
 pub meet-spec : {M : Type 1} → statement M
-meet-spec = tie.close (tie.spec both-requires is-empty-requires returns)
+meet-spec = tie.close (tie.spec (λ c κs. search needs) (λ c κs. search needs) returns)

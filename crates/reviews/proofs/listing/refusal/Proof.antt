@@ -1,4 +1,4 @@
--- `reviews::listing::refusal` meets its contract: its tests stand in the order of the refusals. Assumes nothing.
+-- The tests stand in the order of the refusals. Assumes nothing.
 use borrow.Author.Tests.{lt-ltb, le-ltb}
 use Rattle.model.specs.Sheet.{verdict}
 use Rattle.reviews.proofs.listing.refusal.Statement.{statement}

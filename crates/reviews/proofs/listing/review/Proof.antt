@@ -1,4 +1,4 @@
--- `reviews::listing::review` meets its contract. Assumes nothing.
+-- Counted, refused or written: the answer settles which. Assumes nothing.
 use borrow.Author.Needs.{needs}
 use mathlib.Core.Path.{_≡_, refl, sym, ap, _∙_}
 use Prim.Native.Nat.{ℕ}
@@ -15,22 +15,10 @@ use Rattle.reviews.proofs.listing.review.Tie as tie
 answered : (c : tie.After-refusal) → numberOf (c .refusal .result) ≡ verdict (refusals (c .before .before .before .before .args .beyond) (c .before .before .before .before .args .missing) (c .before .before .before .before .args .cut) (length (c .before .before .before .before .args .out .now)) (length (meeting (c .before .before .before .before .args .roles) (c .before .before .before .before .args .table .now))))
 answered c = c .refusal .ensures ∙ ap (λ (n : ℕ). verdict (refusals (c .before .before .before .before .args .beyond) (c .before .before .before .before .args .missing) (c .before .before .before .before .args .cut) (length (c .before .before .before .before .args .out .now)) n)) (c .before .count .ensures)
 
-count-requires : tie.Need-count-requires
-count-requires c κs = search needs
-
-refusal-requires : tie.Need-refusal-requires
-refusal-requires c κs = search needs
-
-is-done-requires : tie.Need-is-done-requires
-is-done-requires c κs = search needs
-
 write-requires : tie.Need-write-requires
 write-requires c κs =
     let a = c .before .before .before .before .before .before .before .args in
     (c .before .before .before .before .before .before .before .pre, done-room (a .beyond) (a .missing) (a .cut) (length (a .out .now)) (length (meeting (a .roles) (a .table .now))) (sym (answered (c .before .before .before)) ∙ eqb-true (numberOf (c .before .before .before .refusal .result)) 0 (sym (c .before .before .is-done .ensures) ∙ c .before .if1 .taken)))
-
-same-length : tie.Need-same-length
-same-length c = search needs
 
 returns : tie.Need-returns
 returns c =
@@ -46,10 +34,10 @@ pub review-spec : {M : Type 1} → statement M
 review-spec =
     tie.close
     (tie.spec
-    count-requires
-    refusal-requires
-    is-done-requires
+    (λ c κs. search needs)
+    (λ c κs. search needs)
+    (λ c κs. search needs)
     write-requires
-    same-length
+    (λ c. search needs)
     returns
     returns-2)

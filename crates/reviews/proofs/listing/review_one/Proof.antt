@@ -1,4 +1,4 @@
--- `reviews::listing::review_one` meets its contract. Assumes nothing.
+-- One number is written where the buffer has a place. Assumes nothing.
 use borrow.Author.Needs.{needs}
 use mathlib.Core.List.{[], _∷_}
 use mathlib.Core.Path.{refl, sym, _∙_}
@@ -15,17 +15,8 @@ use Rattle.reviews.proofs.listing.review_one.Tie as tie
 room : (c : tie.Then1) → 1 ≤ length (c .before .before .before .before .args .out .now)
 room c = done-room (c .before .before .before .before .args .beyond) (c .before .before .before .before .args .missing) (c .before .before .before .before .args .cut) (length (c .before .before .before .before .args .out .now)) 1 (sym (c .before .before .refusal .ensures) ∙ eqb-true (numberOf (c .before .before .refusal .result)) 0 (sym (c .before .is-done .ensures) ∙ c .if1 .taken))
 
-refusal-requires : tie.Need-refusal-requires
-refusal-requires c κs = search needs
-
-is-done-requires : tie.Need-is-done-requires
-is-done-requires c κs = search needs
-
 slice-write-out : tie.Need-slice-write-out
 slice-write-out c = room c
-
-same-length : tie.Need-same-length
-same-length c = search needs
 
 returns : tie.Need-returns
 returns c = lists-done (c .before .before .before .before .args .beyond) (c .before .before .before .before .args .missing) (c .before .before .before .before .args .cut) (c .before .before .before .before .args .number ∷ []) (c .before .before .before .before .args .out .now) _ _ (c .before .before .refusal .ensures) (sym (c .before .is-done .ensures) ∙ c .if1 .taken) refl (over-next [] (c .before .before .before .before .args .out .now) (c .before .before .before .before .args .number) (room c))
@@ -36,4 +27,4 @@ returns-2 c = lists-refused (c .before .before .before .before .args .beyond) (c
 pub review-one-spec : {M : Type 1} → statement M
 review-one-spec =
     tie.close
-    (tie.spec refusal-requires is-done-requires slice-write-out same-length returns returns-2)
+    (tie.spec (λ c κs. search needs) (λ c κs. search needs) slice-write-out (λ c. search needs) returns returns-2)

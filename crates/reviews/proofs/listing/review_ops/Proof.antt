@@ -1,4 +1,4 @@
--- `reviews::listing::review_ops` meets its contract. Assumes nothing.
+-- The operations are the places of a table of their holders. Assumes nothing.
 use borrow.Author.Needs.{needs}
 use mathlib.Core.Path.{_≡_, refl, sym, ap}
 use native.Mathlib.Omega.{arith}
@@ -8,18 +8,6 @@ use Rattle.reviews.proofs.Filling.{meeting-members}
 use Rattle.reviews.proofs.Settling.{told-review}
 use Rattle.reviews.proofs.listing.review_ops.Statement.{statement}
 use Rattle.reviews.proofs.listing.review_ops.Tie as tie
-
-holders-on-requires : tie.Need-holders-on-requires
-holders-on-requires c κs = search needs
-
-slice-aggregate-review : tie.Need-slice-aggregate-review
-slice-aggregate-review c = search needs
-
-review-requires : tie.Need-review-requires
-review-requires c κs = search needs
-
-same-length : tie.Need-same-length
-same-length c = search needs
 
 returns : tie.Need-returns
 returns c m =
@@ -32,4 +20,4 @@ returns c m =
 pub review-ops-spec : {M : Type 1} → statement M
 review-ops-spec =
     tie.close
-    (tie.spec holders-on-requires slice-aggregate-review review-requires same-length returns)
+    (tie.spec (λ c κs. search needs) (λ c. search needs) (λ c κs. search needs) (λ c. search needs) returns)

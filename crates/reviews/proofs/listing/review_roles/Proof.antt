@@ -1,4 +1,4 @@
--- `reviews::listing::review_roles` meets its contract: each role alone meets the set where it is a member. Assumes nothing.
+-- Each role alone meets the set where it is a member. Assumes nothing.
 use borrow.Author.Needs.{needs}
 use mathlib.Core.Path.{_≡_, refl, sym, ap, _∙_}
 use native.Mathlib.Omega.{arith}
@@ -9,18 +9,6 @@ use Rattle.reviews.proofs.Filling.{meeting-members, meets-turned, has-m
 use Rattle.reviews.proofs.Settling.{told-review}
 use Rattle.reviews.proofs.listing.review_roles.Statement.{statement}
 use Rattle.reviews.proofs.listing.review_roles.Tie as tie
-
-singles-requires : tie.Need-singles-requires
-singles-requires c κs = search needs
-
-slice-aggregate-review : tie.Need-slice-aggregate-review
-slice-aggregate-review c = search needs
-
-review-requires : tie.Need-review-requires
-review-requires c κs = search needs
-
-same-length : tie.Need-same-length
-same-length c = search needs
 
 returns : tie.Need-returns
 returns c m =
@@ -34,4 +22,4 @@ returns c m =
 pub review-roles-spec : {M : Type 1} → statement M
 review-roles-spec =
     tie.close
-    (tie.spec singles-requires slice-aggregate-review review-requires same-length returns)
+    (tie.spec (λ c κs. search needs) (λ c. search needs) (λ c κs. search needs) (λ c. search needs) returns)

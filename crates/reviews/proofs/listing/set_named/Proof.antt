@@ -1,4 +1,4 @@
--- `reviews::listing::set_named` meets its contract. Assumes nothing.
+-- Past the last name there is no set. Assumes nothing.
 use borrow.Author.Needs.{needs}
 use mathlib.Core.List.{List}
 use mathlib.Core.Path.{_≡_, sym, ap, _∙_}
@@ -8,18 +8,6 @@ use Rattle.model.specs.Model.{RoleSet, noSet}
 use Rattle.separation.specs.Tables.{setsIn}
 use Rattle.reviews.proofs.listing.set_named.Statement.{statement}
 use Rattle.reviews.proofs.listing.set_named.Tie as tie
-
-sets-of-requires : tie.Need-sets-of-requires
-sets-of-requires c κs = search needs
-
-cast-at : tie.Need-cast-at
-cast-at c = search needs
-
-mul-result : tie.Need-mul-result
-mul-result c = search needs
-
-array-copy-out-result : tie.Need-array-copy-out-result
-array-copy-out-result c = search needs
 
 returns : tie.Need-returns
 returns c = ap (λ (l : List RoleSet). setsIn l (c .before .before .before .before .args .name .number)) (c .before .before .before .sets-of .ensures)
@@ -32,4 +20,4 @@ returns-2 c =
 pub set-named-spec : {M : Type 1} → statement M
 set-named-spec =
     tie.close
-    (tie.spec sets-of-requires cast-at mul-result array-copy-out-result returns returns-2)
+    (tie.spec (λ c κs. search needs) (λ c. search needs) (λ c. search needs) (λ c. search needs) returns returns-2)

@@ -1,5 +1,4 @@
--- `reviews::listing::write` meets its contract. The loop's invariant: the list of the places passed stands at the front of the buffer, n is its length, and the
--- rest is as before. The measure is what is left of the table. Assumes nothing.
+-- The list of the places passed stands at the front of the buffer, and the rest is as before. Assumes nothing.
 use borrow.Author.Needs.{needs}
 use mathlib.Core.Bool.{Bool}
 use mathlib.Core.Logic.{⊎-elim}
@@ -22,18 +21,6 @@ abbrev μ-loop : tie.MeasureT-loop
 loop-holds : tie.Need-loop-holds Inv-loop μ-loop
 loop-holds c = (omega arith, written-start _ _)
 
-mul-meet : tie.Need-mul-meet Inv-loop μ-loop
-mul-meet c = search needs
-
-shared-slice-read-meet : tie.Need-shared-slice-read-meet Inv-loop μ-loop
-shared-slice-read-meet c = search needs
-
-meet-requires : tie.Need-meet-requires Inv-loop μ-loop
-meet-requires c κs = search needs
-
-cast-out : tie.Need-cast-out Inv-loop μ-loop
-cast-out c = search needs
-
 mul-out : tie.Need-mul-out Inv-loop μ-loop
 mul-out c = let at = c .before .before .before .before .loop in omega (arith, written-few _ _ (at .k) (at .n) (at .out) (at .inv .1))
 
@@ -46,12 +33,6 @@ slice-write-out c =
 
 add-n : tie.Need-add-n Inv-loop μ-loop
 add-n c = let at = c .before .before .before .before .loop in omega (arith, written-few _ _ (at .k) (at .n) (at .out) (at .inv .1))
-
-add-k : tie.Need-add-k Inv-loop μ-loop
-add-k c = search needs
-
-loop-less : tie.Need-loop-less Inv-loop μ-loop
-loop-less c = search needs
 
 loop-again : tie.Need-loop-again Inv-loop μ-loop
 unfolding meeting
@@ -86,15 +67,15 @@ write-spec =
     Inv-loop
     μ-loop
     loop-holds
-    mul-meet
-    shared-slice-read-meet
-    meet-requires
-    cast-out
+    (λ c. search needs)
+    (λ c. search needs)
+    (λ c κs. search needs)
+    (λ c. search needs)
     mul-out
     slice-write-out
     add-n
-    add-k
-    loop-less
+    (λ c. search needs)
+    (λ c. search needs)
     loop-again
     same-length
     returns)
