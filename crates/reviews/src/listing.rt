@@ -18,7 +18,7 @@ use numbers::Answer;
 use numbers::SetName;
 
 // Is some role in both sets?
-pub fn meet(roles: u64, set: u64) -> bool
+pub(crate) fn meet(roles: u64, set: u64) -> bool
     ensures { λ b. ⌜ b ≡ meets roles set ⌝ }
 {
     !roleset::is_empty(roleset::both(roles, set))
@@ -77,7 +77,7 @@ fn refusal(beyond: bool, missing: bool, cut: bool, room: usize, results: u16) ->
 }
 
 // The review whose list is the places of the table that have one of the roles. It counts before it writes, since a refusal leaves the buffer as it was.
-pub fn review(
+pub(crate) fn review(
     beyond: bool,
     missing: bool,
     cut: bool,
@@ -102,7 +102,13 @@ pub fn review(
 }
 
 // The review that gives one number.
-pub fn review_one(beyond: bool, missing: bool, cut: bool, number: u16, out: &mut [u16]) -> Review
+pub(crate) fn review_one(
+    beyond: bool,
+    missing: bool,
+    cut: bool,
+    number: u16,
+    out: &mut [u16],
+) -> Review
     ensures { λ x. ⌜ Lists beyond missing cut (number ∷ []) (now (out .entry)) (now (out .exit)) x ⌝ }
 {
     let answer = refusal(beyond, missing, cut, out.len(), 1);
@@ -128,7 +134,13 @@ fn singles() -> [u64; 64]
 }
 
 // The review whose list is the roles of a set.
-pub fn review_roles(beyond: bool, missing: bool, cut: bool, roles: u64, out: &mut [u16]) -> Review
+pub(crate) fn review_roles(
+    beyond: bool,
+    missing: bool,
+    cut: bool,
+    roles: u64,
+    out: &mut [u16],
+) -> Review
     ensures { λ x. ⌜ Lists beyond missing cut (members 64 (has roles)) (now (out .entry)) (now (out .exit)) x ⌝ }
 {
     let table = singles();
@@ -136,7 +148,7 @@ pub fn review_roles(beyond: bool, missing: bool, cut: bool, roles: u64, out: &mu
 }
 
 // The set at a place of a table; no roles past its end.
-pub fn set_at(table: &[u64], k: usize) -> u64
+pub(crate) fn set_at(table: &[u64], k: usize) -> u64
     ensures { λ x. ⌜ x ≡ tableOf (now (table .entry)) k ⌝ }
 {
     if k < table.len() { table[k] } else { 0 }
@@ -156,7 +168,7 @@ fn holders_on(holders: &[u64], obj: u16) -> [u64; 16]
 }
 
 // The review whose list is the operations that one of the roles holds on the object.
-pub fn review_ops(
+pub(crate) fn review_ops(
     beyond: bool,
     missing: bool,
     cut: bool,
@@ -172,7 +184,7 @@ pub fn review_ops(
 }
 
 // The sets of this kind.
-pub fn sets_of(ssd: [RoleSet; 16], dsd: [RoleSet; 16], kind: Kind) -> [RoleSet; 16]
+pub(crate) fn sets_of(ssd: [RoleSet; 16], dsd: [RoleSet; 16], kind: Kind) -> [RoleSet; 16]
     ensures { λ x. ⌜ x ≡ ofKind kind ssd dsd ⌝ }
 {
     match kind {
@@ -182,7 +194,12 @@ pub fn sets_of(ssd: [RoleSet; 16], dsd: [RoleSet; 16], kind: Kind) -> [RoleSet; 
 }
 
 // The set of this kind by this name. One beyond its range is not there.
-pub fn set_named(ssd: [RoleSet; 16], dsd: [RoleSet; 16], kind: Kind, name: SetName) -> RoleSet
+pub(crate) fn set_named(
+    ssd: [RoleSet; 16],
+    dsd: [RoleSet; 16],
+    kind: Kind,
+    name: SetName,
+) -> RoleSet
     ensures { λ x. ⌜ x ≡ setsIn (ofKind kind ssd dsd) (name .number) ⌝ }
 {
     let sets = sets_of(ssd, dsd, kind);
@@ -199,7 +216,7 @@ pub fn set_named(ssd: [RoleSet; 16], dsd: [RoleSet; 16], kind: Kind, name: SetNa
 }
 
 // Role 0 in the place of each set that is there, and no role in the other places.
-pub fn there(sets: [RoleSet; 16]) -> [u64; 16]
+pub(crate) fn there(sets: [RoleSet; 16]) -> [u64; 16]
     ensures { λ t. ⌜ ((n : ℕ) → n < 16 → tableOf t n ≡ bit (setsIn sets n .there)) ⌝ }
 {
     let mut t = [0u64; 16];
