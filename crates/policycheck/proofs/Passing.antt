@@ -1,14 +1,15 @@
 -- What the tests share: one after another, place by place over an array, and over a table whose places must be there. Assumes nothing.
 use mathlib.Core.Bool.{Bool, true, false, not}
 use mathlib.Core.List.{List}
-use mathlib.Core.Path.{_≡_, refl, sym, ap, _∙_}
+use mathlib.Core.Path.{_≡_, refl, ap, _∙_}
 use Prim.Native.Nat.{ℕ, _+_, _≤_, _<_}
 use native.Mathlib.Decide.{decLt}
 use native.Mathlib.Omega.{arith}
 use borrow.Author.Count.{below-more}
+use borrow.Author.Tests.{not-true, not-false}
 use lib.ListN.{length, List·getD-eq-default}
 use Rattle.roleset.specs.Roles.{has, isEmpty}
-use Rattle.roleset.proofs.BoundedLaws.{clash, yes-not}
+use Rattle.roleset.proofs.BoundedLaws.{clash}
 use Rattle.roleset.proofs.Laws.{has-none, isEmpty-false}
 use Rattle.hierarchy.specs.Lines.{tableOf}
 use Rattle.model.specs.Model.{noSet, noSession}
@@ -21,11 +22,10 @@ tells-no h = record { holds = λ e. clash false e refl; says = λ p. absurd (h p
 
 -- what asks for more than a test that fails does not hold either
 pub refuted : {b : Bool} {P Q : Type 0} → Tells b P → not b ≡ true → (Q → P) → Tells false Q
-refuted {b} t e h = tells-no (λ q. clash b (t .says (h q)) (yes-not b e))
+refuted {b} t e h = tells-no (λ q. clash b (t .says (h q)) (not-true b e))
 
 pub passes : {b : Bool} {P : Type 0} → Tells b P → not b ≡ false → P
-passes {b = true} t e = t .holds refl
-passes {b = false} t e = t .holds (sym e)
+passes {b = b} t e = t .holds (not-false b e)
 
 -- ---- a loop that tests place by place
 

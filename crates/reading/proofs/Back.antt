@@ -8,11 +8,11 @@ use native.Mathlib.Omega.{arith}
 use lib.Dec.{eqb, leb, ltb}
 use lib.ListN.{length, drop}
 use lib.Seq.{drop-append-add}
-use borrow.Author.Tests.{ne-eqb, le-leb, leb-true, lt-ltb, ltb-true}
+use borrow.Author.Tests.{ne-eqb, le-leb, leb-true, lt-ltb, ltb-true, not-true}
 use Rattle.decimal.specs.Decimal.{digit, lead, decimal, numbered, value, taken, takenFrom, space}
 use Rattle.decimal.proofs.Laws.{value-decimal, decimal-long}
 use Rattle.words.specs.Words.{spelling, which, words}
-use Rattle.words.proofs.Laws.{same-equal, same-refl}
+use Rattle.words.proofs.Laws.{and-true, same-equal, same-refl}
 use Rattle.words.proofs.Tables.{which-spelling, lengths, over-words}
 use Rattle.lines.specs.Parts.{joined, partsOf, upTo, placePast}
 use Rattle.lines.proofs.Laws.{after, at-stop, before-stop, cut, kept}
@@ -24,20 +24,12 @@ unfoldable pub free : List ℕ → Bool
 free [] = true
 free (b ∷ l) = not (eqb b space) && free l
 
-pub and-true : (a b : Bool) → (a && b) ≡ true → (a ≡ true) × (b ≡ true)
-and-true true b e = (refl, e)
-and-true false b e = let z : _≡_ {A = ℕ} 0 1 = cc in absurd (omega arith)
-
 pub both : (a b : Bool) → a ≡ true → b ≡ true → (a && b) ≡ true
 both a b p q = rw (p, q)
 
 not-space : (b : ℕ) (l : List ℕ) → free (b ∷ l) ≡ true → (eqb b space ≡ false) × (free l ≡ true)
 unfolding free
-not-space b l e = (unnot (eqb b space) (and-true (not (eqb b space)) (free l) e .0), and-true (not (eqb b space)) (free l) e .1)
-  where
-    unnot : (t : Bool) → not t ≡ true → t ≡ false
-    unnot true e = let z : _≡_ {A = ℕ} 0 1 = cc in absurd (omega arith)
-    unnot false e = refl
+not-space b l e = let h = and-true (not (eqb b space)) (free l) e in (not-true (eqb b space) (h .0), h .1)
 
 free-append : (a b : List ℕ) → free a ≡ true → free b ≡ true → free (a ++ b) ≡ true
 unfolding free

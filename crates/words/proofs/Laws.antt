@@ -14,7 +14,7 @@ use Rattle.words.specs.Words.{Word, words, wordOf, spelling, placeIn, wh
 
 -- ---- the same text
 
-and-true : (a b : Bool) → (a && b) ≡ true → (a ≡ true) × (b ≡ true)
+pub and-true : (a b : Bool) → (a && b) ≡ true → (a ≡ true) × (b ≡ true)
 and-true true b e = (refl, e)
 and-true false b e = let z : _≡_ {A = ℕ} 0 1 = cc in absurd (omega arith)
 

@@ -1,4 +1,4 @@
--- The proof of the cycle of calls {walk_from}. The measure is the count of roles still allowed in the chain, which falls at each call. Assumes nothing.
+-- Each call allows the chain one role fewer, so the walk ends, and it is the walk of the definition. Assumes nothing.
 use Prim.Native.Nat.{ℕ, _<_}
 use mathlib.Core.Path.{sym}
 use native.Mathlib.Omega.{arith}

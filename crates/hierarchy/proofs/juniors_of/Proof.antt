@@ -1,13 +1,12 @@
 -- What is met so far, with the juniors of the roles that are left, is what is asked. Assumes nothing.
-use mathlib.Core.Bool.{true}
 use mathlib.Core.Path.{_≡_, sym, ap, _∙_}
 use Prim.Native.Nat.{_^_, _<_}
 use native.Mathlib.Omega.{arith}
-use Rattle.roleset.specs.Roles.{has, union, count}
-use Rattle.roleset.proofs.Laws.{member-small, union-small, without-small, count-without}
+use Rattle.roleset.specs.Roles.{union, count}
+use Rattle.roleset.proofs.Laws.{union-small, without-small}
 use Rattle.hierarchy.specs.Lines.{tableOf}
 use Rattle.hierarchy.specs.Walks.{juniorsOf}
-use Rattle.hierarchy.proofs.Fronts.{juniors-step, juniors-begin, juniors-end, not-zero}
+use Rattle.hierarchy.proofs.Fronts.{juniors-step, juniors-begin, juniors-end, Taken, lowest-taken}
 use Rattle.hierarchy.proofs.juniors_of.Statement.{statement}
 use Rattle.hierarchy.proofs.juniors_of.Tie as tie
 
@@ -20,36 +19,15 @@ abbrev μ-loop : tie.MeasureT-loop
 loop-holds : tie.Need-loop-holds Inv-loop μ-loop
 loop-holds c = (omega arith, omega arith, juniors-begin (tableOf (c .args .juniors .now)) (c .args .front))
 
-lowest-requires : tie.Need-lowest-requires Inv-loop μ-loop
-lowest-requires c κs = tt
-
 -- the role taken is one that is left
-taken : (c : tie.After-lowest Inv-loop μ-loop) → has (c .before .before .loop .rest) (c .lowest .result) ≡ true
-taken c = c .lowest .ensures .1 .0 (not-zero (c .before .before .loop .rest) (c .before .before .loop .inv .1) (c .before .loop-test .taken)) .member
-
-taken-small : (c : tie.After-lowest Inv-loop μ-loop) → c .lowest .result < 64
-taken-small c = member-small (c .before .before .loop .rest) (c .lowest .result) (c .before .before .loop .inv .1) (taken c)
-
-cast-union : tie.Need-cast-union Inv-loop μ-loop
-cast-union c = omega (arith, taken-small c)
-
-mul-union : tie.Need-mul-union Inv-loop μ-loop
-mul-union c = omega (arith, taken-small c)
-
-element-copy-out-union : tie.Need-element-copy-out-union Inv-loop μ-loop
-element-copy-out-union c = taken-small c
-
-union-requires : tie.Need-union-requires Inv-loop μ-loop
-union-requires c κs = tt
-
-without-requires : tie.Need-without-requires Inv-loop μ-loop
-without-requires c κs = tt
+taken : (c : tie.After-lowest Inv-loop μ-loop) → Taken (c .before .before .loop .rest) (c .lowest .result)
+taken c = lowest-taken _ _ (c .before .before .loop .inv .1) (c .before .loop-test .taken) (c .lowest .ensures .1 .0)
 
 loop-less : tie.Need-loop-less Inv-loop μ-loop
-loop-less c = omega (arith, ap count (c .without .ensures .is), count-without (c .before .before .before .before .before .loop .rest) (c .before .before .before .lowest .result) (taken-small (c .before .before .before)) (taken (c .before .before .before)))
+loop-less c = omega (arith, ap count (c .without .ensures .is), taken (c .before .before .before) .fewer)
 
 loop-again : tie.Need-loop-again Inv-loop μ-loop
-loop-again c = (rw (c .before .union .ensures .is) (union-small _ _), rw (c .without .ensures .is) (without-small _ _), rw (c .before .union .ensures .is, c .without .ensures .is) (juniors-step (tableOf (c .before .before .before .before .before .before .args .juniors .now)) (c .before .before .before .before .before .loop .rest) (c .before .before .before .lowest .result) (taken-small (c .before .before .before)) (taken (c .before .before .before)) (c .before .before .before .before .before .loop .met) ∙ c .before .before .before .before .before .loop .inv .2))
+loop-again c = (rw (c .before .union .ensures .is) (union-small _ _), rw (c .without .ensures .is) (without-small _ _), rw (c .before .union .ensures .is, c .without .ensures .is) (juniors-step (tableOf (c .before .before .before .before .before .before .args .juniors .now)) (c .before .before .before .before .before .loop .rest) (c .before .before .before .lowest .result) (taken (c .before .before .before) .small) (taken (c .before .before .before) .member) (c .before .before .before .before .before .loop .met) ∙ c .before .before .before .before .before .loop .inv .2))
 
 returns : tie.Need-returns Inv-loop μ-loop
 returns c =
@@ -63,12 +41,12 @@ juniors-of-spec =
     Inv-loop
     μ-loop
     loop-holds
-    lowest-requires
-    cast-union
-    mul-union
-    element-copy-out-union
-    union-requires
-    without-requires
+    (λ c κs. tt)
+    (λ c. omega (arith, taken c .small))
+    (λ c. omega (arith, taken c .small))
+    (λ c. taken c .small)
+    (λ c κs. tt)
+    (λ c κs. tt)
     loop-less
     loop-again
     returns)

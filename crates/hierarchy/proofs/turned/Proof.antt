@@ -17,23 +17,8 @@ abbrev μ-loop : tie.MeasureT-loop
 loop-holds : tie.Need-loop-holds Inv-loop μ-loop
 loop-holds c = (refl, omega arith, λ k l. zeros k l ∙ sym (seniors-begin (tableOf (c .args .juniors .now)) k))
 
-cast-below : tie.Need-cast-below Inv-loop μ-loop
-cast-below c = omega arith
-
-mul-below : tie.Need-mul-below Inv-loop μ-loop
-mul-below c = omega arith
-
-element-copy-out-below : tie.Need-element-copy-out-below Inv-loop μ-loop
-element-copy-out-below c = omega arith
-
 mark-requires : tie.Need-mark-requires Inv-loop μ-loop
 mark-requires c κs = c .before .before .before .loop .inv .0
-
-add-s : tie.Need-add-s Inv-loop μ-loop
-add-s c = omega arith
-
-loop-less : tie.Need-loop-less Inv-loop μ-loop
-loop-less c = omega arith
 
 loop-again : tie.Need-loop-again Inv-loop μ-loop
 loop-again c =
@@ -53,11 +38,11 @@ turned-spec =
     Inv-loop
     μ-loop
     loop-holds
-    cast-below
-    mul-below
-    element-copy-out-below
+    (λ c. omega arith)
+    (λ c. omega arith)
+    (λ c. omega arith)
     mark-requires
-    add-s
-    loop-less
+    (λ c. omega arith)
+    (λ c. omega arith)
     loop-again
     returns)

@@ -13,7 +13,8 @@ use Rattle.words.specs.Words.{takes}
 use Rattle.reading.specs.declared.Line.{Line}
 use Rattle.reading.specs.Form.{render, wordIn, numbersIn, shaped}
 use Rattle.reading.specs.Holding.{full, padded, held}
-use Rattle.reading.proofs.Back.{accepted, both, and-true}
+use Rattle.words.proofs.Laws.{and-true}
+use Rattle.reading.proofs.Back.{accepted, both}
 use Rattle.reading.proofs.Gathering.{good, bad, too-long, too-many, misshapen, differs, padded-front, padded-long}
 use Rattle.reading.proofs.read_line.Statement.{statement}
 use Rattle.reading.proofs.read_line.Tie as tie
