@@ -21,11 +21,19 @@ enum-told c = search needs
 
 returns : tie.Need-returns
 unfolding view broken usersCut
-returns c = rw (c .before .before .before .before .before .before .before .enum-told .given .1) (record { broken = c .some-breaks .ensures ∙ asked-of 256 (c .before .before .before .before .before .before .before .before .before .args .set) (c .before .before .before .authorised-all .result .roles) (authorised (view (c .before .before .before .before .before .before .before .before .before .args .t1))) (whole (c .before .before .before)) (c .before .before .before .authorised-all .ensures .each); cut = c .before .before .before .authorised-all .ensures .cut })
+returns c =
+    let swept = c .before .before .before in
+    let start = swept .before .before .before .before .before .before .args in
+    rw (swept .before .before .before .before .enum-told .given .1)
+    (record { broken = c .some-breaks .ensures ∙ asked-of 256 (start .set) (swept .authorised-all .result .roles) (authorised (view (start .t1))) (whole swept) (swept .authorised-all .ensures .each); cut = swept .authorised-all .ensures .cut })
 
 returns-2 : tie.Need-returns-2
 unfolding view broken
-returns-2 c = rw (c .before .before .before .before .enum-told2 .given .1) (record { broken = c .some-breaks2 .ensures ∙ asked-of 64 (c .before .before .before .before .before .before .args .set) (c .before .before .active-roles .result) (counted (view (c .before .before .before .before .before .before .args .t1))) (omega arith) (λ k l. ap (λ (f : ℕ → ℕ). f k) (c .before .before .active-roles .ensures)); cut = refl })
+returns-2 c =
+    let swept = c .before .before in
+    let start = swept .before .before .before .before .args in
+    rw (swept .before .before .enum-told2 .given .1)
+    (record { broken = c .some-breaks2 .ensures ∙ asked-of 64 (start .set) (swept .active-roles .result) (counted (view (start .t1))) (omega arith) (λ k l. ap (λ (f : ℕ → ℕ). f k) (swept .active-roles .ensures)); cut = refl })
 
 pub ask-rule-spec : {M : Type 1} → statement M
 ask-rule-spec =

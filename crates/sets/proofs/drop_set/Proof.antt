@@ -3,44 +3,28 @@ use borrow.Author.Needs.{needs}
 use mathlib.Core.Bool.{false}
 use mathlib.Core.List.{[]}
 use mathlib.Core.Path.{_≡_, sym, ap, _∙_}
-use Prim.Native.Nat.{ℕ, _<_}
+use Prim.Native.Nat.{_<_}
 use borrow.Author.Tests.{leb-false}
-use Rattle.model.specs.Model.{Model}
 use Rattle.model.specs.Sheet.{verdict, settle, done}
 use Rattle.model.specs.commands.Naming.{noSet}
 use Rattle.model.specs.commands.Sets.{setsOf, dropSet}
-use Rattle.model.specs.declared.Kind.{Kind}
 use Rattle.policy.specs.View.{view, seen}
 use Rattle.sets.proofs.Laws.{set-found}
 use Rattle.sets.proofs.drop_set.Statement.{statement}
 use Rattle.sets.proofs.drop_set.Tie as tie
 
--- the policy and the sessions at entry, and what the command names
-abbrev m : tie.Start → Model
-m c = view (c .args .s)
+-- past refusal 1 the name is within its range, and the set by the name is the one looked up
+clear-1 : (c : tie.Else1) → noSet (c .before .before .args .name .number) ≡ false
+clear-1 c = sym (c .before .set-beyond .ensures) ∙ c .if1 .left
 
-abbrev kind : tie.Start → Kind
-kind c = c .args .kind
-
-abbrev name : tie.Start → ℕ
-name c = c .args .name .number
-
--- from a place back to one before it
-abbrev to-start : tie.Else1 → tie.Start
-to-start c = c .before .before
+within : (c : tie.Else1) → c .before .before .args .name .number < 16
+within c = leb-false 16 (c .before .before .args .name .number) (clear-1 c)
 
 abbrev to-1 : tie.After-set-at → tie.Else1
 to-1 c = c .before .before .before
 
--- what the tests find, and what is known past them
-clear-1 : (c : tie.Else1) → noSet (name (to-start c)) ≡ false
-clear-1 c = sym (c .before .set-beyond .ensures) ∙ c .if1 .left
-
-within : (c : tie.Else1) → name (to-start c) < 16
-within c = leb-false 16 (name (to-start c)) (clear-1 c)
-
-old : (c : tie.After-set-at) → let s = to-start (to-1 c) in setsOf (kind s) (m s) (name s) ≡ c .set-at .result
-old c = let s = to-start (to-1 c) in set-found (s .args .s) (kind s) (name s) (c .set-at .result) (c .set-at .ensures)
+old : (c : tie.After-set-at) → let at = to-1 c .before .before .args in setsOf (at .kind) (view (at .s)) (at .name .number) ≡ c .set-at .result
+old c = let at = to-1 c .before .before .args in set-found (at .s) (at .kind) (at .name .number) (c .set-at .result) (c .set-at .ensures)
 
 returns : tie.Need-returns
 unfolding seen dropSet settle verdict
