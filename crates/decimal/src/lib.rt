@@ -1,4 +1,4 @@
-// Numbers in decimal: written into a lent buffer, and taken from a text. Two formats share them: a script's line and an answer.
+// Bytes, texts and decimal numbers put into a lent buffer, and numbers taken from a text. Three formats share them: a script's line, an answer and a saved file.
 ghost use mathlib.Core.List.{[], _∷_};
 ghost use mathlib.Core.Path.{_≡_};
 ghost use Prim.Native.Nat.{_<_};
