@@ -3,6 +3,8 @@
 use mathlib.Core.Bool.{Bool, true, false}
 use Prim.Native.Nat.{ℕ}
 use lib.Dec.{eqb}
+use Rattle.roleset.specs.Bounded.{total}
+use Rattle.roleset.specs.Roles.{count}
 
 -- an SSD or DSD set: "roles and a cardinality n", and whether it is there
 abbrev pub RoleSet : Type 0
@@ -28,6 +30,10 @@ pub record Model : Type 0 where
   pub dsd : ℕ → RoleSet
   -- the sessions, by number
   pub sessions : ℕ → Session
+  -- how many assignments, grants and lines stand: kept, and in every policy of the engine's own the tables' own counts (`Counted` in Sound)
+  pub assignmentCount : ℕ
+  pub grantCount : ℕ
+  pub lineCount : ℕ
 
 -- a set that is not there, and a session that is not live
 abbrev pub noSet : RoleSet
@@ -38,7 +44,7 @@ noSession = record { live = false; owner = 0; active = 0 }
 
 -- "starting empty"
 unfoldable pub empty : Model
-empty = record { users = λ u. false; roles = 0; juniors = λ s. 0; assigned = λ u. 0; holders = λ p. 0; ssd = λ n. noSet; dsd = λ n. noSet; sessions = λ s. noSession }
+empty = record { users = λ u. false; roles = 0; juniors = λ s. 0; assigned = λ u. 0; holders = λ p. 0; ssd = λ n. noSet; dsd = λ n. noSet; sessions = λ s. noSession; assignmentCount = 0; grantCount = 0; lineCount = 0 }
 
 -- ---- a table with one place changed, and a model with one part changed
 
@@ -47,25 +53,40 @@ unfoldable pub put {ℓ} : {A : Type ℓ} → (ℕ → A) → ℕ → A → ℕ 
 put table i v k = elim (eqb k i) [ true ↦ v | false ↦ table k ]
 
 abbrev pub withUsers : Model → (ℕ → Bool) → Model
-withUsers m x = record { users = x; roles = m .roles; juniors = m .juniors; assigned = m .assigned; holders = m .holders; ssd = m .ssd; dsd = m .dsd; sessions = m .sessions }
+withUsers m x = record { users = x; roles = m .roles; juniors = m .juniors; assigned = m .assigned; holders = m .holders; ssd = m .ssd; dsd = m .dsd; sessions = m .sessions; assignmentCount = m .assignmentCount; grantCount = m .grantCount; lineCount = m .lineCount }
 
 abbrev pub withRoles : Model → ℕ → Model
-withRoles m x = record { users = m .users; roles = x; juniors = m .juniors; assigned = m .assigned; holders = m .holders; ssd = m .ssd; dsd = m .dsd; sessions = m .sessions }
-
-abbrev pub withJuniors : Model → (ℕ → ℕ) → Model
-withJuniors m x = record { users = m .users; roles = m .roles; juniors = x; assigned = m .assigned; holders = m .holders; ssd = m .ssd; dsd = m .dsd; sessions = m .sessions }
-
-abbrev pub withAssigned : Model → (ℕ → ℕ) → Model
-withAssigned m x = record { users = m .users; roles = m .roles; juniors = m .juniors; assigned = x; holders = m .holders; ssd = m .ssd; dsd = m .dsd; sessions = m .sessions }
-
-abbrev pub withHolders : Model → (ℕ → ℕ) → Model
-withHolders m x = record { users = m .users; roles = m .roles; juniors = m .juniors; assigned = m .assigned; holders = x; ssd = m .ssd; dsd = m .dsd; sessions = m .sessions }
+withRoles m x = record { users = m .users; roles = x; juniors = m .juniors; assigned = m .assigned; holders = m .holders; ssd = m .ssd; dsd = m .dsd; sessions = m .sessions; assignmentCount = m .assignmentCount; grantCount = m .grantCount; lineCount = m .lineCount }
 
 abbrev pub withSsd : Model → (ℕ → RoleSet) → Model
-withSsd m x = record { users = m .users; roles = m .roles; juniors = m .juniors; assigned = m .assigned; holders = m .holders; ssd = x; dsd = m .dsd; sessions = m .sessions }
+withSsd m x = record { users = m .users; roles = m .roles; juniors = m .juniors; assigned = m .assigned; holders = m .holders; ssd = x; dsd = m .dsd; sessions = m .sessions; assignmentCount = m .assignmentCount; grantCount = m .grantCount; lineCount = m .lineCount }
 
 abbrev pub withDsd : Model → (ℕ → RoleSet) → Model
-withDsd m x = record { users = m .users; roles = m .roles; juniors = m .juniors; assigned = m .assigned; holders = m .holders; ssd = m .ssd; dsd = x; sessions = m .sessions }
+withDsd m x = record { users = m .users; roles = m .roles; juniors = m .juniors; assigned = m .assigned; holders = m .holders; ssd = m .ssd; dsd = x; sessions = m .sessions; assignmentCount = m .assignmentCount; grantCount = m .grantCount; lineCount = m .lineCount }
 
 abbrev pub withSessions : Model → (ℕ → Session) → Model
-withSessions m x = record { users = m .users; roles = m .roles; juniors = m .juniors; assigned = m .assigned; holders = m .holders; ssd = m .ssd; dsd = m .dsd; sessions = x }
+withSessions m x = record { users = m .users; roles = m .roles; juniors = m .juniors; assigned = m .assigned; holders = m .holders; ssd = m .ssd; dsd = m .dsd; sessions = x; assignmentCount = m .assignmentCount; grantCount = m .grantCount; lineCount = m .lineCount }
+
+-- other lines, assignments or grants, of which so many stand
+abbrev pub withLines : Model → (ℕ → ℕ) → ℕ → Model
+withLines m x n = record { users = m .users; roles = m .roles; juniors = x; assigned = m .assigned; holders = m .holders; ssd = m .ssd; dsd = m .dsd; sessions = m .sessions; assignmentCount = m .assignmentCount; grantCount = m .grantCount; lineCount = n }
+
+abbrev pub withAssignments : Model → (ℕ → ℕ) → ℕ → Model
+withAssignments m x n = record { users = m .users; roles = m .roles; juniors = m .juniors; assigned = x; holders = m .holders; ssd = m .ssd; dsd = m .dsd; sessions = m .sessions; assignmentCount = n; grantCount = m .grantCount; lineCount = m .lineCount }
+
+abbrev pub withGrants : Model → (ℕ → ℕ) → ℕ → Model
+withGrants m x n = record { users = m .users; roles = m .roles; juniors = m .juniors; assigned = m .assigned; holders = x; ssd = m .ssd; dsd = m .dsd; sessions = m .sessions; assignmentCount = m .assignmentCount; grantCount = n; lineCount = m .lineCount }
+
+-- how many members the first n sets of a table have in all
+unfoldable pub standing : ℕ → (ℕ → ℕ) → ℕ
+standing n table = total n (λ k. count (table k))
+
+-- other lines, assignments or grants, counted
+abbrev pub withJuniors : Model → (ℕ → ℕ) → Model
+withJuniors m x = withLines m x (standing 64 x)
+
+abbrev pub withAssigned : Model → (ℕ → ℕ) → Model
+withAssigned m x = withAssignments m x (standing 256 x)
+
+abbrev pub withHolders : Model → (ℕ → ℕ) → Model
+withHolders m x = withGrants m x (standing 4096 x)

@@ -48,6 +48,12 @@ pub record Limits (m : Model) : Type 0 where
   pub granted : grants m ≤ 2048
   pub lined : linesStanding m ≤ 512
 
+-- what is kept of how full the tables are is what they hold
+pub record Counted (m : Model) : Type 0 where
+  pub assigned : m .assignmentCount ≡ assignments m
+  pub granted : m .grantCount ≡ grants m
+  pub lined : m .lineCount ≡ linesStanding m
+
 -- the rules of demand 3
 pub record Rules (m : Model) : Type 0 where
   -- no role inherits itself
@@ -62,4 +68,5 @@ pub record Rules (m : Model) : Type 0 where
 pub record Sound (m : Model) : Type 0 where
   pub shape : Shape m
   pub limits : Limits m
+  pub counted : Counted m
   pub rules : Rules m

@@ -3,11 +3,11 @@ use mathlib.Core.Bool.{Bool, true, false, not, _&&_, _||_}
 use mathlib.Core.List.{List}
 use Prim.Native.Nat.{ℕ, _+_, _*_}
 use lib.Dec.{eqb, leb}
-use Rattle.roleset.specs.Bounded.{some, tally, total}
+use Rattle.roleset.specs.Bounded.{some, tally}
 use Rattle.roleset.specs.Roles.{has, both, count, with}
 use Rattle.hierarchy.specs.Walks.{reach}
 use Rattle.hierarchy.specs.declared.Walk.{Walk}
-use Rattle.model.specs.Model.{Model, RoleSet, Session, withSessions}
+use Rattle.model.specs.Model.{Model, RoleSet, Session, withSessions, standing}
 
 -- ---- inheritance
 
@@ -68,16 +68,16 @@ shed m = withSessions m (λ k. shedded (m .juniors) (m .assigned) (m .sessions k
 unfoldable pub shedCut : Model → Bool
 shedCut m = some 64 (λ k. m .sessions k .live && reach (m .juniors) (m .assigned (m .sessions k .owner)) .cut)
 
--- ---- how full the tables are
+-- ---- how full the tables are: their own counts
 
 unfoldable pub assignments : Model → ℕ
-assignments m = total 256 (λ u. count (m .assigned u))
+assignments m = standing 256 (m .assigned)
 
 unfoldable pub grants : Model → ℕ
-grants m = total 4096 (λ p. count (m .holders p))
+grants m = standing 4096 (m .holders)
 
 unfoldable pub linesStanding : Model → ℕ
-linesStanding m = total 64 (λ s. count (m .juniors s))
+linesStanding m = standing 64 (m .juniors)
 
 unfoldable pub sessionsOpen : Model → ℕ
 sessionsOpen m = tally 64 (λ s. m .sessions s .live)

@@ -1,21 +1,21 @@
 -- `assign`, `deassign`, `grant`, `revoke`. Assumes nothing.
 use mathlib.Core.Bool.{Bool, true, false, not, _||_}
 use mathlib.Core.List.{List, [], _∷_}
-use Prim.Native.Nat.{ℕ}
+use Prim.Native.Nat.{ℕ, _+_, _-_}
 use lib.Dec.{leb}
 use Rattle.roleset.specs.Roles.{has, with, without}
 use Rattle.numbers.specs.Ranges.{mostAssignments, mostGrants}
-use Rattle.model.specs.Model.{Model, put, withAssigned, withHolders}
+use Rattle.model.specs.Model.{Model, put, withAssignments, withGrants}
 use Rattle.model.specs.Sheet.{Told, _when_, settle}
-use Rattle.model.specs.Words.{reached, staticBroken, permission, shed, shedCut, assignments, grants}
+use Rattle.model.specs.Words.{reached, staticBroken, permission, shed, shedCut}
 use Rattle.model.specs.commands.Naming.{noUser, noRole, noPermission, userMissing, roleMissing}
 
--- the role r is assigned to the user u; it no longer is
+-- the role r is assigned to the user u, one assignment more; it no longer is, one less
 unfoldable pub assigned : Model → ℕ → ℕ → Model
-assigned m u r = withAssigned m (put (m .assigned) u (with (m .assigned u) r))
+assigned m u r = withAssignments m (put (m .assigned) u (with (m .assigned u) r)) (m .assignmentCount + 1)
 
 unfoldable pub deassigned : Model → ℕ → ℕ → Model
-deassigned m u r = withAssigned m (put (m .assigned) u (without (m .assigned u) r))
+deassigned m u r = withAssignments m (put (m .assigned) u (without (m .assigned u) r)) (m .assignmentCount - 1)
 
 -- "`assign u r`: 1, 2, 4, 10, 12." The static rule is asked of u, the only user it can break for
 unfoldable pub assign : Model → ℕ → ℕ → Told
@@ -25,7 +25,7 @@ assign m u r =
     ∷ 2 when (userMissing m u || roleMissing m r)
     ∷ 4 when has (m .assigned u) r
     ∷ 10 when staticBroken (assigned m u r) u
-    ∷ 12 when leb mostAssignments (assignments m)
+    ∷ 12 when leb mostAssignments (m .assignmentCount)
     ∷ 13 when reached m (with (m .assigned u) r) .cut
     ∷ [])
     m
@@ -45,12 +45,12 @@ deassign m u r =
     []
     (shed (deassigned m u r))
 
--- the role r holds the permission p; it no longer does
+-- the role r holds the permission p, one grant more; it no longer does, one less
 unfoldable pub granted : Model → ℕ → ℕ → Model
-granted m p r = withHolders m (put (m .holders) p (with (m .holders p) r))
+granted m p r = withGrants m (put (m .holders) p (with (m .holders p) r)) (m .grantCount + 1)
 
 unfoldable pub revoked : Model → ℕ → ℕ → Model
-revoked m p r = withHolders m (put (m .holders) p (without (m .holders p) r))
+revoked m p r = withGrants m (put (m .holders) p (without (m .holders p) r)) (m .grantCount - 1)
 
 -- "`grant op obj r`: 1, 2, 4, 12."
 unfoldable pub grant : Model → ℕ → ℕ → ℕ → Told
@@ -59,7 +59,7 @@ grant m op obj r =
     (1 when (noPermission op obj || noRole r)
     ∷ 2 when roleMissing m r
     ∷ 4 when has (m .holders (permission op obj)) r
-    ∷ 12 when leb mostGrants (grants m)
+    ∷ 12 when leb mostGrants (m .grantCount)
     ∷ [])
     m
     []

@@ -1,22 +1,22 @@
 -- `inherit`, `disinherit`. Assumes nothing.
 use mathlib.Core.Bool.{Bool, true, false, not, _||_}
 use mathlib.Core.List.{List, [], _∷_}
-use Prim.Native.Nat.{ℕ}
+use Prim.Native.Nat.{ℕ, _+_, _-_}
 use lib.Dec.{leb}
 use Rattle.roleset.specs.Bounded.{some}
 use Rattle.roleset.specs.Roles.{has, with, without, none}
 use Rattle.numbers.specs.Ranges.{mostLines}
-use Rattle.model.specs.Model.{Model, put, withJuniors}
+use Rattle.model.specs.Model.{Model, put, withLines}
 use Rattle.model.specs.Sheet.{Told, _when_, settle}
-use Rattle.model.specs.Words.{reached, staticBroken, shed, shedCut, linesStanding}
+use Rattle.model.specs.Words.{reached, staticBroken, shed, shedCut}
 use Rattle.model.specs.commands.Naming.{noRole, roleMissing}
 
--- the line (senior, junior) stands; it no longer does
+-- the line (senior, junior) stands, one line more; it no longer does, one less
 unfoldable pub lined : Model → ℕ → ℕ → Model
-lined m senior junior = withJuniors m (put (m .juniors) senior (with (m .juniors senior) junior))
+lined m senior junior = withLines m (put (m .juniors) senior (with (m .juniors senior) junior)) (m .lineCount + 1)
 
 unfoldable pub unlined : Model → ℕ → ℕ → Model
-unlined m senior junior = withJuniors m (put (m .juniors) senior (without (m .juniors senior) junior))
+unlined m senior junior = withLines m (put (m .juniors) senior (without (m .juniors senior) junior)) (m .lineCount - 1)
 
 -- the senior is the junior, or the junior inherits the senior
 abbrev pub wouldCircle : Model → ℕ → ℕ → Bool
@@ -36,7 +36,7 @@ inherit m senior junior =
     ∷ 4 when has (m .juniors senior) junior
     ∷ 6 when wouldCircle m senior junior
     ∷ 10 when some 256 (staticBroken (lined m senior junior))
-    ∷ 12 when leb mostLines (linesStanding m)
+    ∷ 12 when leb mostLines (m .lineCount)
     ∷ 13 when (reached m (with none junior) .cut || usersCut (lined m senior junior))
     ∷ [])
     m

@@ -1,11 +1,11 @@
 -- `user`, `role`, `nouser`, `norole`. Assumes nothing.
 use mathlib.Core.Bool.{Bool, true, false, not, _&&_, _||_}
 use mathlib.Core.List.{List, [], _∷_}
-use Prim.Native.Nat.{ℕ}
+use Prim.Native.Nat.{ℕ, _+_, _-_}
 use lib.Dec.{eqb}
-use Rattle.roleset.specs.Bounded.{some}
-use Rattle.roleset.specs.Roles.{has, with, without, none}
-use Rattle.model.specs.Model.{Model, RoleSet, Session, put, withUsers, withRoles, withAssigned, withSessions}
+use Rattle.roleset.specs.Bounded.{some, tally}
+use Rattle.roleset.specs.Roles.{has, with, without, none, count}
+use Rattle.model.specs.Model.{Model, RoleSet, Session, put, withUsers, withRoles, withAssignments, withSessions}
 use Rattle.model.specs.Model as model
 use Rattle.model.specs.Sheet.{Told, _when_, settle}
 use Rattle.model.specs.Words.{shed, shedCut}
@@ -27,7 +27,7 @@ unfoldable pub allEnded : Model → ℕ → Model
 allEnded m u = withSessions m (λ k. endedOf u (m .sessions k))
 
 unfoldable pub withoutUser : Model → ℕ → Model
-withoutUser m u = withUsers (withAssigned (allEnded m u) (put (m .assigned) u none)) (put (m .users) u false)
+withoutUser m u = withUsers (withAssignments (allEnded m u) (put (m .assigned) u none) (m .assignmentCount - count (m .assigned u))) (put (m .users) u false)
 
 unfoldable pub nouser : Model → ℕ → Told
 nouser m u = settle (1 when noUser u ∷ 2 when userMissing m u ∷ []) m [] (withoutUser m u)
@@ -36,9 +36,17 @@ nouser m u = settle (1 when noUser u ∷ 2 when userMissing m u ∷ []) m [] (wi
 unfoldable pub inSet : (ℕ → RoleSet) → ℕ → Bool
 inSet sets r = some 16 (λ n. has (sets n .roles) r)
 
+-- how many of the first n sets of a table have the role
+abbrev pub holding : ℕ → (ℕ → ℕ) → ℕ → ℕ
+holding n table r = tally n (λ k. has (table k) r)
+
+-- how many lines go with the role: those to it from above, and then those from it
+abbrev pub linesWith : Model → ℕ → ℕ
+linesWith m r = holding 64 (m .juniors) r + count (without (m .juniors r) r)
+
 -- the role's "assignments, grants and direct lines at either end" are gone, and the role itself
 unfoldable pub withoutRole : Model → ℕ → Model
-withoutRole m r = record { users = m .users; roles = without (m .roles) r; juniors = put (λ s. without (m .juniors s) r) r none; assigned = λ u. without (m .assigned u) r; holders = λ p. without (m .holders p) r; ssd = m .ssd; dsd = m .dsd; sessions = m .sessions }
+withoutRole m r = record { users = m .users; roles = without (m .roles) r; juniors = put (λ s. without (m .juniors s) r) r none; assigned = λ u. without (m .assigned u) r; holders = λ p. without (m .holders p) r; ssd = m .ssd; dsd = m .dsd; sessions = m .sessions; assignmentCount = m .assignmentCount - holding 256 (m .assigned) r; grantCount = m .grantCount - holding 4096 (m .holders) r; lineCount = m .lineCount - linesWith m r }
 
 -- "`norole r`: removes its assignments, grants and direct lines at either end, then sheds; 1, 2, 8. Roles above and below it are not joined up."
 unfoldable pub norole : Model → ℕ → Told
