@@ -1,6 +1,6 @@
 -- The bench sheet, by computation over the model. Assumes nothing.
 use mathlib.Core.Path.{_≡_, refl}
-use Rattle.roleset.specs.Bounded.{some, every, tally, total, members}
+use Rattle.roleset.specs.Bounded.{some, every, tally, members}
 use Rattle.roleset.specs.Roles.{has, pack, those, with, without, union, both, minus, subset, isEmpty, count}
 use Rattle.hierarchy.specs.Walks.{juniorsOf, joined, walk, reach}
 use Rattle.model.specs.Lists.{rising, someFrom, listed, setOf}
@@ -8,7 +8,7 @@ use Rattle.model.specs.Model.{empty, put}
 use Rattle.model.specs.Questions.{ask, assignedRoles, authRoles, sessionRoles}
 use Rattle.model.specs.Sheet.{verdict, settle}
 use Rattle.model.specs.Step.{step}
-use Rattle.model.specs.Words.{breaks, breaksSome, staticBroken, dynamicBroken, shedded, shed, shedCut, assignments, grants, linesStanding, sessionsOpen}
+use Rattle.model.specs.Words.{breaks, breaksSome, staticBroken, dynamicBroken, shedded, shed, shedCut, sessionsOpen}
 use Rattle.model.specs.commands.Users.{user, role, norole, inSet, withoutRole}
 use Rattle.model.specs.commands.Assigning.{assign, assigned, deassign, deassigned, grant, granted}
 use Rattle.model.specs.commands.Inheriting.{inherit, lined, usersCut, disinherit, unlined}
@@ -19,7 +19,7 @@ use Rattle.policyfile.proofs.Laws.{empty-file}
 
 -- P1 to P11
 rows-answered : answered sheet ≡ printed sheet
-unfolding some every tally total members has pack those with without union both minus subset isEmpty count juniorsOf joined walk reach rising someFrom listed setOf empty put ask assignedRoles authRoles sessionRoles verdict settle step breaks breaksSome staticBroken dynamicBroken shedded shed shedCut assignments grants linesStanding sessionsOpen user role norole inSet withoutRole assign assigned deassign deassigned grant granted inherit lined usersCut disinherit unlined broken makeSet dropMember freeFrom opened session activeSet activate permitted check answers afterwards atTheBench answered printed
+unfolding some every tally members has pack those with without union both minus subset isEmpty count juniorsOf joined walk reach rising someFrom listed setOf empty put ask assignedRoles authRoles sessionRoles verdict settle step breaks breaksSome staticBroken dynamicBroken shedded shed shedCut sessionsOpen user role norole inSet withoutRole assign assigned deassign deassigned grant granted inherit lined usersCut disinherit unlined broken makeSet dropMember freeFrom opened session activeSet activate permitted check answers afterwards atTheBench answered printed
 rows-answered = refl
 
 -- P1 to P12

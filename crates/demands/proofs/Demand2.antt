@@ -16,7 +16,7 @@ use Rattle.model.specs.Sound.{Sound}
 use Rattle.model.specs.Step.{step}
 use Rattle.model.specs.Words.{authorised, effective, counted, breaks, breaksSome, staticBroken, dynamicBroken, permission}
 use Rattle.model.specs.commands.Users.{user, role, nouser}
-use Rattle.model.specs.commands.Assigning.{grant, revoke}
+use Rattle.model.specs.commands.Assigning.{revoke}
 use Rattle.model.specs.commands.Sets.{setsOf, dropSet, dropMember}
 use Rattle.model.specs.commands.Sessions.{permitted, check, drop, end}
 use Rattle.model.specs.declared.Command.{Command}
@@ -25,7 +25,7 @@ use Rattle.model.specs.declared.Kind.the-variants.{Static, Dynamic}
 use Rattle.sound.proofs.Asked.{opened-asks-all, room-asks-all}
 use Rattle.sound.proofs.Breaking.{breaks-exact}
 use Rattle.sound.proofs.Inheriting.{circle-exact}
-use Rattle.sound.proofs.Listed.{assign-listed, deassign-listed, inherit-listed, disinherit-listed, norole-listed, makeSet-listed, addMember-listed, setCardinality-listed, session-listed, activate-listed, check-listed}
+use Rattle.sound.proofs.Listed.{assign-listed, deassign-listed, grant-listed, inherit-listed, disinherit-listed, norole-listed, makeSet-listed, addMember-listed, setCardinality-listed, session-listed, activate-listed, check-listed}
 use Rattle.sound.proofs.Sessions.{lowest-free}
 use Rattle.sound.proofs.Sets.{shape-of}
 use Rattle.sound.proofs.Shedding.{inSet-exact}
@@ -101,14 +101,14 @@ exactly list m results after told ord pos e =
 
 -- Each command settles by its list in the paper.
 pub as-listed : (m : Model) (c : Command) (list : List ℕ) → Sound m → step m c list ≡ settle (refusals m c list) m (results m c list) (effect m c list)
-unfolding step refusals results effect user role nouser grant revoke dropSet dropMember drop end
+unfolding step refusals results effect user role nouser revoke dropSet dropMember drop end
 as-listed m (AddUser u) list s = refl
 as-listed m (AddRole r) list s = refl
 as-listed m (NoUser u) list s = refl
 as-listed m (NoRole r) list s = norole-listed m (r .number) s
 as-listed m (Assign u r) list s = assign-listed m (u .number) (r .number) s
 as-listed m (Deassign u r) list s = deassign-listed m (u .number) (r .number) s
-as-listed m (Grant op obj r) list s = refl
+as-listed m (Grant op obj r) list s = grant-listed m op obj (r .number) s
 as-listed m (Revoke op obj r) list s = refl
 as-listed m (Inherit senior junior) list s = inherit-listed m (senior .number) (junior .number) s
 as-listed m (Disinherit senior junior) list s = disinherit-listed m (senior .number) (junior .number) s

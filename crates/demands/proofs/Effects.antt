@@ -12,13 +12,13 @@ use Rattle.roleset.specs.Roles.{has, with, without, none}
 use Rattle.roleset.proofs.BoundedLaws.{clash, agree}
 use Rattle.roleset.proofs.Laws.{has-with, has-without, has-beyond, has-none, with-small, without-small}
 use Rattle.model.specs.Lists.{listed, setOf, someFrom}
-use Rattle.model.specs.Model.{Model, RoleSet, Session, noSession, put}
+use Rattle.model.specs.Model.{Model, RoleSet, Session, noSession, put, withUsers, withLines, withAssignments, withGrants}
 use Rattle.model.specs.Model as model
 use Rattle.model.specs.Sheet.{Told}
 use Rattle.model.specs.Sound.{Sound}
 use Rattle.model.specs.Step.{step}
 use Rattle.model.specs.Words as words
-use Rattle.model.specs.Words.{shed}
+use Rattle.model.specs.Words.{shed, assignments, grants, linesStanding}
 use Rattle.model.specs.commands.Naming.{noUser, noRole, noSet, userMissing, roleMissing, sessionMissing}
 use Rattle.model.specs.commands.Naming as naming
 use Rattle.model.specs.commands.Users.{endedOf, allEnded, withoutUser, withoutRole}
@@ -161,18 +161,19 @@ session-becomes m k new live owner active l o a = record { live = ap (λ (x : Se
 
 -- ---- every command
 
+-- What is kept of how full a table is, is the table's own count after the command too, so a table that changes is counted anew.
 changed : (m : Model) (c : Command) (list : List ℕ) → Sound m → Sound (effect m c list) → AllClear (refusals m c list) → Changed m c list (effect m c list)
-unfolding effect refusals withoutUser allEnded withoutRole assigned deassigned granted revoked lined unlined opened activeSet shed
+unfolding effect refusals withoutUser allEnded withoutRole assigned deassigned granted revoked lined unlined opened activeSet shed assignments grants linesStanding
 changed m (AddUser u) list s t c = record { users = user-there (m .users) (u .number); only = refl }
 changed m (AddRole r) list s t c = record { roles = λ q. with-each (m .roles) (r .number) q (s .shape .roles) (leb-false 64 (r .number) (c .0)); only = refl }
-changed m (NoUser u) list s t c = record { users = user-gone (m .users) (u .number); assigned = emptied (m .assigned) (u .number); ended = λ k. ended (u .number) (m .sessions k); others = λ k. not-ended (u .number) (m .sessions k); only = refl }
+changed m (NoUser u) list s t c = record { users = user-gone (m .users) (u .number); assigned = emptied (m .assigned) (u .number); ended = λ k. ended (u .number) (m .sessions k); others = λ k. not-ended (u .number) (m .sessions k); only = ap (λ (n : ℕ). withUsers (withAssignments (allEnded m (u .number)) (withoutUser m (u .number) .assigned) n) (withoutUser m (u .number) .users)) (t .counted .assigned) }
 changed m (NoRole r) list s t c = record { roles = λ q. without-each (m .roles) (r .number) q (s .shape .roles); lines = λ a b. lines-stripped (m .juniors) (r .number) a b (λ k. s .shape .juniors k .small); assigned = λ v q. without-each (m .assigned v) (r .number) q (s .shape .assigned v .small); grants = λ p q. without-each (m .holders p) (r .number) q (s .shape .holders p .small); shedding = shedding m (withoutRole m (r .number)) s t refl; users = refl; ssd = refl; dsd = refl }
-changed m (Assign u r) list s t c = record { assigned = added (m .assigned) (u .number) (r .number) (λ k. s .shape .assigned k .small) (leb-false 64 (r .number) (or-no (noUser (u .number)) (noRole (r .number)) (c .0) .1)); only = refl }
-changed m (Deassign u r) list s t c = record { assigned = removed (m .assigned) (u .number) (r .number) (λ k. s .shape .assigned k .small); shedding = shedding m (deassigned m (u .number) (r .number)) s t refl; only = refl }
-changed m (Grant op obj r) list s t c = record { grants = added (m .holders) (words.permission op obj) (r .number) (λ k. s .shape .holders k .small) (leb-false 64 (r .number) (or-no (naming.noPermission op obj) (noRole (r .number)) (c .0) .1)); only = refl }
-changed m (Revoke op obj r) list s t c = record { grants = removed (m .holders) (words.permission op obj) (r .number) (λ k. s .shape .holders k .small); only = refl }
-changed m (Inherit senior junior) list s t c = record { lines = added (m .juniors) (senior .number) (junior .number) (λ k. s .shape .juniors k .small) (leb-false 64 (junior .number) (or-no (noRole (senior .number)) (noRole (junior .number)) (c .0) .1)); only = refl }
-changed m (Disinherit senior junior) list s t c = record { lines = removed (m .juniors) (senior .number) (junior .number) (λ k. s .shape .juniors k .small); shedding = shedding m (unlined m (senior .number) (junior .number)) s t refl; only = refl }
+changed m (Assign u r) list s t c = record { assigned = added (m .assigned) (u .number) (r .number) (λ k. s .shape .assigned k .small) (leb-false 64 (r .number) (or-no (noUser (u .number)) (noRole (r .number)) (c .0) .1)); only = ap (withAssignments m (assigned m (u .number) (r .number) .assigned)) (t .counted .assigned) }
+changed m (Deassign u r) list s t c = record { assigned = removed (m .assigned) (u .number) (r .number) (λ k. s .shape .assigned k .small); shedding = shedding m (deassigned m (u .number) (r .number)) s t refl; only = ap (λ (n : ℕ). shed (withAssignments m (deassigned m (u .number) (r .number) .assigned) n)) (t .counted .assigned) }
+changed m (Grant op obj r) list s t c = record { grants = added (m .holders) (words.permission op obj) (r .number) (λ k. s .shape .holders k .small) (leb-false 64 (r .number) (or-no (naming.noPermission op obj) (noRole (r .number)) (c .0) .1)); only = ap (withGrants m (granted m (words.permission op obj) (r .number) .holders)) (t .counted .granted) }
+changed m (Revoke op obj r) list s t c = record { grants = removed (m .holders) (words.permission op obj) (r .number) (λ k. s .shape .holders k .small); only = ap (withGrants m (revoked m (words.permission op obj) (r .number) .holders)) (t .counted .granted) }
+changed m (Inherit senior junior) list s t c = record { lines = added (m .juniors) (senior .number) (junior .number) (λ k. s .shape .juniors k .small) (leb-false 64 (junior .number) (or-no (noRole (senior .number)) (noRole (junior .number)) (c .0) .1)); only = ap (withLines m (lined m (senior .number) (junior .number) .juniors)) (t .counted .lined) }
+changed m (Disinherit senior junior) list s t c = record { lines = removed (m .juniors) (senior .number) (junior .number) (λ k. s .shape .juniors k .small); shedding = shedding m (unlined m (senior .number) (junior .number)) s t refl; only = ap (λ (n : ℕ). shed (withLines m (unlined m (senior .number) (junior .number) .juniors) n)) (t .counted .lined) }
 changed m (MakeSet kind name n) list s t c = set-becomes kind m (name .number) (aSet n (setOf list)) (listed list) (λ q. listed-each list q (or-no (noSet (name .number)) (someFrom 64 list) (c .1 .0) .1))
 changed m (DropSet kind name) list s t c = set-becomes kind m (name .number) model.noSet (λ q. false) has-none
 changed m (AddMember kind name r) list s t c = set-becomes kind m (name .number) _ _ (λ q. with-each (setsOf kind m (name .number) .roles) (r .number) q (shape-of kind m (s .shape) (name .number) .members .small) (leb-false 64 (r .number) (or-no (noSet (name .number)) (noRole (r .number)) (c .0) .1)))

@@ -5,7 +5,7 @@ use mathlib.Core.Path.{_≡_, refl, ap}
 use Prim.Native.Nat.{ℕ}
 use native.Mathlib.Omega.{arith}
 use lib.ListN.{getD}
-use Rattle.roleset.specs.Bounded.{bit, some, every, tally, total, members}
+use Rattle.roleset.specs.Bounded.{bit, some, every, tally, members}
 use Rattle.roleset.specs.Roles.{has, pack, those, with, without, union, both, minus, subset, isEmpty, count}
 use Rattle.hierarchy.specs.Walks.{juniorsOf, joined, walk, reach}
 use Rattle.model.specs.Lists.{rising, someFrom, listed, setOf}
@@ -13,7 +13,7 @@ use Rattle.model.specs.Model.{Model, empty, put}
 use Rattle.model.specs.Questions.{ask, sessionRoles}
 use Rattle.model.specs.Sheet.{verdict, settle}
 use Rattle.model.specs.Step.{step}
-use Rattle.model.specs.Words.{permission, breaks, breaksSome, staticBroken, dynamicBroken, assignments, grants, linesStanding, sessionsOpen}
+use Rattle.model.specs.Words.{permission, breaks, breaksSome, staticBroken, dynamicBroken, sessionsOpen}
 use Rattle.model.specs.commands.Users.{user, role}
 use Rattle.model.specs.commands.Assigning.{assign, assigned, grant, granted}
 use Rattle.model.specs.commands.Inheriting.{inherit, lined, usersCut}
@@ -43,7 +43,7 @@ unfoldable look : Model → Answers
 look m = (bit (m .sessions 0 .live) ∷ bit (has (m .sessions 0 .active) 2) ∷ bit (has (m .roles) 0) ∷ bit (has (m .juniors 2) 0) ∷ bit (has (m .holders (permission 4 30)) 0) ∷ m .holders (permission 4 31) ∷ bit (brokenByAssigned (lined m 2 1)) ∷ bit (wouldBreak Static (lined m 2 1)) ∷ []) ∷ answers m accessAtTheBench
 
 computed : look atTheBench ≡ (1 ∷ 1 ∷ 1 ∷ 1 ∷ 1 ∷ 0 ∷ 0 ∷ 1 ∷ []) ∷ (0 ∷ 2 ∷ []) ∷ (0 ∷ 1 ∷ []) ∷ (0 ∷ 0 ∷ []) ∷ []
-unfolding some every tally total members has pack those with without union both minus subset isEmpty count juniorsOf joined walk reach rising someFrom listed setOf empty put ask sessionRoles verdict settle step breaks breaksSome staticBroken dynamicBroken assignments grants linesStanding sessionsOpen user role assign assigned grant granted inherit lined usersCut broken makeSet freeFrom opened session permitted check answers afterwards atTheBench brokenByAssigned look
+unfolding some every tally members has pack those with without union both minus subset isEmpty count juniorsOf joined walk reach rising someFrom listed setOf empty put ask sessionRoles verdict settle step breaks breaksSome staticBroken dynamicBroken sessionsOpen user role assign assigned grant granted inherit lined usersCut broken makeSet freeFrom opened session permitted check answers afterwards atTheBench brokenByAssigned look
 computed = refl
 
 first : Answers → List ℕ

@@ -1,6 +1,6 @@
 -- The readings that look right, by computation over the model. Assumes nothing.
 use mathlib.Core.Path.{_≡_, refl}
-use Rattle.roleset.specs.Bounded.{some, every, tally, total, members}
+use Rattle.roleset.specs.Bounded.{some, every, tally, members}
 use Rattle.roleset.specs.Roles.{has, pack, those, with, without, union, both, minus, subset, isEmpty, count}
 use Rattle.hierarchy.specs.Walks.{juniorsOf, joined, walk, reach}
 use Rattle.model.specs.Lists.{rising, someFrom, listed, setOf}
@@ -8,7 +8,7 @@ use Rattle.model.specs.Model.{empty, put}
 use Rattle.model.specs.Questions.{ask, assignedRoles, authRoles, sessionRoles}
 use Rattle.model.specs.Sheet.{verdict, settle}
 use Rattle.model.specs.Step.{step}
-use Rattle.model.specs.Words.{breaks, breaksSome, staticBroken, dynamicBroken, shedded, shed, shedCut, assignments, grants, linesStanding, sessionsOpen}
+use Rattle.model.specs.Words.{breaks, breaksSome, staticBroken, dynamicBroken, shedded, shed, shedCut, sessionsOpen}
 use Rattle.model.specs.commands.Users.{user, role}
 use Rattle.model.specs.commands.Assigning.{assign, assigned, deassign, deassigned, grant, granted}
 use Rattle.model.specs.commands.Inheriting.{inherit, lined, usersCut, disinherit, unlined}
@@ -20,10 +20,10 @@ use Rattle.misreadings.proofs.Bench.{bench}
 
 -- every example answers as the paper says
 pub readings : answered examples ≡ expected examples
-unfolding some every tally total members has pack those with without union both minus subset isEmpty count juniorsOf joined walk reach rising someFrom listed setOf empty put ask assignedRoles authRoles sessionRoles verdict settle step breaks breaksSome staticBroken dynamicBroken shedded shed shedCut assignments grants linesStanding sessionsOpen user role assign assigned deassign deassigned grant granted inherit lined usersCut disinherit unlined broken makeSet freeFrom opened session end permitted check answers afterwards answered expected
+unfolding some every tally members has pack those with without union both minus subset isEmpty count juniorsOf joined walk reach rising someFrom listed setOf empty put ask assignedRoles authRoles sessionRoles verdict settle step breaks breaksSome staticBroken dynamicBroken shedded shed shedCut sessionsOpen user role assign assigned deassign deassigned grant granted inherit lined usersCut disinherit unlined broken makeSet freeFrom opened session end permitted check answers afterwards answered expected
 readings = refl
 
 -- the wrong rules would pass what the paper refuses
 pub wrong-rules : WrongRules
-unfolding some every tally total has pack those with union both subset isEmpty count juniorsOf joined walk reach rising someFrom listed setOf empty put verdict settle step breaks breaksSome staticBroken assignments linesStanding user role assign assigned inherit lined usersCut broken makeSet afterwards brokenByTwo
+unfolding some every tally has pack those with union both subset isEmpty count juniorsOf joined walk reach rising someFrom listed setOf empty put verdict settle step breaks breaksSome staticBroken user role assign assigned inherit lined usersCut broken makeSet afterwards brokenByTwo
 wrong-rules = record { assignedOnly = (bench .passed, bench .refused); twoOnly = (refl, refl) }

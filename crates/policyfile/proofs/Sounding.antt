@@ -36,7 +36,7 @@ set-formed m n x s = record { absent = s .absent; named = s .named; small = go (
 pub sound-formed : (m : Model) → Sound m → Formed m
 sound-formed m s =
     let x = s .shape in
-    record { users = x .users; roles = x .roles; seniors = x .seniors; juniors = x .juniors; assignees = x .assignees; assigned = x .assigned; permissions = x .permissions; holders = x .holders; ssd = λ n. set-formed m n (m .ssd n) (x .ssd n); dsd = λ n. set-formed m n (m .dsd n) (x .dsd n); sessions = x .sessions; limits = s .limits }
+    record { users = x .users; roles = x .roles; seniors = x .seniors; juniors = x .juniors; assignees = x .assignees; assigned = x .assigned; permissions = x .permissions; holders = x .holders; ssd = λ n. set-formed m n (m .ssd n) (x .ssd n); dsd = λ n. set-formed m n (m .dsd n) (x .dsd n); sessions = x .sessions; limits = s .limits; counted = s .counted }
 
 -- ---- cardinalities
 
@@ -101,7 +101,7 @@ module _ (m : Model) (f : Formed m) (e : verdict (rulesBroken m) ≡ 0) where
   -- A model that may stand in a file and breaks no rule is sound.
   pub formed-sound : Sound m
   unfolding rulesBroken
-  formed-sound = record { shape = shape; limits = f .limits; rules = record { acyclic = circular-acyclic (m .juniors) (lines-small m shape) (clear .0); active = active; static = static; dynamic = dynamic } }
+  formed-sound = record { shape = shape; limits = f .limits; counted = f .counted; rules = record { acyclic = circular-acyclic (m .juniors) (lines-small m shape) (clear .0); active = active; static = static; dynamic = dynamic } }
 
 -- ---- sound, so no rule broken
 

@@ -10,6 +10,7 @@ use Rattle.roleset.specs.Bounded.{bit, tally, total, members}
 use Rattle.roleset.specs.Roles.{has, count}
 use Rattle.roleset.proofs.BoundedLaws.{tally-ext, total-ext}
 use Rattle.roleset.proofs.MembersLaws.{members-length}
+use Rattle.model.specs.Model.{standing}
 use Rattle.policyform.specs.Encode.{pairIn, grantIn}
 
 tally-add : (a b : ℕ) (f : ℕ → Bool) → tally (a + b) f ≡ tally a f + tally b (λ j. f (a + j))
@@ -39,15 +40,15 @@ unfolding tally total
 turn zero m g = sym (total-none m)
 turn (suc n) m g = ap (λ (k : ℕ). tally m (λ p. g p n) + k) (turn n m g) ∙ sym (total-bits m (λ p. g p n) (λ p. tally n (g p)))
 
-pub pairs-count : (n : ℕ) (table : ℕ → ℕ) → length (members (64 * n) (pairIn table)) ≡ total n (λ i. count (table i))
-unfolding count
+pub pairs-count : (n : ℕ) (table : ℕ → ℕ) → length (members (64 * n) (pairIn table)) ≡ standing n table
+unfolding standing count
 pairs-count n table =
     members-length (64 * n) (pairIn table)
     ∙ grid-tally 64 n (pairIn table)
     ∙ total-ext n (λ i. tally 64 (λ j. pairIn table (64 * i + j))) (λ i. count (table i)) (λ i h. tally-ext 64 (λ j. pairIn table (64 * i + j)) (has (table i)) (λ j l. ap₂ (λ (a b : ℕ). has (table a) b) (omega arith) (omega arith)))
 
-pub grants-count : (holders : ℕ → ℕ) → length (members 262144 (grantIn holders)) ≡ total 4096 (λ p. count (holders p))
-unfolding count
+pub grants-count : (holders : ℕ → ℕ) → length (members 262144 (grantIn holders)) ≡ standing 4096 holders
+unfolding standing count
 grants-count holders =
     members-length 262144 (grantIn holders)
     ∙ grid-tally 4096 64 (grantIn holders)

@@ -7,7 +7,7 @@ use Prim.Native.Nat.{ℕ, _<_, _^_}
 use Rattle.roleset.specs.Roles.{has}
 use Rattle.hierarchy.specs.Lines.{line}
 use Rattle.model.specs.Model.{Model, RoleSet, noSet}
-use Rattle.model.specs.Sound.{Existing, SessionShape, Limits}
+use Rattle.model.specs.Sound.{Existing, SessionShape, Limits, Counted}
 use Rattle.policyform.specs.Encode.{encode}
 
 -- a set with any sixteen-bit cardinality, or all zero
@@ -17,7 +17,8 @@ pub record SetForm (m : Model) (n : ℕ) (set : RoleSet) : Type 0 where
   pub small : set .card < 65536
   pub members : Existing m (set .roles)
 
--- every user and role that is named exists, no number is beyond its range, and no table has more than its limit
+-- every user and role that is named exists, no number is beyond its range, and no table has more than its limit. A file says what the tables
+-- hold, so what is kept of how full they are is their own count
 pub record Formed (m : Model) : Type 0 where
   pub users : (u : ℕ) → m .users u ≡ true → u < 256
   pub roles : m .roles < 2 ^ 64
@@ -31,6 +32,7 @@ pub record Formed (m : Model) : Type 0 where
   pub dsd : (n : ℕ) → SetForm m n (m .dsd n)
   pub sessions : (s : ℕ) → SessionShape m s (m .sessions s)
   pub limits : Limits m
+  pub counted : Counted m
 
 -- the bytes are the file of the model
 pub record FileOf (m : Model) (bytes : List ℕ) : Type 0 where

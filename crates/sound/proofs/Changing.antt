@@ -3,19 +3,18 @@ use mathlib.Core.Bool.{Bool, true, false}
 use mathlib.Core.Path.{_≡_, refl, sym, ap, subst, _∙_}
 use Prim.Native.Nat.{ℕ, _^_, _≤_, _<_}
 use native.Mathlib.Omega.{arith}
-use Rattle.roleset.specs.Bounded.{total}
-use Rattle.roleset.specs.Roles.{has, count}
+use Rattle.roleset.specs.Roles.{has}
 use Rattle.hierarchy.specs.Lines.{line, Acyclic}
 use Rattle.hierarchy.specs.Walks.{reach}
 use Rattle.hierarchy.proofs.InheritsLaws.{remove-acyclic}
 use Rattle.hierarchy.proofs.WalkLaws.{reach-grows}
-use Rattle.model.specs.Model.{Model, RoleSet, Session, withUsers, withRoles, withJuniors, withAssigned, withHolders, withSsd, withDsd, withSessions}
+use Rattle.model.specs.Model.{Model, RoleSet, Session, standing, withUsers, withRoles, withLines, withAssignments, withGrants, withSsd, withDsd, withSessions}
 use Rattle.model.specs.Words.{authorised, breaksSome, counted, staticBroken, dynamicBroken, assignments, grants, linesStanding}
-use Rattle.model.specs.Sound.{Existing, SetShape, SessionShape, Shape, Sound}
+use Rattle.model.specs.Sound.{Existing, SetShape, SessionShape, Shape, Counted, Sound}
 use Rattle.model.specs.commands.Sets.{withSets}
 use Rattle.model.specs.declared.Kind.{Kind}
 use Rattle.model.specs.declared.Kind.the-variants.{Static, Dynamic}
-use Rattle.sound.proofs.Members.{no-fuller}
+use Rattle.sound.proofs.Counting.{no-fuller}
 use Rattle.sound.proofs.Breaking.{some-breaks-fewer}
 use Rattle.sound.proofs.Carried.{existing-in, set-in, session-in}
 
@@ -60,9 +59,9 @@ abbrev pub held : Kind → Model → ℕ → ℕ
 held Static m u = authorised m u
 held Dynamic m s = counted m s
 
--- the sets of m, and these other parts
-abbrev pub shrunk : Model → (ℕ → Bool) → ℕ → (ℕ → ℕ) → (ℕ → ℕ) → (ℕ → ℕ) → (ℕ → Session) → Model
-shrunk m users roles juniors assigned holders sessions = record { users = users; roles = roles; juniors = juniors; assigned = assigned; holders = holders; ssd = m .ssd; dsd = m .dsd; sessions = sessions }
+-- the sets of m, and the other parts of m′
+abbrev pub shrunk : Model → Model → Model
+shrunk m m′ = record { users = m′ .users; roles = m′ .roles; juniors = m′ .juniors; assigned = m′ .assigned; holders = m′ .holders; ssd = m .ssd; dsd = m .dsd; sessions = m′ .sessions; assignmentCount = m′ .assignmentCount; grantCount = m′ .grantCount; lineCount = m′ .lineCount }
 
 -- ---- a part that grows, or is changed at some places
 
@@ -75,39 +74,43 @@ module _ (m : Model) (s : Sound m) where
       record {
         shape = named-shape m (withRoles (withUsers m users) roles) more-roles more-users small range (record { seniors = x .seniors; juniors = x .juniors; assignees = x .assignees; assigned = x .assigned; permissions = x .permissions; holders = x .holders; ssd = x .ssd; dsd = x .dsd; sessions = x .sessions });
         limits = record { assigned = s .limits .assigned; granted = s .limits .granted; lined = s .limits .lined };
+        counted = record { assigned = s .counted .assigned; granted = s .counted .granted; lined = s .counted .lined };
         rules = record { acyclic = s .rules .acyclic; active = s .rules .active; static = s .rules .static; dynamic = s .rules .dynamic };
       }
 
-  -- More lines, without a circle, that break the static rule for no user.
-  pub lines-changed : (new : ℕ → ℕ) → ((a j : ℕ) → line (m .juniors) a j ≡ true → line new a j ≡ true) → ((a j : ℕ) → line new a j ≡ true → has (m .roles) a ≡ true) → ((a : ℕ) → Existing m (new a)) → total 64 (λ a. count (new a)) ≤ 512 → Acyclic new → ((u : ℕ) → staticBroken (withJuniors m new) u ≡ false) → Sound (withJuniors m new)
+  -- More lines, n of them, without a circle, that break the static rule for no user.
+  pub lines-changed : (new : ℕ → ℕ) (n : ℕ) → ((a j : ℕ) → line (m .juniors) a j ≡ true → line new a j ≡ true) → ((a j : ℕ) → line new a j ≡ true → has (m .roles) a ≡ true) → ((a : ℕ) → Existing m (new a)) → n ≡ standing 64 new → n ≤ 512 → Acyclic new → ((u : ℕ) → staticBroken (withLines m new n) u ≡ false) → Sound (withLines m new n)
   unfolding dynamicBroken assignments grants linesStanding
-  lines-changed new grown seniors existing few acyclic unbroken =
+  lines-changed new n grown seniors existing counted few acyclic unbroken =
       let x = s .shape in
       record {
-        shape = same-shape m (withJuniors m new) x refl refl (record { seniors = seniors; juniors = existing; assignees = x .assignees; assigned = x .assigned; permissions = x .permissions; holders = x .holders; ssd = x .ssd; dsd = x .dsd; sessions = x .sessions });
-        limits = record { assigned = s .limits .assigned; granted = s .limits .granted; lined = few };
+        shape = same-shape m (withLines m new n) x refl refl (record { seniors = seniors; juniors = existing; assignees = x .assignees; assigned = x .assigned; permissions = x .permissions; holders = x .holders; ssd = x .ssd; dsd = x .dsd; sessions = x .sessions });
+        limits = record { assigned = s .limits .assigned; granted = s .limits .granted; lined = rw counted at few };
+        counted = record { assigned = s .counted .assigned; granted = s .counted .granted; lined = counted };
         rules = record { acyclic = acyclic; active = λ k r e. let from = m .assigned (m .sessions k .owner) in reach-grows (m .juniors) new from from (λ a j la lj. grown a j) (λ a la h. h) r (s .rules .active k r e); static = unbroken; dynamic = s .rules .dynamic };
       }
 
-  -- More assignments, of existing roles to existing users, that break the static rule for no user.
-  pub assigned-changed : (new : ℕ → ℕ) → ((u r : ℕ) → has (m .assigned u) r ≡ true → has (new u) r ≡ true) → ((u r : ℕ) → has (new u) r ≡ true → m .users u ≡ true) → ((u : ℕ) → Existing m (new u)) → total 256 (λ u. count (new u)) ≤ 2048 → ((u : ℕ) → staticBroken (withAssigned m new) u ≡ false) → Sound (withAssigned m new)
+  -- More assignments, n of them, of existing roles to existing users, that break the static rule for no user.
+  pub assigned-changed : (new : ℕ → ℕ) (n : ℕ) → ((u r : ℕ) → has (m .assigned u) r ≡ true → has (new u) r ≡ true) → ((u r : ℕ) → has (new u) r ≡ true → m .users u ≡ true) → ((u : ℕ) → Existing m (new u)) → n ≡ standing 256 new → n ≤ 2048 → ((u : ℕ) → staticBroken (withAssignments m new n) u ≡ false) → Sound (withAssignments m new n)
   unfolding dynamicBroken assignments grants linesStanding
-  assigned-changed new grown assignees existing few unbroken =
+  assigned-changed new n grown assignees existing counted few unbroken =
       let x = s .shape in
       record {
-        shape = same-shape m (withAssigned m new) x refl refl (record { seniors = x .seniors; juniors = x .juniors; assignees = assignees; assigned = existing; permissions = x .permissions; holders = x .holders; ssd = x .ssd; dsd = x .dsd; sessions = x .sessions });
-        limits = record { assigned = few; granted = s .limits .granted; lined = s .limits .lined };
+        shape = same-shape m (withAssignments m new n) x refl refl (record { seniors = x .seniors; juniors = x .juniors; assignees = assignees; assigned = existing; permissions = x .permissions; holders = x .holders; ssd = x .ssd; dsd = x .dsd; sessions = x .sessions });
+        limits = record { assigned = rw counted at few; granted = s .limits .granted; lined = s .limits .lined };
+        counted = record { assigned = counted; granted = s .counted .granted; lined = s .counted .lined };
         rules = record { acyclic = s .rules .acyclic; active = λ k r e. let u = m .sessions k .owner in reach-grows (m .juniors) (m .juniors) (m .assigned u) (new u) (λ a j la lj h. h) (λ a la. grown u a) r (s .rules .active k r e); static = unbroken; dynamic = s .rules .dynamic };
       }
 
-  -- Other grants, of permissions 0 to 4,095 to existing roles.
-  pub holders-changed : (new : ℕ → ℕ) → ((p r : ℕ) → has (new p) r ≡ true → p < 4096) → ((p : ℕ) → Existing m (new p)) → total 4096 (λ p. count (new p)) ≤ 2048 → Sound (withHolders m new)
+  -- Other grants, n of them, of permissions 0 to 4,095 to existing roles.
+  pub holders-changed : (new : ℕ → ℕ) (n : ℕ) → ((p r : ℕ) → has (new p) r ≡ true → p < 4096) → ((p : ℕ) → Existing m (new p)) → n ≡ standing 4096 new → n ≤ 2048 → Sound (withGrants m new n)
   unfolding staticBroken dynamicBroken assignments grants linesStanding
-  holders-changed new permissions existing few =
+  holders-changed new n permissions existing counted few =
       let x = s .shape in
       record {
-        shape = same-shape m (withHolders m new) x refl refl (record { seniors = x .seniors; juniors = x .juniors; assignees = x .assignees; assigned = x .assigned; permissions = permissions; holders = existing; ssd = x .ssd; dsd = x .dsd; sessions = x .sessions });
-        limits = record { assigned = s .limits .assigned; granted = few; lined = s .limits .lined };
+        shape = same-shape m (withGrants m new n) x refl refl (record { seniors = x .seniors; juniors = x .juniors; assignees = x .assignees; assigned = x .assigned; permissions = permissions; holders = existing; ssd = x .ssd; dsd = x .dsd; sessions = x .sessions });
+        limits = record { assigned = s .limits .assigned; granted = rw counted at few; lined = s .limits .lined };
+        counted = record { assigned = s .counted .assigned; granted = counted; lined = s .counted .lined };
         rules = record { acyclic = s .rules .acyclic; active = s .rules .active; static = s .rules .static; dynamic = s .rules .dynamic };
       }
 
@@ -119,6 +122,7 @@ module _ (m : Model) (s : Sound m) where
       record {
         shape = same-shape m (withSessions m new) x refl refl (record { seniors = x .seniors; juniors = x .juniors; assignees = x .assignees; assigned = x .assigned; permissions = x .permissions; holders = x .holders; ssd = x .ssd; dsd = x .dsd; sessions = shaped });
         limits = record { assigned = s .limits .assigned; granted = s .limits .granted; lined = s .limits .lined };
+        counted = record { assigned = s .counted .assigned; granted = s .counted .granted; lined = s .counted .lined };
         rules = record { acyclic = s .rules .acyclic; active = active; static = s .rules .static; dynamic = unbroken };
       }
 
@@ -130,6 +134,7 @@ module _ (m : Model) (s : Sound m) where
       record {
         shape = same-shape m (withSsd m new) x refl refl (record { seniors = x .seniors; juniors = x .juniors; assignees = x .assignees; assigned = x .assigned; permissions = x .permissions; holders = x .holders; ssd = shaped; dsd = x .dsd; sessions = x .sessions });
         limits = record { assigned = s .limits .assigned; granted = s .limits .granted; lined = s .limits .lined };
+        counted = record { assigned = s .counted .assigned; granted = s .counted .granted; lined = s .counted .lined };
         rules = record { acyclic = s .rules .acyclic; active = s .rules .active; static = unbroken; dynamic = s .rules .dynamic };
       }
   sets-changed Dynamic new shaped unbroken =
@@ -137,29 +142,31 @@ module _ (m : Model) (s : Sound m) where
       record {
         shape = same-shape m (withDsd m new) x refl refl (record { seniors = x .seniors; juniors = x .juniors; assignees = x .assignees; assigned = x .assigned; permissions = x .permissions; holders = x .holders; ssd = x .ssd; dsd = shaped; sessions = x .sessions });
         limits = record { assigned = s .limits .assigned; granted = s .limits .granted; lined = s .limits .lined };
+        counted = record { assigned = s .counted .assigned; granted = s .counted .granted; lined = s .counted .lined };
         rules = record { acyclic = s .rules .acyclic; active = s .rules .active; static = s .rules .static; dynamic = unbroken };
       }
 
   -- ---- parts that shrink
 
   -- Fewer lines, assignments, grants and active roles, where every active role is one its owner is still authorised for.
-  pub fewer-sound : (users : ℕ → Bool) (roles : ℕ) (juniors assigned holders : ℕ → ℕ) (sessions : ℕ → Session) → Shape (shrunk m users roles juniors assigned holders sessions) → ((a j : ℕ) → line juniors a j ≡ true → line (m .juniors) a j ≡ true) → ((u r : ℕ) → has (assigned u) r ≡ true → has (m .assigned u) r ≡ true) → ((p r : ℕ) → has (holders p) r ≡ true → has (m .holders p) r ≡ true) → ((k r : ℕ) → has (sessions k .active) r ≡ true → has (m .sessions k .active) r ≡ true) → ((k r : ℕ) → has (sessions k .active) r ≡ true → has (reach juniors (assigned (sessions k .owner)) .roles) r ≡ true) → Sound (shrunk m users roles juniors assigned holders sessions)
+  pub fewer-sound : (m′ : Model) → Shape (shrunk m m′) → Counted (shrunk m m′) → ((a j : ℕ) → line (m′ .juniors) a j ≡ true → line (m .juniors) a j ≡ true) → ((u r : ℕ) → has (m′ .assigned u) r ≡ true → has (m .assigned u) r ≡ true) → ((p r : ℕ) → has (m′ .holders p) r ≡ true → has (m .holders p) r ≡ true) → ((k r : ℕ) → has (m′ .sessions k .active) r ≡ true → has (m .sessions k .active) r ≡ true) → ((k r : ℕ) → has (m′ .sessions k .active) r ≡ true → has (reach (m′ .juniors) (m′ .assigned (m′ .sessions k .owner)) .roles) r ≡ true) → Sound (shrunk m m′)
   unfolding staticBroken dynamicBroken assignments grants linesStanding
-  fewer-sound users roles juniors assigned holders sessions shape lines assignments′ grants′ actives still =
+  fewer-sound m′ shape counted lines assigned holders actives still =
       record {
         shape = shape;
         limits =
             record {
-              assigned = at-most (no-fuller 256 assigned (m .assigned) (λ u lu r lr. assignments′ u r)) (s .limits .assigned);
-              granted = at-most (no-fuller 4096 holders (m .holders) (λ p lp r lr. grants′ p r)) (s .limits .granted);
-              lined = at-most (no-fuller 64 juniors (m .juniors) (λ a la r lr. lines a r)) (s .limits .lined);
+              assigned = at-most (no-fuller 256 (m′ .assigned) (m .assigned) (λ u lu r lr. assigned u r)) (s .limits .assigned);
+              granted = at-most (no-fuller 4096 (m′ .holders) (m .holders) (λ p lp r lr. holders p r)) (s .limits .granted);
+              lined = at-most (no-fuller 64 (m′ .juniors) (m .juniors) (λ a la r lr. lines a r)) (s .limits .lined);
             };
+        counted = counted;
         rules =
             record {
               acyclic = remove-acyclic lines (s .rules .acyclic);
               active = still;
-              static = λ u. some-breaks-fewer (m .ssd) (reach juniors (assigned u) .roles) (authorised m u) (λ r lr. reach-grows juniors (m .juniors) (assigned u) (m .assigned u) (λ a j la lj. lines a j) (λ a la. assignments′ u a) r) (s .rules .static u);
-              dynamic = λ k. some-breaks-fewer (m .dsd) (sessions k .active) (m .sessions k .active) (λ r lr. actives k r) (s .rules .dynamic k);
+              static = λ u. some-breaks-fewer (m .ssd) (authorised m′ u) (authorised m u) (λ r lr. reach-grows (m′ .juniors) (m .juniors) (m′ .assigned u) (m .assigned u) (λ a j la lj. lines a j) (λ a la. assigned u a) r) (s .rules .static u);
+              dynamic = λ k. some-breaks-fewer (m .dsd) (m′ .sessions k .active) (m .sessions k .active) (λ r lr. actives k r) (s .rules .dynamic k);
             };
       }
     where

@@ -2,26 +2,27 @@
 use mathlib.Core.Bool.{true, false, not}
 use mathlib.Core.Logic.{_⊎_, inl, inr, _↔_}
 use mathlib.Core.Path.{_≡_, refl, subst}
-use Prim.Native.Nat.{ℕ, suc, _≤_, _<_}
+use Prim.Native.Nat.{ℕ, _+_, _≤_, _<_}
 use native.Mathlib.Omega.{arith}
 use native.Mathlib.Decide.{decLt}
 use lib.Dec.{leb}
 use borrow.Author.Tests.{leb-false, not-false}
-use Rattle.roleset.specs.Bounded.{some, total}
-use Rattle.roleset.specs.Roles.{has, with, none, count}
+use Rattle.roleset.specs.Bounded.{some}
+use Rattle.roleset.specs.Roles.{has, with, none}
 use Rattle.roleset.proofs.BoundedLaws.{clash, some-false}
 use Rattle.roleset.proofs.Laws.{has-none}
 use Rattle.hierarchy.specs.Lines.{Acyclic, AtOrAbove}
 use Rattle.hierarchy.specs.Walks.{reach}
 use Rattle.hierarchy.proofs.InheritsLaws.{add-acyclic}
 use Rattle.hierarchy.proofs.WalkLaws.{reach-sound, reach-complete}
-use Rattle.model.specs.Model.{Model, put}
+use Rattle.model.specs.Model.{Model, put, standing}
 use Rattle.model.specs.Words.{breaksSome, staticBroken, linesStanding}
 use Rattle.model.specs.Sound.{Shape, Sound}
 use Rattle.model.specs.commands.Inheriting.{lined, wouldCircle, inherit}
 use Rattle.sound.proofs.Sheet.{kept}
 use Rattle.sound.proofs.Put.{put-all}
-use Rattle.sound.proofs.Members.{or-no, one-more, with-new, with-member}
+use Rattle.sound.proofs.Members.{or-no, with-new, with-member}
+use Rattle.sound.proofs.Counting.{one-more}
 use Rattle.sound.proofs.Breaking.{none-held}
 use Rattle.sound.proofs.Carried.{existing-at, old-at, new-at, lines-small, nobody-assigned, no-user-beyond, nothing-reached, sound-never-cut}
 use Rattle.sound.proofs.Changing.{lines-changed}
@@ -61,12 +62,14 @@ inherit-sound m senior junior s =
     let there = or-no (not (has (m .roles) senior)) (not (has (m .roles) junior)) (c .1 .0) in
     let small : junior < 64 = leb-false 64 junior (range .1) in
     let above : has (m .roles) senior ≡ true = not-false (has (m .roles) senior) (there .0) in
-    let more : total 64 (λ k. count (put (m .juniors) senior (with (m .juniors senior) junior) k)) ≡ suc (total 64 (λ k. count (m .juniors k))) = one-more 64 (m .juniors) senior junior (leb-false 64 senior (range .0)) small (c .1 .1 .0) in
-    let room : total 64 (λ k. count (m .juniors k)) < 512 = leb-false 512 (total 64 (λ k. count (m .juniors k))) (c .1 .1 .1 .1 .1 .0) in
-    lines-changed m s (put (m .juniors) senior (with (m .juniors senior) junior))
+    let new : ℕ → ℕ = put (m .juniors) senior (with (m .juniors senior) junior) in
+    let more : m .lineCount + 1 ≡ standing 64 new = omega (arith, s .counted .lined, one-more 64 (m .juniors) senior junior (leb-false 64 senior (range .0)) small (c .1 .1 .0)) in
+    let room : m .lineCount < 512 = leb-false 512 (m .lineCount) (c .1 .1 .1 .1 .1 .0) in
+    lines-changed m s new (m .lineCount + 1)
     (old-at m (m .juniors) senior junior (s .shape .juniors))
     (put-all (λ k set. (j : ℕ) → has set j ≡ true → has (m .roles) k ≡ true) (m .juniors) senior (with (m .juniors senior) junior) (λ j e. above) (λ k d j e. s .shape .seniors k j e))
     (existing-at m (m .juniors) senior junior (s .shape .juniors) (not-false (has (m .roles) junior) (there .1)))
+    more
     (omega arith)
     (lined-acyclic m s senior junior small (c .1 .1 .1 .0))
     (λ u. for-all u (c .1 .1 .1 .1 .0) (decLt u 256)))

@@ -2,6 +2,7 @@
 pub mod Sheet
 pub mod Put
 pub mod Members
+pub mod Counting
 pub mod Breaking
 pub mod Carried
 pub mod Changing

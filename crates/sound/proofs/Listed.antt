@@ -1,8 +1,8 @@
 -- On a sound model each command answers by its list in the paper: 10 where the rule would be broken "for some user", 11 "in some session",
--- and 13 never, since no walk meets a chain of more than 64 roles. Assumes nothing.
+-- 12 where the table itself is full, and 13 never, since no walk meets a chain of more than 64 roles. Assumes nothing.
 use mathlib.Core.Bool.{true, false, not, _&&_, _||_, and-false}
 use mathlib.Core.List.{List, [], _∷_}
-use mathlib.Core.Path.{_≡_, refl}
+use mathlib.Core.Path.{_≡_, refl, ap}
 use Prim.Native.Nat.{ℕ}
 use native.Mathlib.Omega.{arith}
 use lib.Dec.{eqb, leb}
@@ -10,18 +10,18 @@ use borrow.Author.Tests.{leb-false, not-false}
 use Rattle.roleset.specs.Bounded.{some, bit}
 use Rattle.roleset.specs.Roles.{has, with, none, subset}
 use Rattle.roleset.proofs.BoundedLaws.{some-none}
-use Rattle.numbers.specs.Ranges.{mostAssignments, mostLines, sessions}
+use Rattle.numbers.specs.Ranges.{mostAssignments, mostGrants, mostLines, sessions}
 use Rattle.hierarchy.specs.Lines.{Acyclic}
 use Rattle.hierarchy.proofs.InheritsLaws.{remove-acyclic}
 use Rattle.hierarchy.proofs.CircleLaws.{never-cut}
 use Rattle.model.specs.Model.{Model, put}
 use Rattle.model.specs.Sheet.{Refusal, _when_, Told, settle}
-use Rattle.model.specs.Words.{reached, authorised, staticBroken, dynamicBroken, permission, assignments, linesStanding, sessionsOpen, shed, shedCut}
+use Rattle.model.specs.Words.{reached, authorised, staticBroken, dynamicBroken, permission, assignments, grants, linesStanding, sessionsOpen, shed, shedCut}
 use Rattle.model.specs.Lists.{ascending, someFrom, setOf}
 use Rattle.model.specs.Sound.{Sound}
 use Rattle.model.specs.commands.Naming.{noUser, noRole, noSession, noSet, noPermission, userMissing, roleMissing, sessionMissing}
 use Rattle.model.specs.commands.Users.{inSet, withoutRole, norole}
-use Rattle.model.specs.commands.Assigning.{assigned, assign, deassigned, deassign}
+use Rattle.model.specs.commands.Assigning.{assigned, assign, deassigned, deassign, granted, grant}
 use Rattle.model.specs.commands.Inheriting.{lined, unlined, wouldCircle, usersCut, inherit, disinherit}
 use Rattle.model.specs.commands.Sets.{setsOf, withSets, ruleNumber, askingCut, badCardinality, aSet, setMissing, makeSet, addMember, setCardinality}
 use Rattle.model.specs.commands.Sessions.{lowestFree, opened, session, activeSet, notOwner, activate, permitted, check}
@@ -65,7 +65,7 @@ pub assign-listed : (m : Model) (u r : ℕ) → Sound m → assign m u r ≡ set
 unfolding assign
 assign-listed m u r s =
     alike-settle _ _ m [] (assigned m u r)
-    (refl, refl, λ c1. (refl, refl, λ c2. (refl, refl, λ c4. (refl, assign-asks-all m s u r (not-false (m .users u) (or-no (userMissing m u) (roleMissing m r) c2 .0)), λ c10. (refl, refl, λ c12. (sound-never-cut m s (with (m .assigned u) r), tt))))))
+    (refl, refl, λ c1. (refl, refl, λ c2. (refl, refl, λ c4. (refl, assign-asks-all m s u r (not-false (m .users u) (or-no (userMissing m u) (roleMissing m r) c2 .0)), λ c10. (refl, ap (leb mostAssignments) (s .counted .assigned), λ c12. (sound-never-cut m s (with (m .assigned u) r), tt))))))
 
 -- "`deassign u r`: 1, 2, 5, then sheds."
 pub deassign-listed : (m : Model) (u r : ℕ) → Sound m → deassign m u r ≡ settle (1 when (noUser u || noRole r) ∷ 2 when (userMissing m u || roleMissing m r) ∷ 5 when not (has (m .assigned u) r) ∷ []) m [] (shed (deassigned m u r))
@@ -74,12 +74,19 @@ deassign-listed m u r s =
     alike-settle _ _ m [] (shed (deassigned m u r))
     (refl, refl, λ c1. (refl, refl, λ c2. (refl, refl, λ c5. (shed-never-cut (deassigned m u r) (s .rules .acyclic), tt))))
 
+-- "`grant op obj r`: 1, 2, 4, 12."
+pub grant-listed : (m : Model) (op obj r : ℕ) → Sound m → grant m op obj r ≡ settle (1 when (noPermission op obj || noRole r) ∷ 2 when roleMissing m r ∷ 4 when has (m .holders (permission op obj)) r ∷ 12 when leb mostGrants (grants m) ∷ []) m [] (granted m (permission op obj) r)
+unfolding grant
+grant-listed m op obj r s =
+    alike-settle _ _ m [] (granted m (permission op obj) r)
+    (refl, refl, λ c1. (refl, refl, λ c2. (refl, refl, λ c4. (refl, ap (leb mostGrants) (s .counted .granted), λ c12. tt))))
+
 -- "`inherit senior junior`: 1, 2, 4 (this direct line stands), 6 (equal, or the junior inherits the senior), 10, 12."
 pub inherit-listed : (m : Model) (senior junior : ℕ) → Sound m → inherit m senior junior ≡ settle (1 when (noRole senior || noRole junior) ∷ 2 when (roleMissing m senior || roleMissing m junior) ∷ 4 when has (m .juniors senior) junior ∷ 6 when wouldCircle m senior junior ∷ 10 when some 256 (staticBroken (lined m senior junior)) ∷ 12 when leb mostLines (linesStanding m) ∷ []) m [] (lined m senior junior)
 unfolding inherit
 inherit-listed m senior junior s =
     alike-settle _ _ m [] (lined m senior junior)
-    (refl, refl, λ c1. (refl, refl, λ c2. (refl, refl, λ c4. (refl, refl, λ c6. (refl, refl, λ c10. (refl, refl, λ c12. (uncut c1 c6, tt)))))))
+    (refl, refl, λ c1. (refl, refl, λ c2. (refl, refl, λ c4. (refl, refl, λ c6. (refl, refl, λ c10. (refl, ap (leb mostLines) (s .counted .lined), λ c12. (uncut c1 c6, tt)))))))
   where
     uncut : (noRole senior || noRole junior) ≡ false → wouldCircle m senior junior ≡ false → (reached m (with none junior) .cut || usersCut (lined m senior junior)) ≡ false
     uncut c1 c6 = rw (sound-never-cut m s (with none junior)) (users-never-cut (lined m senior junior) (lined-acyclic m s senior junior (leb-false 64 junior (or-no (noRole senior) (noRole junior) c1 .1)) c6))

@@ -1,18 +1,14 @@
--- What is a member of a set after each operation, in the direction that the other laws ask; and how full a table is after one change.
--- Assumes nothing.
+-- What is a member of a set after each operation, in the direction that the other laws ask. Assumes nothing.
 use mathlib.Core.Bool.{Bool, true, false, not, _&&_, _||_}
 use mathlib.Core.Logic.{_⊎_, inl, inr}
-use mathlib.Core.Path.{_≡_, refl, sym, ap, _∙_}
-use Prim.Native.Nat.{ℕ, suc, _^_, _≤_, _<_}
-use native.Mathlib.Omega.{arith}
+use mathlib.Core.Path.{_≡_, refl, _∙_}
+use Prim.Native.Nat.{ℕ, _^_, _<_}
 use lib.Dec.{eqb}
 use borrow.Author.Tests.{eqb-true, eqb-false, eq-eqb, ne-eqb, not-true}
-use Rattle.roleset.specs.Bounded.{total}
-use Rattle.roleset.specs.Roles.{has, with, without, both, none, count}
-use Rattle.roleset.proofs.BoundedLaws.{clash, and-left, and-right, and-both, or-left, or-right, or-cases, not-yes, total-mono, total-change}
-use Rattle.roleset.proofs.Laws.{has-none, has-with, has-without, has-both, those-member, count-mono, count-with, without-small}
+use Rattle.roleset.specs.Roles.{has, with, without, both, none}
+use Rattle.roleset.proofs.BoundedLaws.{clash, and-left, and-right, and-both, or-left, or-right, or-cases, not-yes}
+use Rattle.roleset.proofs.Laws.{has-none, has-with, has-without, has-both, those-member, without-small}
 use Rattle.model.specs.Model.{put}
-use Rattle.model.proofs.Puts.{put-same, put-other}
 use Rattle.sound.proofs.Put.{put-all}
 
 -- ---- yes and no
@@ -95,17 +91,3 @@ small-at table i r h = put-all (λ k set. set < 2 ^ 64) table i (without (table 
 -- With a role taken away at every place, and all roles at its own, nothing is there that was not.
 pub stripped-fewer : (table : ℕ → ℕ) (r k j : ℕ) → has (put (λ a. without (table a) r) r none k) j ≡ true → has (table k) j ≡ true
 stripped-fewer table r = put-all (λ k set. (j : ℕ) → has set j ≡ true → has (table k) j ≡ true) (λ a. without (table a) r) r none (λ j e. clash (has 0 j) e (has-none j)) (λ k d j e. without-member (table k) r j e .1)
-
--- ---- how full a table of sets is
-
--- A role added at one place makes the table fuller by one.
-pub one-more : (n : ℕ) (table : ℕ → ℕ) (i r : ℕ) → i < n → r < 64 → has (table i) r ≡ false → total n (λ k. count (put table i (with (table i) r) k)) ≡ suc (total n (λ k. count (table k)))
-one-more n table i r li lr h =
-    let new : ℕ = with (table i) r in
-    let change = total-change n (λ k. count (table k)) (λ k. count (put table i new k)) i li (λ k l d. sym (ap count (put-other table i new k d))) in
-    let here : count (put table i new i) ≡ suc (count (table i)) = ap count (put-same table i new) ∙ count-with (table i) r lr h in
-    omega (arith, change, here)
-
--- A table of smaller sets is no fuller.
-pub no-fuller : (n : ℕ) (table table′ : ℕ → ℕ) → ((k : ℕ) → k < n → Within (table k) (table′ k)) → total n (λ k. count (table k)) ≤ total n (λ k. count (table′ k))
-no-fuller n table table′ h = total-mono n (λ k. count (table k)) (λ k. count (table′ k)) (λ k l. count-mono (table k) (table′ k) (h k l))

@@ -2,6 +2,7 @@
 use mathlib.Core.Bool.{Bool, true, false, _&&_}
 use mathlib.Core.Path.{_≡_, refl, _∙_}
 use Prim.Native.Nat.{ℕ, _<_}
+use native.Mathlib.Omega.{arith}
 use lib.Dec.{eqb}
 use borrow.Author.Tests.{leb-false, eqb-false}
 use Rattle.roleset.specs.Roles.{has, with, none}
@@ -9,12 +10,14 @@ use Rattle.roleset.proofs.BoundedLaws.{clash}
 use Rattle.roleset.proofs.Laws.{with-small, has-none}
 use Rattle.hierarchy.specs.Walks.{reach}
 use Rattle.model.specs.Model.{Model, Session, noSession, put}
-use Rattle.model.specs.Sound.{Existing, SessionShape, Shape, Sound}
+use Rattle.model.specs.Words.{assignments, grants, linesStanding}
+use Rattle.model.specs.Sound.{Existing, SessionShape, Shape, Counted, Sound}
 use Rattle.model.specs.commands.Users.{user, role, nouser, withoutUser, allEnded, endedOf}
 use Rattle.sound.proofs.Sheet.{kept}
 use Rattle.model.proofs.Puts.{put-other}
 use Rattle.sound.proofs.Put.{put-all}
 use Rattle.sound.proofs.Members.{with-old, and-no}
+use Rattle.sound.proofs.Counting.{one-emptied}
 use Rattle.sound.proofs.Carried.{role-small, existing-none, existing-in, set-in, session-none, closed-idle}
 use Rattle.sound.proofs.Changing.{names-changed, fewer-sound}
 
@@ -81,11 +84,16 @@ module _ (m : Model) (u : ℕ) (s : Sound m) where
       left : (k : ℕ) → (m .sessions k .live && eqb (m .sessions k .owner) u) ≡ false → SessionShape m k (m .sessions k) → SessionShape m′ k (m .sessions k)
       left k e y = record { closed = y .closed; numbered = y .numbered; owned = λ l. put-other (m .users) u false (m .sessions k .owner) (other-owner k e l) ∙ y .owned l; active = existing-in m m′ (λ r h. h) (y .active) }
 
-  -- and stays sound.
-  without-user-sound : Sound (withoutUser m u)
+  -- what is kept of its assignments is less by what the user had,
+  without-user-counted : u < 256 → Counted (withoutUser m u)
+  unfolding withoutUser allEnded assignments grants linesStanding
+  without-user-counted l = record { assigned = omega (arith, s .counted .assigned, one-emptied 256 (m .assigned) u l); granted = s .counted .granted; lined = s .counted .lined }
+
+  -- and it stays sound.
+  without-user-sound : u < 256 → Sound (withoutUser m u)
   unfolding withoutUser allEnded
-  without-user-sound =
-      fewer-sound m s (put (m .users) u false) (m .roles) (m .juniors) (put (m .assigned) u none) (m .holders) (λ k. endedOf u (m .sessions k)) without-user-shape
+  without-user-sound l =
+      fewer-sound m s (withoutUser m u) without-user-shape (without-user-counted l)
       (λ a j e. e)
       (put-all (λ k set. (r : ℕ) → has set r ≡ true → has (m .assigned k) r ≡ true) (m .assigned) u none (λ r e. clash (has 0 r) e (has-none r)) (λ k d r e. e))
       (λ p r e. e)
@@ -99,4 +107,4 @@ module _ (m : Model) (u : ℕ) (s : Sound m) where
 -- `nouser u` keeps a sound model sound.
 pub nouser-sound : (m : Model) (u : ℕ) → Sound m → Sound (nouser m u .after)
 unfolding nouser
-nouser-sound m u s = kept Sound _ m _ _ refl s (λ c. without-user-sound m u s)
+nouser-sound m u s = kept Sound _ m _ _ refl s (λ c. without-user-sound m u s (leb-false 256 u (c .0)))
