@@ -1,7 +1,7 @@
--- The laws that crates above cite: of inheritance, of the walk, of circles, and of the lines turned round.
+-- The laws that crates above cite: of inheritance, of the walk and its fronts, of circles, and of the lines turned round.
 pub mod InheritsLaws
 pub mod WalkLaws
 pub mod CircleLaws
 pub mod AboveLaws
-mod Fronts
+pub mod Fronts
 mod Marking
