@@ -107,6 +107,14 @@ fill-end o n from l after f = fun-ext (λ k. go k (decLt k n))
     go k (yes h) = part-at after o n k h ∙ f .done k h ∙ sym (getD-take n from k 0 h)
     go k (no h) = let z : n ≤ k = omega arith in part-none after o n k z ∙ sym (part-none from 0 n k z)
 
+-- a whole array as a part
+pub whole : (l : List ℕ) (n : ℕ) → length l ≡ n → _≡_ {A = ℕ → ℕ} (part l 0 n) (tableOf l)
+whole l n long = fun-ext (λ k. go k (decLt k n))
+  where
+    go : (k : ℕ) → Dec (k < n) → part l 0 n k ≡ getD l k 0
+    go k (yes p) = getD-take n (drop 0 l) k 0 p ∙ getD-drop 0 l k 0 ∙ ap (λ (j : ℕ). getD l j 0) (omega arith)
+    go k (no p) = part-none l 0 n k (omega arith) ∙ sym (List·getD-eq-default l 0 {n = k} (omega arith))
+
 -- ---- an array of its own, copied from a part, place by place
 
 pub copy-store : (f : ℕ → ℕ) (n k v : ℕ) (table : List ℕ) → k < n → length table ≡ n → v ≡ f k → ((j : ℕ) → j < k → getD table j 0 ≡ f j) → (j : ℕ) → j < k + 1 → getD (set table k v) j 0 ≡ f j

@@ -1,118 +1,186 @@
-// Sweeps over all users and over all sessions, one walk each.
-ghost use mathlib.Core.List.{map};
+// Sweeps over all users and over all sessions of the lent state, one walk each. Where lines or assignments are to change, a sweep goes over tables as they will be, and nothing is stored yet.
 ghost use mathlib.Core.Path.{_≡_};
-ghost use Rattle.roleset.specs.Roles.{without};
 ghost use Rattle.hierarchy.specs.Lines.{tableOf};
-ghost use Rattle.model.specs.commands.Sessions.{freeFrom};
-ghost use Rattle.model.specs.commands.Users.{endedOf};
-ghost use Rattle.policy.specs.View.{sessionsIn};
-ghost use Rattle.sweeps.specs.Sweeps.{AuthorisesAll, ShedsAll};
+ghost use Rattle.model.specs.Model.{Session};
+ghost use Rattle.model.specs.Words.{shedded};
+ghost use Rattle.model.specs.commands.Sessions.{lowestFree};
+ghost use Rattle.model.specs.commands.Users.{allEnded};
+ghost use Rattle.state.specs.View.{part, view};
+ghost use Rattle.sweeps.specs.Sweeps.{AsksStatic, AsksSet, asksUsers, asksSessions, Keeps, ShedsAll, Strips};
+use hierarchy::Walk;
+use model::Kind;
+use model::RoleSet;
 use model::SessionRecord;
+use numbers::Session;
 use numbers::User;
+use separation::breaks;
+use separation::breaks_some;
+use state::PLACES;
+use state::naming::either;
+use state::reads::assigned_to;
+use state::reads::session_at;
+use state::stores::close_session;
 
-// For every user the roles that the user is authorised for, and whether a walk was cut off.
-pub struct Authorised {
-    pub roles: [u64; 256],
+// What asking a rule finds: whether it is broken, and where it is not, whether a walk was cut off.
+pub struct Asked {
+    pub broken: bool,
     pub cut: bool,
 }
 
-// The sessions after shedding, and whether a walk was cut off.
+// The active roles that are left to each session, and whether a walk was cut off.
 pub struct Kept {
-    pub sessions: [SessionRecord; 64],
+    pub active: [u64; 64],
     pub cut: bool,
 }
 
-// A walk from every user's assigned roles.
-pub fn authorised_all<'a>(juniors: &'a [u64; 64], assigned: &'a [u64; 256]) -> Authorised
-    ensures { λ all. ⌜ AuthorisesAll (tableOf (now (juniors .entry))) (tableOf (now (assigned .entry))) all ⌝ }
+// Is the static rule broken for some user, with these lines? The first user that breaks it ends the sweep. What no role breaks, a user with no roles does not break, and is not walked for.
+pub fn ask_static<'a>(state: &'a [u64; PLACES], juniors: &'a [u64; 64]) -> Asked
+    ensures { λ x. ⌜ AsksStatic (view (now (state .entry))) (tableOf (now (juniors .entry))) x ⌝ }
 {
-    let mut roles = [0u64; 256];
+    if breaks_some(state, Kind::Static, 0) {
+        return Asked {
+            broken: true,
+            cut: false,
+        };
+    }
     let mut cut = false;
-    let mut u: usize = 0;
+    let mut u: u16 = 0;
     while u < 256 {
-        let walk = hierarchy::reach(juniors, assigned[u]);
-        roles[u] = walk.roles;
-        if walk.cut {
-            cut = true;
-        }
+        let held = assigned_to(state, User { number: u });
         u += 1;
-    }
-    Authorised { roles, cut }
-}
-
-// Every session keeps exactly those active roles for which its owner is still authorised.
-pub fn shed<'a>(
-    juniors: &'a [u64; 64],
-    assigned: &'a [u64; 256],
-    sessions: [SessionRecord; 64],
-) -> Kept
-    ensures { λ x. ⌜ ShedsAll (tableOf (now (juniors .entry))) (tableOf (now (assigned .entry))) sessions x ⌝ }
-{
-    let mut after = sessions;
-    let mut cut = false;
-    let mut k: usize = 0;
-    while k < 64 {
-        let session = sessions[k];
-        if session.live {
-            let walk = hierarchy::reach(juniors, assigned[session.owner as usize]);
-            after[k] = SessionRecord {
-                live: true,
-                owner: session.owner,
-                active: roleset::both(session.active, walk.roles),
-            };
-            if walk.cut {
-                cut = true;
+        if held != 0 {
+            let walk = hierarchy::reach(juniors, held);
+            if breaks_some(state, Kind::Static, walk.roles) {
+                return Asked {
+                    broken: true,
+                    cut: false,
+                };
             }
+            cut = either(cut, walk.cut);
         }
-        k += 1;
     }
-    Kept {
-        sessions: after,
-        cut,
-    }
+    Asked { broken: false, cut }
 }
 
-// The sessions of the user end; another's stay.
-pub fn end_all(sessions: [SessionRecord; 64], u: User) -> [SessionRecord; 64]
-    ensures { λ after. ⌜ sessionsIn after ≡ (λ k. endedOf (u .number) (sessionsIn sessions k)) ⌝ }
+// Does some user break the rule of the set by the roles that it is authorised for?
+fn ask_users(state: &[u64; PLACES], set: RoleSet) -> Asked
+    ensures { λ x. ⌜ asksUsers (view (now (state .entry))) set x ⌝ }
 {
-    let mut after = sessions;
-    let mut k: usize = 0;
-    while k < 64 {
-        let session = sessions[k];
-        if session.live && session.owner as u16 == u.number {
-            after[k] = SessionRecord {
-                live: false,
-                owner: 0,
-                active: 0,
-            };
+    if breaks(set, 0) {
+        return Asked {
+            broken: true,
+            cut: false,
+        };
+    }
+    let mut cut = false;
+    let mut u: u16 = 0;
+    while u < 256 {
+        let held = assigned_to(state, User { number: u });
+        u += 1;
+        if held != 0 {
+            let walk = walking::reach(state, held);
+            if breaks(set, walk.roles) {
+                return Asked {
+                    broken: true,
+                    cut: false,
+                };
+            }
+            cut = either(cut, walk.cut);
         }
-        k += 1;
     }
-    after
+    Asked { broken: false, cut }
 }
 
-// The active roles of every session, as a table.
-pub fn active_roles(sessions: [SessionRecord; 64]) -> [u64; 64]
-    ensures { λ table. ⌜ tableOf table ≡ (λ k. sessionsIn sessions k .active) ⌝ }
-{
-    let mut table = [0u64; 64];
-    let mut k: usize = 0;
-    while k < 64 {
-        let session = sessions[k];
-        table[k] = session.active;
-        k += 1;
-    }
-    table
-}
-
-// The lowest number that no live session has; 64 where there is none.
-pub fn lowest_free(sessions: [SessionRecord; 64]) -> u16
-    ensures { λ n. ⌜ n ≡ freeFrom (sessionsIn sessions) 64 0 ⌝ }
+// Does some session break the rule of the set by its active roles?
+fn ask_sessions(state: &[u64; PLACES], set: RoleSet) -> bool
+    ensures { λ b. ⌜ b ≡ asksSessions (view (now (state .entry))) set ⌝ }
 {
     let mut k: u16 = 0;
     while k < 64 {
-        let session = sessions[k as usize];
+        let session = session_at(state, Session { number: k });
+        if breaks(set, session.active) {
+            return true;
+        }
+        k += 1;
+    }
+    false
+}
+
+// Is the rule of the set broken? A static one is asked of the roles that each user is authorised for, a dynamic one of those that each session has active.
+pub fn ask_set(state: &[u64; PLACES], kind: Kind, set: RoleSet) -> Asked
+    ensures { λ x. ⌜ AsksSet kind (view (now (state .entry))) set x ⌝ }
+{
+    match kind {
+        Kind::Static => ask_users(state, set),
+        Kind::Dynamic => {
+            let broken = ask_sessions(state, set);
+            Asked { broken, cut: false }
+        }
+    }
+}
+
+// What one session keeps of its active roles, and whether its owner's walk was cut off; a closed one stays as it is.
+fn left_to<'a>(juniors: &'a [u64; 64], assigned: &'a [u64; 256], session: SessionRecord) -> Walk
+    ensures { λ w. ⌜ Keeps (tableOf (now (juniors .entry))) (part (now (assigned .entry)) 0 256) session w ⌝ }
+{
+    if !session.live {
+        return Walk {
+            roles: session.active,
+            cut: false,
+        };
+    }
+    let mut held = 0u64;
+    let owner = session.owner;
+    if owner < 256 {
+        held = assigned[owner as usize];
+    }
+    let walk = hierarchy::reach(juniors, held);
+    let roles = roleset::both(session.active, walk.roles);
+    Walk {
+        roles,
+        cut: walk.cut,
+    }
+}
+
+// Every session keeps exactly those active roles for which its owner is still authorised, with these lines and these assignments.
+pub fn shed<'a>(juniors: &'a [u64; 64], assigned: &'a [u64; 256], state: &'a [u64; PLACES]) -> Kept
+    ensures { λ x. ⌜ ShedsAll (tableOf (now (juniors .entry))) (part (now (assigned .entry)) 0 256) (view (now (state .entry)) .sessions) x ⌝ }
+{
+    let mut active = [0u64; 64];
+    let mut cut = false;
+    let mut k: u16 = 0;
+    while k < 64 {
+        let session = session_at(state, Session { number: k });
+        let left = left_to(juniors, assigned, session);
+        active[k as usize] = left.roles;
+        cut = either(left.cut, cut);
+        k += 1;
+    }
+    Kept { active, cut }
+}
+
+// The sessions of the user end; another's stay.
+pub fn end_all(state: &mut [u64; PLACES], u: User)
+    ensures { λ _. ⌜ view (now (state .exit)) ≡ allEnded (view (now (state .entry))) (u .number) ⌝ }
+{
+    let mut k: u16 = 0;
+    while k < 64 {
+        let x = Session { number: k };
+        let session = session_at(state, x);
+        if session.live && session.owner == u.number as u64 {
+            close_session(state, x);
+        }
+        k += 1;
+    }
+}
+
+// The lowest number that no live session has; 64 where there is none.
+pub fn lowest_free(state: &[u64; PLACES]) -> u16
+    ensures { λ n. ⌜ n ≡ lowestFree (view (now (state .entry))) ⌝ }
+{
+    let mut k: u16 = 0;
+    while k < 64 {
+        let session = session_at(state, Session { number: k });
         if !session.live {
             return k;
         }
@@ -121,13 +189,18 @@ pub fn lowest_free(sessions: [SessionRecord; 64]) -> u16
     64
 }
 
-// The role is taken out of every set of a table.
-pub fn strip(table: &mut [u64], r: u16)
-    ensures { λ _. ⌜ now (table .exit) ≡ map (λ x. without x r) (now (table .entry)) ⌝ }
+// The role is taken out of every set of a table, and how many had it.
+pub fn strip(table: &mut [u64], r: u16) -> u64
+    ensures { λ n. ⌜ Strips (now (table .entry)) (now (table .exit)) r n ⌝ }
 {
+    let mut n: u64 = 0;
     let mut k: usize = 0;
     while k < table.len() {
+        if roleset::has(table[k], r) {
+            n += 1;
+        }
         table[k] = roleset::without(table[k], r);
         k += 1;
     }
+    n
 }
