@@ -116,6 +116,27 @@ static int grant(struct engine *e, unsigned op, unsigned obj, unsigned r) {
     return DONE;
 }
 
+static int revoke(struct engine *e, unsigned op, unsigned obj, unsigned r) {
+    if (op >= 16 || obj >= 256 || r >= 64) return BEYOND;
+    if (!has(e->roles, r)) return MISSING;
+    u64 *holders = &e->holders[op * 256 + obj];
+    if (!has(*holders, r)) return NOT_THERE;
+    *holders &= ~one(r);
+    e->grants--;
+    return DONE;
+}
+
+static int nouser(struct engine *e, unsigned u) {
+    if (u >= 256) return BEYOND;
+    if (!e->users[u]) return MISSING;
+    for (int k = 0; k < 64; k++)
+        if (e->sessions[k].live && e->sessions[k].owner == u) e->sessions[k] = (struct session){ 0, 0, 0 };
+    e->assignments -= count(e->assigned[u]);
+    e->assigned[u] = 0;
+    e->users[u] = 0;
+    return DONE;
+}
+
 static int inherit(struct engine *e, unsigned senior, unsigned junior) {
     if (senior >= 64 || junior >= 64) return BEYOND;
     if (!has(e->roles, senior) || !has(e->roles, junior)) return MISSING;
@@ -164,13 +185,56 @@ static int disinherit(struct engine *e, unsigned senior, unsigned junior) {
     return DONE;
 }
 
+/* A role goes: its assignments, grants and lines, and then the closure of what was above it. */
+static int norole(struct engine *e, unsigned r) {
+    if (r >= 64) return BEYOND;
+    if (!has(e->roles, r)) return MISSING;
+    for (int n = 0; n < 16; n++)
+        if (has(e->ssd[n].roles | e->dsd[n].roles, r)) return IN_SET;
+    u64 above = 0;
+    for (int k = 0; k < 64; k++) {
+        if (k != (int)r && has(e->closure[k], r)) above |= one(k);
+        if (has(e->juniors[k], r)) e->lines--;
+        e->juniors[k] &= ~one(r);
+    }
+    e->lines -= count(e->juniors[r]);
+    e->juniors[r] = 0;
+    e->closure[r] = 0;
+    while (above) closed(e, lowest(above), &above);
+    for (int u = 0; u < 256; u++) {
+        if (has(e->assigned[u], r)) e->assignments--;
+        e->assigned[u] &= ~one(r);
+    }
+    for (int p = 0; p < 4096; p++) {
+        if (has(e->holders[p], r)) e->grants--;
+        e->holders[p] &= ~one(r);
+    }
+    e->roles &= ~one(r);
+    shed(e);
+    return DONE;
+}
+
 static int ascending(const u16 *list, unsigned n) {
     for (unsigned i = 1; i < n; i++)
         if (list[i] <= list[i - 1]) return 0;
     return 1;
 }
 
-static int make_static(struct engine *e, unsigned name, unsigned card, const u16 *list, unsigned n) {
+/* Is the rule of a set broken, for some user or in some session? The answer, or DONE. */
+static int set_rule(const struct engine *e, int dynamic, u64 roles, unsigned card) {
+    if (dynamic) {
+        for (int k = 0; k < 64; k++)
+            if (e->sessions[k].live && count(e->sessions[k].active & roles) >= card) return DYNAMIC;
+        return DONE;
+    }
+    for (int u = 0; u < 256; u++)
+        if (e->assigned[u] && count(reached(e, e->assigned[u]) & roles) >= card) return STATIC;
+    return DONE;
+}
+
+static struct set *sets_of(struct engine *e, int dynamic) { return dynamic ? e->dsd : e->ssd; }
+
+static int make_set(struct engine *e, int dynamic, unsigned name, unsigned card, const u16 *list, unsigned n) {
     u64 roles = 0;
     if (!ascending(list, n)) return FORM;
     if (name >= 16) return BEYOND;
@@ -179,12 +243,52 @@ static int make_static(struct engine *e, unsigned name, unsigned card, const u16
         roles |= one(list[i]);
     }
     if (roles & ~e->roles) return MISSING;
-    if (e->ssd[name].there) return ALREADY;
+    struct set *set = sets_of(e, dynamic) + name;
+    if (set->there) return ALREADY;
     if (card < 2 || card > n) return BAD_CARD;
-    struct set set = { 1, (u16)card, roles };
-    for (int u = 0; u < 256; u++)
-        if (e->users[u] && count(reached(e, e->assigned[u]) & roles) >= card) return STATIC;
-    e->ssd[name] = set;
+    int broken = set_rule(e, dynamic, roles, card);
+    if (broken) return broken;
+    *set = (struct set){ 1, (u16)card, roles };
+    return DONE;
+}
+
+static int drop_set(struct engine *e, int dynamic, unsigned name) {
+    if (name >= 16) return BEYOND;
+    struct set *set = sets_of(e, dynamic) + name;
+    if (!set->there) return MISSING;
+    *set = (struct set){ 0, 0, 0 };
+    return DONE;
+}
+
+static int add_member(struct engine *e, int dynamic, unsigned name, unsigned r) {
+    if (name >= 16 || r >= 64) return BEYOND;
+    struct set *set = sets_of(e, dynamic) + name;
+    if (!set->there || !has(e->roles, r)) return MISSING;
+    if (has(set->roles, r)) return ALREADY;
+    int broken = set_rule(e, dynamic, set->roles | one(r), set->card);
+    if (broken) return broken;
+    set->roles |= one(r);
+    return DONE;
+}
+
+static int drop_member(struct engine *e, int dynamic, unsigned name, unsigned r) {
+    if (name >= 16 || r >= 64) return BEYOND;
+    struct set *set = sets_of(e, dynamic) + name;
+    if (!set->there || !has(e->roles, r)) return MISSING;
+    if (!has(set->roles, r)) return NOT_THERE;
+    if (set->card > count(set->roles) - 1) return BAD_CARD;
+    set->roles &= ~one(r);
+    return DONE;
+}
+
+static int set_cardinality(struct engine *e, int dynamic, unsigned name, unsigned card) {
+    if (name >= 16) return BEYOND;
+    struct set *set = sets_of(e, dynamic) + name;
+    if (!set->there) return MISSING;
+    if (card < 2 || card > count(set->roles)) return BAD_CARD;
+    int broken = set_rule(e, dynamic, set->roles, card);
+    if (broken) return broken;
+    set->card = (u16)card;
     return DONE;
 }
 
@@ -213,6 +317,28 @@ static int end_session(struct engine *e, unsigned u, unsigned x) {
     if (!e->users[u] || !e->sessions[x].live) return MISSING;
     if (e->sessions[x].owner != u) return OTHER_OWNER;
     e->sessions[x] = (struct session){ 0, 0, 0 };
+    return DONE;
+}
+
+static int activate(struct engine *e, unsigned u, unsigned x, unsigned r) {
+    if (u >= 256 || x >= 64 || r >= 64) return BEYOND;
+    struct session *s = &e->sessions[x];
+    if (!e->users[u] || !s->live || !has(e->roles, r)) return MISSING;
+    if (s->owner != u) return OTHER_OWNER;
+    if (has(s->active, r)) return ALREADY;
+    if (!has(reached(e, e->assigned[u]), r)) return NOT_AUTHORISED;
+    if (breaks(e->dsd, s->active | one(r))) return DYNAMIC;
+    s->active |= one(r);
+    return DONE;
+}
+
+static int drop(struct engine *e, unsigned u, unsigned x, unsigned r) {
+    if (u >= 256 || x >= 64 || r >= 64) return BEYOND;
+    struct session *s = &e->sessions[x];
+    if (!e->users[u] || !s->live || !has(e->roles, r)) return MISSING;
+    if (s->owner != u) return OTHER_OWNER;
+    if (!has(s->active, r)) return NOT_THERE;
+    s->active &= ~one(r);
     return DONE;
 }
 
@@ -475,6 +601,11 @@ static unsigned top(unsigned depth, unsigned u) {
     }
 }
 
+static void pair_of(int dynamic, unsigned b, u16 *pair) {
+    pair[0] = (u16)(dynamic ? b == 15 ? 2 : b * 4 + 1 : b * 4);
+    pair[1] = (u16)(dynamic ? b == 15 ? 61 : b * 4 + 6 : b * 4 + 2);
+}
+
 static void build(struct engine *e, unsigned depth, unsigned users) {
     int school = depth < 3;
     unsigned number;
@@ -489,8 +620,13 @@ static void build(struct engine *e, unsigned depth, unsigned users) {
     }
     for (unsigned n = 0; n < 768; n++) grant(e, n / 16 % 3, n / 48 * 16 + n % 16, n / 48 * 4 + n / 16 % 3);
     for (unsigned n = 0; n < 16; n++) {
-        u16 pair[2] = { (u16)(school ? n * 4 : n), (u16)(school ? n * 4 + 2 : 63) };
-        make_static(e, n, 2, pair, 2);
+        u16 pair[2] = { (u16)n, 63 };
+        if (school) pair_of(0, n, pair);
+        make_set(e, 0, n, 2, pair, 2);
+        if (school) {
+            pair_of(1, n, pair);
+            make_set(e, 1, n, 2, pair, 2);
+        }
     }
     for (unsigned u = 0; u < users; u++) {
         assign(e, u, top(depth, u));
@@ -502,11 +638,113 @@ static void build(struct engine *e, unsigned depth, unsigned users) {
     }
 }
 
-/* ---- the rounds, as in crates/speed/src/rounds.rt */
+/* ---- single moves, as in crates/speed/src/moves.rt */
+
+static int of_users(struct engine *e, unsigned m, unsigned b) {
+    switch (m) {
+    case 0: return user(e, 255);
+    case 1: return nouser(e, 255);
+    case 2: return user(e, b);
+    case 3: return norole(e, 63);
+    case 4: return role(e, 63);
+    case 5: return role(e, b);
+    case 6: return norole(e, b * 4);
+    default: return DONE;
+    }
+}
+
+static unsigned spare(unsigned depth, unsigned b) { return depth < 3 ? (b + 2) % 16 * 4 + 1 : 17; }
+
+static int of_assignments(struct engine *e, unsigned m, unsigned depth, unsigned b) {
+    unsigned r = spare(depth, b);
+    switch (m) {
+    case 10: return assign(e, b, r);
+    case 11: return deassign(e, b, r);
+    case 12: return assign(e, b, top(depth, b));
+    case 13: return assign(e, b, b * 4 + 2);
+    case 14: return assign(e, 255, r);
+    case 15: return deassign(e, b, r);
+    default: return DONE;
+    }
+}
+
+static int of_grants(struct engine *e, unsigned m, u64 i, unsigned b) {
+    unsigned obj = i % 256;
+    switch (m) {
+    case 20: return grant(e, 5, obj, b);
+    case 21: return revoke(e, 5, obj, b);
+    case 22: return grant(e, 0, b * 16, b * 4);
+    case 23: return revoke(e, 6, obj, b);
+    default: return DONE;
+    }
+}
+
+static int of_lines(struct engine *e, unsigned m, unsigned depth, unsigned b) {
+    unsigned r = spare(depth, b), s = depth < 3 ? b * 4 + 3 : depth - 1;
+    switch (m) {
+    case 30: return inherit(e, s, r);
+    case 31: return disinherit(e, s, r);
+    case 32: return inherit(e, b * 4 + 3, b * 4);
+    case 33: return inherit(e, b * 4, b * 4 + 3);
+    case 34: return inherit(e, b * 4 + 3, b * 4 + 2);
+    case 35: return disinherit(e, s, r);
+    default: return DONE;
+    }
+}
+
+static int of_sets(struct engine *e, unsigned m, int dynamic, unsigned b) {
+    unsigned other = (b + 5) % 16 * 4;
+    u16 pair[2];
+    pair_of(dynamic, b, pair);
+    switch (m) {
+    case 0: return drop_set(e, dynamic, b);
+    case 1: return make_set(e, dynamic, b, 2, pair, 2);
+    case 2: return add_member(e, dynamic, b, other);
+    case 3: return drop_member(e, dynamic, b, other);
+    case 4: return set_cardinality(e, dynamic, b, 2);
+    case 5: return add_member(e, dynamic, b, b * 4 + 3);
+    case 6: return drop_member(e, dynamic, b, other);
+    case 7: return set_cardinality(e, dynamic, b, 3);
+    default: return DONE;
+    }
+}
+
+static int of_sessions(struct engine *e, unsigned m, unsigned depth, unsigned b) {
+    unsigned lead = top(depth, b), number;
+    u16 list[1] = { (u16)lead }, pair[2];
+    switch (m) {
+    case 60: return open_session(e, b, list, 1, &number);
+    case 61: return end_session(e, b, 16);
+    case 62: return activate(e, b, b, b * 4);
+    case 63: return drop(e, b, b, b * 4);
+    case 64: return open_session(e, b + 1, list, 1, &number);
+    case 65: return end_session(e, b + 1, b);
+    case 66: return activate(e, b, b, lead);
+    case 67: return drop(e, b, b, lead ? lead - 1 : 0);
+    case 68:
+        pair_of(1, b, pair);
+        return open_session(e, b, pair, 2, &number);
+    default: return DONE;
+    }
+}
+
+static int moved(struct engine *e, u64 m, unsigned depth, u64 i) {
+    unsigned b = i % 8 * 2, n = (unsigned)m;
+    switch (m / 10) {
+    case 0: return of_users(e, n, b);
+    case 1: return of_assignments(e, n, depth, b);
+    case 2: return of_grants(e, n, i, b);
+    case 3: return of_lines(e, n, depth, b);
+    case 4: return of_sets(e, n % 10, 0, b);
+    case 5: return of_sets(e, n % 10, 1, b);
+    case 6: return of_sessions(e, n, depth, b);
+    default: return DONE;
+    }
+}
+
+/* ---- the rounds, as in crates/speed/src/rounds.rt and files.rt */
 
 static u64 mix(u64 sum, int answer, u64 result) { return (sum << 1 | sum >> 63) + (u64)answer + result; }
-
-static unsigned user_of(u64 i, unsigned users) { return users < 2 ? 0 : (unsigned)(i % 128 * 2) % users; }
 
 static u64 checks(struct engine *e, u64 rounds, int walk) {
     u64 sum = 1;
@@ -517,38 +755,11 @@ static u64 checks(struct engine *e, u64 rounds, int walk) {
     return sum;
 }
 
-static u64 assigns(struct engine *e, unsigned op, unsigned depth, unsigned users, u64 rounds) {
+static u64 moves(struct engine *e, u64 first, u64 second, unsigned depth, u64 rounds) {
     u64 sum = 1;
     for (u64 i = 0; i < rounds; i++) {
-        unsigned u = user_of(i, users);
-        if (op == 2) {
-            unsigned r = depth < 3 ? (u % 16 + 2) % 16 * 4 + 1 : 17;
-            sum = mix(sum, assign(e, u, r), 0);
-            sum = mix(sum, deassign(e, u, r), 0);
-        } else sum = mix(sum, assign(e, u, op == 3 ? top(depth, u) : u % 16 * 4 + 2), 0);
-    }
-    return sum;
-}
-
-static u64 inherits(struct engine *e, unsigned depth, u64 rounds) {
-    u64 sum = 1;
-    for (u64 i = 0; i < rounds; i++) {
-        unsigned senior = depth < 3 ? i % 16 * 4 + 3 : depth - 1;
-        unsigned junior = depth < 3 ? (i % 16 + 2) % 16 * 4 + 1 : 17;
-        sum = mix(sum, inherit(e, senior, junior), 0);
-        sum = mix(sum, disinherit(e, senior, junior), 0);
-    }
-    return sum;
-}
-
-static u64 opens(struct engine *e, unsigned depth, unsigned users, u64 rounds) {
-    u64 sum = 1;
-    for (u64 i = 0; i < rounds; i++) {
-        unsigned u = user_of(i, users), number;
-        u16 list[1] = { (u16)top(depth, u) };
-        int answer = open_session(e, u, list, 1, &number);
-        sum = mix(sum, answer, number);
-        sum = mix(sum, end_session(e, u, number), 0);
+        sum = mix(sum, moved(e, first, depth, i), 0);
+        if (second != 99) sum = mix(sum, moved(e, second, depth, i), 0);
     }
     return sum;
 }
@@ -574,32 +785,30 @@ static u64 saves(struct engine *e, u64 rounds) {
     return sum;
 }
 
-/* 9 is `check` again, by a walk instead of the closure: its checksum is that of 0. */
-static u64 run(struct engine *e, u64 op, unsigned depth, unsigned users, u64 rounds) {
-    switch (op) {
-    case 0: case 1: return checks(e, rounds, 0);
-    case 2: case 3: case 4: return assigns(e, (unsigned)op, depth, users, rounds);
-    case 5: return inherits(e, depth, rounds);
-    case 6: return opens(e, depth, users, rounds);
-    case 7: return loads(e, rounds);
-    case 8: return saves(e, rounds);
-    case 9: return checks(e, rounds, 1);
-    default: return 0;
+/* 93 is `check` again, by a walk instead of the closure: its checksum is that of 90. */
+static u64 run(struct engine *e, u64 first, u64 second, unsigned depth, u64 rounds) {
+    switch (first) {
+    case 90: return checks(e, rounds, 0);
+    case 91: return loads(e, rounds);
+    case 92: return saves(e, rounds);
+    case 93: return checks(e, rounds, 1);
+    default: return moves(e, first, second, depth, rounds);
     }
 }
 
+/* The request: FIRST SECOND DEPTH USERS ROUNDS. */
 int main(void) {
     u8 text[64];
     long n = read(0, text, sizeof text);
-    u64 asked[4] = { 0 };
+    u64 asked[5] = { 0 };
     int k = 0;
-    for (long i = 0; i < n && k < 4; i++) {
+    for (long i = 0; i < n && k < 5; i++) {
         if (text[i] >= '0' && text[i] <= '9') asked[k] = (asked[k] * 10 + text[i] - '0') % 1000000000000;
         else k++;
     }
-    unsigned depth = (unsigned)(asked[1] % 64), users = (unsigned)(asked[2] % 257);
+    unsigned depth = (unsigned)(asked[2] % 64), users = (unsigned)(asked[3] % 257);
     build(&engine, depth, users);
-    u64 sum = run(&engine, asked[0], depth, users, asked[3]);
+    u64 sum = run(&engine, asked[0], asked[1], depth, asked[4]);
     u8 out[24], *at = out + sizeof out;
     *--at = '\n';
     do *--at = (u8)('0' + sum % 10); while (sum /= 10);

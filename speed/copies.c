@@ -1,5 +1,5 @@
 /* Counts the copies that a program makes, for `speed/run copies`: loaded before the C library, it stands in for memcpy, to which the
-   compiler turns every copy of more than a few words. At the end it writes how many copies were of a whole state (37,128 bytes), how
+   compiler turns every copy of more than a few words. At the end it writes how many copies were of a whole state (36,928 bytes), how
    many were of the grants at least (32,768), how many were shorter, and the bytes of all. */
 
 typedef unsigned long u64;
@@ -11,7 +11,7 @@ static u64 state, grants, shorter, bytes;
 void *memcpy(void *to, const void *from, u64 n) {
     volatile unsigned char *t = to;
     const unsigned char *f = from;
-    if (n >= 37128) state++;
+    if (n >= 36928) state++;
     else if (n >= 32768) grants++;
     else shorter++;
     bytes += n;

@@ -5,6 +5,7 @@ use libc::STDIN_FILENO;
 use libc::STDOUT_FILENO;
 use lines::Tally;
 use script::Progress;
+use state::PLACES;
 
 // Writes the total.
 fn write_total(t: Tally) {
@@ -14,12 +15,12 @@ fn write_total(t: Tally) {
 }
 
 // Answers the next line.
-fn write_line(script: &[u8], p: Progress) -> Progress
+fn write_line(script: &[u8], state: &mut [u64; PLACES], p: Progress) -> Progress
     requires { ⌜ p .at < length (now script) ⌝ }
     ensures { λ r. ⌜ (p .at < r .at) × (r .at ≤ length (now (script .entry))) ⌝ }
 {
     let mut buf = [0u8; 32768];
-    let t = script::turn(script, p, &mut buf);
+    let t = script::turn(script, state, p, &mut buf);
     let len = t.len;
     io::write_all(STDOUT_FILENO, &buf[..len]);
     t.next
@@ -27,14 +28,14 @@ fn write_line(script: &[u8], p: Progress) -> Progress
 
 // Answers each line, starting empty.
 fn run(script: &[u8]) {
-    let state = policy::empty();
+    let mut state = [0u64; PLACES];
+    state::stores::start(&mut state);
     let mut p = Progress {
-        state,
         at: 0,
         tally: Tally { done: 0, others: 0 },
     };
     while p.at < script.len() {
-        p = write_line(script, p);
+        p = write_line(script, &mut state, p);
     }
     write_total(p.tally);
 }

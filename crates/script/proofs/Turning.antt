@@ -10,7 +10,7 @@ use borrow.Author.Tests.{lt-ltb, le-ltb}
 use Rattle.model.specs.Model.{Model, empty}
 use Rattle.model.specs.Sheet.{Told}
 use Rattle.model.specs.Step.{step}
-use Rattle.policy.specs.View.{view}
+use Rattle.state.specs.View.{view}
 use Rattle.decimal.specs.Decimal.{decimal, numbered}
 use Rattle.decimal.proofs.Laws.{decimal-short, numbered-short, put-front}
 use Rattle.words.specs.Words.{wordOf}
@@ -114,32 +114,32 @@ counted-once done others told = go (eqb (told .answer) 0)
 
 -- ---- joined
 
--- what is still to be printed of a script, from a place in it on
-abbrev toPrint : List ℕ → Progress → List ℕ
-toPrint script p = runLines (view (p .state)) (p .tally .done) (p .tally .others) (partsOf lineFeed (drop (p .at) script))
+-- what is still to be printed of a script, from a state and a place in it on
+abbrev toPrint : List ℕ → List ℕ → Progress → List ℕ
+toPrint script l p = runLines (view l) (p .tally .done) (p .tally .others) (partsOf lineFeed (drop (p .at) script))
 
 -- A turn prints its line, and leaves the rest to print.
-module _ (script : List ℕ) (p : Progress) (before after : List ℕ) (x : Turned) (t : Turns script p before after x) (h : p .at < length script) (room : length before ≡ bufferLength) (small : length script ≤ longestScript) (few : p .tally .done + p .tally .others ≤ p .at) where
-  stands : take (x .len) after ≡ answerText (toldAt script p .answer) (toldAt script p .results)
-  stands = put-front (t .text) (omega (arith, room, answer-short (toldAt script p .answer) (toldAt script p .results) (obey-few (view (p .state)) (partAt lineFeed script (p .at)))))
+module _ (script l : List ℕ) (p : Progress) (before after : List ℕ) (x : Turned) (next : List ℕ) (t : Turns script l p before after x next) (h : p .at < length script) (room : length before ≡ bufferLength) (small : length script ≤ longestScript) (few : p .tally .done + p .tally .others ≤ p .at) where
+  stands : take (x .len) after ≡ answerText (toldAt script l p .answer) (toldAt script l p .results)
+  stands = put-front (t .text) (omega (arith, room, answer-short (toldAt script l p .answer) (toldAt script l p .results) (obey-few (view l) (partAt lineFeed script (p .at)))))
 
-  done-is : x .next .tally .done ≡ doneAfter (p .tally .done) (toldAt script p)
-  done-is = ap (λ (c : Tally). c .done) (t .tally) ∙ count-done (p .tally) (toldAt script p) (omega arith)
+  done-is : x .next .tally .done ≡ doneAfter (p .tally .done) (toldAt script l p)
+  done-is = ap (λ (c : Tally). c .done) (t .tally) ∙ count-done (p .tally) (toldAt script l p) (omega arith)
 
-  others-is : x .next .tally .others ≡ othersAfter (p .tally .others) (toldAt script p)
-  others-is = ap (λ (c : Tally). c .others) (t .tally) ∙ count-others (p .tally) (toldAt script p) (omega arith)
+  others-is : x .next .tally .others ≡ othersAfter (p .tally .others) (toldAt script l p)
+  others-is = ap (λ (c : Tally). c .others) (t .tally) ∙ count-others (p .tally) (toldAt script l p) (omega arith)
 
-  turn-prints : take (x .len) after ++ toPrint script (x .next) ≡ toPrint script p
-  turn-prints = rw (stands, t .state, done-is, others-is, t .place) (sym (one-line script (view (p .state)) (p .tally .done) (p .tally .others) (p .at) h))
+  turn-prints : take (x .len) after ++ toPrint script next (x .next) ≡ toPrint script l p
+  turn-prints = rw (stands, t .state, done-is, others-is, t .place) (sym (one-line script (view l) (p .tally .done) (p .tally .others) (p .at) h))
 
   turn-counts : x .next .tally .done + x .next .tally .others ≤ x .next .at
-  turn-counts = omega (arith, done-is, others-is, counted-once (p .tally .done) (p .tally .others) (toldAt script p), t .place, past-more lineFeed script (p .at) h)
+  turn-counts = omega (arith, done-is, others-is, counted-once (p .tally .done) (p .tally .others) (toldAt script l p), t .place, past-more lineFeed script (p .at) h)
 
-joined : {script out : List ℕ} {p : Progress} → length script ≤ longestScript → p .tally .done + p .tally .others ≤ p .at → Runs script p out → out ≡ toPrint script p
-joined {script} small few (ends p h) = sym (at-end script (view (p .state)) (p .tally .done) (p .tally .others) (p .at) h)
-joined {script} small few (goes p before after x rest h room t r) =
-    ap (λ (o : List ℕ). take (x .len) after ++ o) (joined small (turn-counts script p before after x t h room small few) r) ∙ turn-prints script p before after x t h room small few
+joined : {script out l : List ℕ} {p : Progress} → length script ≤ longestScript → p .tally .done + p .tally .others ≤ p .at → Runs script l p out → out ≡ toPrint script l p
+joined {script} small few (ends l p h) = sym (at-end script (view l) (p .tally .done) (p .tally .others) (p .at) h)
+joined {script} small few (goes l p before after x next rest h room t r) =
+    ap (λ (o : List ℕ). take (x .len) after ++ o) (joined small (turn-counts script l p before after x next t h room small few) r) ∙ turn-prints script l p before after x next t h room small few
 
 -- The program's steps from the empty policy on, joined, are what the script prints.
-pub whole : (script out : List ℕ) (p : Progress) → length script ≤ 32768 → view (p .state) ≡ empty → p .at ≡ 0 → p .tally .done ≡ 0 → p .tally .others ≡ 0 → Runs script p out → out ≡ runScript script
-whole script out p h s a d o r = joined h (omega arith) r ∙ rw (s, a, d, o) (sym (from-start script h))
+pub whole : (script out l : List ℕ) (p : Progress) → length script ≤ 32768 → view l ≡ empty → p .at ≡ 0 → p .tally .done ≡ 0 → p .tally .others ≡ 0 → Runs script l p out → out ≡ runScript script
+whole script out l p h s a d o r = joined h (omega arith) r ∙ rw (s, a, d, o) (sym (from-start script h))

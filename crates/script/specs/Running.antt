@@ -12,6 +12,7 @@ use Rattle.script.specs.declared.Turned.{Turned}
 abbrev pub bufferLength : ℕ
 bufferLength = 32768
 
-pub data Runs (script : List ℕ) : Progress → List ℕ → Type 0 where
-  ends : (p : Progress) → length script ≤ p .at → Runs script p (totalText (p .tally .done) (p .tally .others))
-  goes : (p : Progress) (before after : List ℕ) (x : Turned) (rest : List ℕ) → p .at < length script → length before ≡ bufferLength → Turns script p before after x → Runs script (x .next) rest → Runs script p (take (x .len) after ++ rest)
+-- from the state l and so far on, this is printed
+pub data Runs (script : List ℕ) : List ℕ → Progress → List ℕ → Type 0 where
+  ends : (l : List ℕ) (p : Progress) → length script ≤ p .at → Runs script l p (totalText (p .tally .done) (p .tally .others))
+  goes : (l : List ℕ) (p : Progress) (before after : List ℕ) (x : Turned) (next rest : List ℕ) → p .at < length script → length before ≡ bufferLength → Turns script l p before after x next → Runs script next (x .next) rest → Runs script l p (take (x .len) after ++ rest)

@@ -2,24 +2,24 @@
 ghost use mathlib.Core.Bool.{_&&_};
 ghost use mathlib.Core.Path.{_≡_};
 ghost use Rattle.decimal.specs.Putting.{Put};
+ghost use Rattle.model.specs.Model.{Model};
 ghost use Rattle.model.specs.Questions.{ask};
 ghost use Rattle.model.specs.Sheet.{refused};
 ghost use Rattle.model.specs.Step.{step};
-ghost use Rattle.policy.specs.View.{view};
-ghost use Rattle.script.specs.Lines.{Answers, Turns};
+ghost use Rattle.state.specs.View.{view};
+ghost use Rattle.script.specs.Lines.{Puts, Answers, Turns};
 ghost use Rattle.script.specs.Opening.{opensSession};
 ghost use Rattle.script.specs.Script.{answerText, totalText, obey};
 use lines::Tally;
 use meaning::Meant;
 use model::Command;
 use model::Question;
-use policy::State;
+use state::PLACES;
 
-// The text of an answer stands at the front of the buffer and ends at `len`; whether it was 0; and the state after it.
+// The text of an answer stands at the front of the buffer and ends at `len`; whether the answer was 0.
 pub struct Answered {
     pub len: usize,
     pub ok: bool,
-    pub state: State,
 }
 
 // Puts an answer: its number, each result after one space, and LF.
@@ -76,54 +76,49 @@ fn has_result(ok: bool, c: Command) -> bool
 }
 
 // Obeys a command, and puts its answer.
-fn obey_command(s: State, c: Command, list: &[u16], buf: &mut [u8]) -> Answered
-    ensures { λ x. ⌜ Answers (step (view s) c (now (list .entry))) (now (buf .entry)) (now (buf .exit)) x ⌝ }
+fn obey_command(state: &mut [u64; PLACES], c: Command, list: &[u16], buf: &mut [u8]) -> Answered
+    ensures { λ x. ⌜ Answers (step (view (now (state .entry))) c (now (list .entry))) (now (buf .entry)) (now (buf .exit)) x (now (state .exit)) ⌝ }
 {
-    let o = engine::step(s, c, list);
+    let o = engine::step(state, c, list);
     let answer = o.answer;
     let opened = o.opened;
-    let state = o.state;
     let ok = numbers::is_done(answer);
     let number = numbers::number_of(answer);
     let result = [opened.number];
     if has_result(ok, c) {
         let len = answer_text(buf, number, &result);
-        return Answered { len, ok, state };
+        return Answered { len, ok };
     }
     let len = answer_text(buf, number, &result[..0]);
-    Answered { len, ok, state }
+    Answered { len, ok }
 }
 
 // Asks a question, and puts its answer.
-fn ask_question(s: State, q: Question, buf: &mut [u8]) -> Answered
-    ensures { λ x. ⌜ Answers (ask (view s) 4096 q) (now (buf .entry)) (now (buf .exit)) x ⌝ }
+fn ask_question(state: &[u64; PLACES], q: Question, buf: &mut [u8]) -> Answered
+    ensures { λ x. ⌜ Puts (ask (view (now (state .entry))) 4096 q) (now (buf .entry)) (now (buf .exit)) x ⌝ }
 {
     let mut results = [0u16; 4096];
-    let r = reviews::ask(s, q, &mut results);
+    let r = reviews::ask(state, q, &mut results);
     let answer = r.answer;
     let count = r.count;
     let number = numbers::number_of(answer);
     let ok = numbers::is_done(answer);
     let len = answer_text(buf, number, &results[..count as usize]);
-    Answered { len, ok, state: s }
+    Answered { len, ok }
 }
 
 // Answers a line that is of no form.
-fn answer_no_line(s: State, buf: &mut [u8]) -> Answered
-    ensures { λ x. ⌜ Answers (refused 14 (view s)) (now (buf .entry)) (now (buf .exit)) x ⌝ }
+fn answer_no_line(buf: &mut [u8]) -> Answered
+    ensures { λ x. ⌜ ((m : Model) → Puts (refused 14 m) (now (buf .entry)) (now (buf .exit)) x) ⌝ }
 {
     let none = [0u16; 1];
     let len = answer_text(buf, 14, &none[..0]);
-    Answered {
-        len,
-        ok: false,
-        state: s,
-    }
+    Answered { len, ok: false }
 }
 
 // Answers a line of a script, any bytes: its text is put into the lent buffer.
-pub fn answer_line(s: State, text: &[u8], buf: &mut [u8]) -> Answered
-    ensures { λ x. ⌜ Answers (obey (view s) (now (text .entry))) (now (buf .entry)) (now (buf .exit)) x ⌝ }
+pub fn answer_line(state: &mut [u64; PLACES], text: &[u8], buf: &mut [u8]) -> Answered
+    ensures { λ x. ⌜ Answers (obey (view (now (state .entry))) (now (text .entry))) (now (buf .entry)) (now (buf .exit)) x (now (state .exit)) ⌝ }
 {
     let l = reading::read_line(text);
     let ok = l.ok;
@@ -133,18 +128,17 @@ pub fn answer_line(s: State, text: &[u8], buf: &mut [u8]) -> Answered
     if ok {
         let from = words::before_list(word) as usize;
         match meaning::meaning(word, numbers[0], numbers[1], numbers[2]) {
-            Meant::Do(c) => obey_command(s, c, &numbers[from..count as usize], buf),
-            Meant::Ask(q) => ask_question(s, q, buf),
-            Meant::Nothing => answer_no_line(s, buf),
+            Meant::Do(c) => obey_command(state, c, &numbers[from..count as usize], buf),
+            Meant::Ask(q) => ask_question(state, q, buf),
+            Meant::Nothing => answer_no_line(buf),
         }
     } else {
-        answer_no_line(s, buf)
+        answer_no_line(buf)
     }
 }
 
-// How far a script has run: the state, the place past the lines that were answered, and their count.
+// How far a script has run: the place past the lines that were answered, and their count.
 pub struct Progress {
-    pub state: State,
     pub at: usize,
     pub tally: Tally,
 }
@@ -155,20 +149,17 @@ pub struct Turned {
 }
 
 // One line of a script: the one at the place, which at the end of the script is empty.
-pub fn turn(script: &[u8], p: Progress, buf: &mut [u8]) -> Turned
-    ensures { λ x. ⌜ Turns (now (script .entry)) p (now (buf .entry)) (now (buf .exit)) x ⌝ }
+pub fn turn(script: &[u8], state: &mut [u64; PLACES], p: Progress, buf: &mut [u8]) -> Turned
+    ensures { λ x. ⌜ Turns (now (script .entry)) (now (state .entry)) p (now (buf .entry)) (now (buf .exit)) x (now (state .exit)) ⌝ }
 {
-    let state = p.state;
     let tally = p.tally;
     let mut at = p.at;
     let text = lines::next_from(script, &mut at, 10);
     let a = answer_line(state, text, buf);
-    let after = a.state;
     let counted = lines::tallied(tally, a.ok);
     Turned {
         len: a.len,
         next: Progress {
-            state: after,
             at,
             tally: counted,
         },

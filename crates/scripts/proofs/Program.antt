@@ -50,7 +50,7 @@ story-holds = record { told = told }
 pub program : Program
 program =
     record {
-      prints = λ script out p h s r. whole script out p h (s .state) (s .at) (s .done) (s .others) r;
+      prints = λ script out l p h s r. whole script out l p h (s .state) (s .at) (s .done) (s .others) r;
       too-long = λ script h. too-long script h ∙ refusal;
       nothing = nothing;
       paper = paper;

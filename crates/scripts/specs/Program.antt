@@ -4,7 +4,7 @@ use mathlib.Core.Path.{_≡_}
 use Prim.Native.Nat.{ℕ, _≤_, _<_}
 use lib.ListN.{length}
 use Rattle.model.specs.Model.{empty}
-use Rattle.policy.specs.View.{view}
+use Rattle.state.specs.View.{view}
 use Rattle.script.specs.Script.{runScript, longestScript}
 use Rattle.script.specs.Running.{Runs}
 use Rattle.script.specs.declared.Progress.{Progress}
@@ -32,15 +32,15 @@ example =
     []
 
 -- the program has not answered a line
-pub record Starts (p : Progress) : Type 0 where
-  pub state : view (p .state) ≡ empty
+pub record Starts (l : List ℕ) (p : Progress) : Type 0 where
+  pub state : view l ≡ empty
   pub at : p .at ≡ 0
   pub done : p .tally .done ≡ 0
   pub others : p .tally .others ≡ 0
 
 pub record Program : Type 0 where
   -- The program's turns, one for each line, print together what the script prints.
-  pub prints : (script out : List ℕ) (p : Progress) → length script ≤ longestScript → Starts p → Runs script p out → out ≡ runScript script
+  pub prints : (script out l : List ℕ) (p : Progress) → length script ≤ longestScript → Starts l p → Runs script l p out → out ≡ runScript script
   -- "A script over 32,768 bytes prints `14` and `total 0 1`."
   pub too-long : (script : List ℕ) → longestScript < length script → runScript script ≡ lineOf "14" ++ lineOf "total 0 1"
   -- "An empty script prints `total 0 0` alone."

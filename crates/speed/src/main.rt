@@ -1,9 +1,11 @@
-// How fast the engine is: reads a request, builds a policy by the engine's own commands, runs one operation again and again, and writes a checksum of its answers. `speed/run` times it beside the same work in C.
+// How fast the engine is: reads a request, builds a policy by the engine's own commands, makes one or two moves again and again, and writes a checksum of their answers. `speed/run` times it beside the same work in C.
 ghost use Prim.Native.Nat.{_<_};
 use libc::STDIN_FILENO;
 use libc::STDOUT_FILENO;
-use policy::State;
+use state::PLACES;
 
+mod files;
+mod moves;
 mod rounds;
 mod school;
 
@@ -37,33 +39,30 @@ fn number_at(text: &[u8], at: usize) -> Read
     Read { value, next }
 }
 
-// The operation, so many rounds of it.
-fn run(s: State, operation: u64, depth: u16, users: u16, rounds: u64) -> u64 {
-    match operation {
-        0 => rounds::check_lent(s, rounds),
-        1 => rounds::check(s, rounds),
-        2 => rounds::assign_and_back(s, depth, users, rounds),
-        3 => rounds::assign_again(s, depth, users, rounds),
-        4 => rounds::assign_against(s, users, rounds),
-        5 => rounds::inherit_and_back(s, depth, rounds),
-        6 => rounds::session_and_end(s, depth, users, rounds),
-        7 => rounds::load_own(s, rounds),
-        8 => rounds::save(s, rounds),
-        _ => 0,
+// So many rounds of the moves. Three have rounds of their own: `check`, a load and a save.
+fn run(state: &mut [u64; PLACES], first: u64, second: u64, depth: u16, rounds: u64) -> u64 {
+    match first {
+        90 => rounds::check(state, rounds),
+        91 => files::load_own(state, rounds),
+        92 => files::save(state, rounds),
+        _ => rounds::moves(state, first, second, depth, rounds),
     }
 }
 
+// The request: FIRST SECOND DEPTH USERS ROUNDS.
 fn main() {
     let mut text = [0u8; 64];
     let n = io::read_full(STDIN_FILENO, &mut text);
-    let operation = number_at(&text[..n], 0);
-    let depth = number_at(&text[..n], operation.next);
+    let first = number_at(&text[..n], 0);
+    let second = number_at(&text[..n], first.next);
+    let depth = number_at(&text[..n], second.next);
     let users = number_at(&text[..n], depth.next);
     let rounds = number_at(&text[..n], users.next);
     let d = (depth.value % 64) as u16;
     let u = (users.value % 257) as u16;
-    let s = school::build(d, u);
-    let sum = run(s, operation.value, d, u, rounds.value);
+    let mut state = [0u64; PLACES];
+    school::build(&mut state, d, u);
+    let sum = run(&mut state, first.value, second.value, d, rounds.value);
     io::print_decimal(STDOUT_FILENO, sum);
     io::write_all(STDOUT_FILENO, b"\n");
 }

@@ -1,9 +1,9 @@
-// The policies that are measured. At depth 2 the school's course: sixteen benches, each with the roles capture, review, release and lead, the lead above capture and review, and capture and release held apart. At depth 4, 8, 16, 32 or 63 the same 64 roles stand in chains of that many, and the static sets hold role 63 apart from the lowest sixteen. A number 64 in place of a role means none: the engine refuses it, and nothing changes.
+// The policies that are measured. At depth 2 the school's course: sixteen benches, each with the roles capture, review, release and lead, the lead above capture and review; static sets hold capture and release of a bench apart, dynamic sets the review of a bench and the release of the next. At depth 4, 8, 16, 32 or 63 the same 64 roles stand in chains of that many, and the static sets hold role 63 apart from the lowest sixteen. A number 64 in place of a role means none: the engine refuses it, and nothing changes.
 use model::Kind;
 use numbers::Role;
 use numbers::SetName;
 use numbers::User;
-use policy::State;
+use state::PLACES;
 
 // The first or second role below role r, or 64.
 fn below(depth: u16, r: u16, second: bool) -> u16 {
@@ -41,134 +41,100 @@ fn other(depth: u16, u: u16) -> u16 {
     }
 }
 
-// The two roles that static set n holds apart.
-fn low(depth: u16, n: u16) -> u16 {
-    if depth < 3 { n % 16 * 4 } else { n }
-}
-
-fn high(depth: u16, n: u16) -> u16 {
-    if depth < 3 { n % 16 * 4 + 2 } else { 63 }
-}
-
-fn add_users(s: State, n: u16) -> State {
-    let mut after = s;
-    let mut u: u16 = 0;
-    while u < n {
-        let o = users::user(after, User { number: u });
-        let next = o.state;
-        after = next;
-        u += 1;
+// The two roles that a set of the school holds apart: of a static set capture and release of bench n, of a dynamic set its review and the next one's release.
+pub(crate) fn pair_of(kind: Kind, n: u16) -> [u16; 2] {
+    let b = n % 16;
+    match kind {
+        Kind::Static => [b * 4, b * 4 + 2],
+        Kind::Dynamic => {
+            if b == 15 {
+                [2, 61]
+            } else {
+                [b * 4 + 1, b * 4 + 6]
+            }
+        }
     }
-    after
 }
 
-fn add_roles(s: State) -> State {
-    let mut after = s;
-    let mut r: u16 = 0;
-    while r < 64 {
-        let o = users::role(after, Role { number: r });
-        let next = o.state;
-        after = next;
-        r += 1;
+fn add_lines(state: &mut [u64; PLACES], depth: u16, r: u16) {
+    let first = below(depth, r, false);
+    let second = below(depth, r, true);
+    inheriting::inherit(state, Role { number: r }, Role { number: first });
+    inheriting::inherit(state, Role { number: r }, Role { number: second });
+}
+
+fn add_grant(state: &mut [u64; PLACES], n: u16) {
+    let b = n / 48 % 16;
+    let kind = n / 16 % 3;
+    let obj = b * 16 + n % 16;
+    assigning::grant(
+        state,
+        kind,
+        obj,
+        Role {
+            number: b * 4 + kind,
+        },
+    );
+}
+
+fn add_sets(state: &mut [u64; PLACES], depth: u16, n: u16) {
+    let name = SetName { number: n };
+    if depth < 3 {
+        let apart = pair_of(Kind::Static, n);
+        sets::make_set(state, Kind::Static, name, 2, &apart);
+        let active = pair_of(Kind::Dynamic, n);
+        sets::make_set(state, Kind::Dynamic, name, 2, &active);
+    } else {
+        let apart = [n, 63];
+        sets::make_set(state, Kind::Static, name, 2, &apart);
     }
-    after
 }
 
-fn add_lines(s: State, depth: u16) -> State {
-    let mut after = s;
+fn add_assignments(state: &mut [u64; PLACES], depth: u16, u: u16) {
+    let first = top(depth, u);
+    let second = other(depth, u);
+    assigning::assign(state, User { number: u }, Role { number: first });
+    assigning::assign(state, User { number: u }, Role { number: second });
+}
+
+fn add_session(state: &mut [u64; PLACES], depth: u16, u: u16) {
+    let list = [top(depth, u)];
+    sessions::session(state, User { number: u }, &list);
+}
+
+// Step n of the building: a user, a role, the lines below a role, a grant, the sets of a name, the assignments of a user, a session.
+fn add(state: &mut [u64; PLACES], depth: u16, users: u16, step: u16, n: u16) {
+    match step {
+        0 => {
+            if n < users {
+                users::user(state, User { number: n });
+            }
+        }
+        1 => {
+            users::role(state, Role { number: n });
+        }
+        2 => add_lines(state, depth, n),
+        3 => add_grant(state, n),
+        4 => add_sets(state, depth, n),
+        5 => {
+            if n < users {
+                add_assignments(state, depth, n);
+            }
+        }
+        _ => {
+            if n < 16 {
+                add_session(state, depth, n);
+            }
+        }
+    }
+}
+
+// Every step for every number, in this order; what is beyond its range is refused and changes nothing.
+pub(crate) fn build(state: &mut [u64; PLACES], depth: u16, users: u16) {
+    state::stores::start(state);
     let mut n: u16 = 0;
-    while n < 128 {
-        let senior = n / 2;
-        let junior = below(depth, senior, n % 2 == 1);
-        let o = inheriting::inherit(after, Role { number: senior }, Role { number: junior });
-        let next = o.state;
-        after = next;
+    while n < 5376 {
+        add(state, depth, users, n / 768, n % 768);
         n += 1;
     }
-    after
-}
-
-fn add_grants(s: State) -> State {
-    let mut after = s;
-    let mut n: u16 = 0;
-    while n < 768 {
-        let bench = n / 48;
-        let kind = n / 16 % 3;
-        let obj = bench * 16 + n % 16;
-        let o = assigning::grant(
-            after,
-            kind,
-            obj,
-            Role {
-                number: bench * 4 + kind,
-            },
-        );
-        let next = o.state;
-        after = next;
-        n += 1;
-    }
-    after
-}
-
-fn add_sets(s: State, depth: u16) -> State {
-    let mut after = s;
-    let mut n: u16 = 0;
-    while n < 16 {
-        let pair = [low(depth, n), high(depth, n)];
-        let o = sets::make_set(after, Kind::Static, SetName { number: n }, 2, &pair);
-        let next = o.state;
-        after = next;
-        n += 1;
-    }
-    after
-}
-
-fn add_assignments(s: State, depth: u16, users: u16) -> State {
-    let mut after = s;
-    let mut u: u16 = 0;
-    while u < users {
-        let first = assigning::assign(
-            after,
-            User { number: u },
-            Role {
-                number: top(depth, u),
-            },
-        );
-        let between = first.state;
-        let second = assigning::assign(
-            between,
-            User { number: u },
-            Role {
-                number: other(depth, u),
-            },
-        );
-        let next = second.state;
-        after = next;
-        u += 1;
-    }
-    after
-}
-
-fn add_sessions(s: State, depth: u16) -> State {
-    let mut after = s;
-    let mut u: u16 = 0;
-    while u < 16 {
-        let list = [top(depth, u)];
-        let o = sessions::session(after, User { number: u }, &list);
-        let next = o.state;
-        after = next;
-        u += 1;
-    }
-    after
-}
-
-pub(crate) fn build(depth: u16, users: u16) -> State {
-    let empty = policy::empty();
-    let a = add_users(empty, users);
-    let b = add_roles(a);
-    let c = add_lines(b, depth);
-    let d = add_grants(c);
-    let e = add_sets(d, depth);
-    let f = add_assignments(e, depth, users);
-    add_sessions(f, depth)
 }

@@ -4,7 +4,7 @@ use mathlib.Core.Path.{_≡_}
 use Prim.Native.Nat.{_≤_, _-_}
 use native.Mathlib.Omega.{arith}
 use lib.ListN.{take, drop}
-use Rattle.policy.specs.View.{view}
+use Rattle.state.specs.View.{view}
 use Rattle.script.specs.Script.{obey, doing}
 use Rattle.script.proofs.Reading.{Reads, read-right, read-wrong, enough, room, obeys}
 use Rattle.script.proofs.answer_line.Statement.{statement}
@@ -14,7 +14,7 @@ reads : (c : tie.Then1) → Reads (c .before .before .before .before .before .ar
 reads c = read-right _ _ (c .before .before .read-line .ensures) (c .if1 .taken)
 
 -- what the line tells is what its command or question tells
-tells : (c : tie.After-meaning) → let a = c .before .before .before .before .before .before .before .args in let l = c .before .before .before .before .read-line .result in obey (view (a .s)) (a .text .now) ≡ doing (view (a .s)) (c .meaning .result) (take (l .count - c .before .before-list .result) (drop (c .before .before-list .result) (l .numbers)))
+tells : (c : tie.After-meaning) → let a = c .before .before .before .before .before .before .before .args in let l = c .before .before .before .before .read-line .result in obey (view (a .state .now)) (a .text .now) ≡ doing (view (a .state .now)) (c .meaning .result) (take (l .count - c .before .before-list .result) (drop (c .before .before-list .result) (l .numbers)))
 tells c = obeys _ _ (reads (c .before .before)) _ _ _ (c .meaning .ensures) (c .before .before-list .ensures)
 
 start : (c : tie.After-before-list) → c .before-list .result ≤ c .before .before .before .read-line .result .count

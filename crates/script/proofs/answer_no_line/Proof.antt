@@ -1,11 +1,11 @@
--- `14` with no result, and the state as it was. Assumes nothing.
+-- `14` with no result. Assumes nothing.
 use borrow.Author.Needs.{needs}
 use mathlib.Core.Path.{refl}
 use Rattle.script.proofs.answer_no_line.Statement.{statement}
 use Rattle.script.proofs.answer_no_line.Tie as tie
 
 returns : tie.Need-returns
-returns c = record { text = c .before .before .answer-text .ensures; ok = refl; state = refl }
+returns c = λ m. record { text = c .before .before .answer-text .ensures; ok = refl }
 
 pub answer-no-line-spec : {M : Type 1} → statement M
 answer-no-line-spec =

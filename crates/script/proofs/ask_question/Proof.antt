@@ -1,4 +1,4 @@
--- The review's results are those of the question asked with room for all, and the state is as it was. Assumes nothing.
+-- The review's results are those of the question asked with room for all. Assumes nothing.
 use borrow.Author.Needs.{needs}
 use mathlib.Core.List.{List}
 use mathlib.Core.Path.{_≡_, sym, ap, ap₂, _∙_}
@@ -9,25 +9,25 @@ use lib.ListN.{length, take, drop, replicate, length-replicate, length-append}
 use lib.Seq.{length-take-le, take-append-seam}
 use Rattle.model.specs.Questions.{ask}
 use Rattle.model.proofs.Asking.{asked-same}
-use Rattle.policy.specs.View.{view}
+use Rattle.state.specs.View.{view}
 use Rattle.reviews.specs.Reviewing.{Reviewed}
 use Rattle.reviews.proofs.Promised.{asked-with-room, results-fit}
 use Rattle.script.proofs.ask_question.Statement.{statement}
 use Rattle.script.proofs.ask_question.Tie as tie
 
 -- the question is asked with room for every result
-reviewed : (c : tie.After-ask) → Reviewed (ask (view (c .before .before .before .args .s)) 4096 (c .before .before .before .args .q)) (replicate 4096 0) (c .ask .last .1 .1 .0) (c .ask .result)
-reviewed c = rw (asked-with-room (view (c .before .before .before .args .s)) 4096 (c .before .before .before .args .q) (omega arith)) at (rw (length-replicate {A = ℕ} 4096 0) at (c .ask .ensures))
+reviewed : (c : tie.After-ask) → Reviewed (ask (view (c .before .before .before .args .state .now)) 4096 (c .before .before .before .args .q)) (replicate 4096 0) (c .ask .last .1 .1 .0) (c .ask .result)
+reviewed c = rw (asked-with-room (view (c .before .before .before .args .state .now)) 4096 (c .before .before .before .args .q) (omega arith)) at (rw (length-replicate {A = ℕ} 4096 0) at (c .ask .ensures))
 
-few : (c : tie.After-ask) → length (ask (view (c .before .before .before .args .s)) 4096 (c .before .before .before .args .q) .results) ≤ 4096
-few c = results-fit (view (c .before .before .before .args .s)) 4096 (c .before .before .before .args .q) (omega arith)
+few : (c : tie.After-ask) → length (ask (view (c .before .before .before .args .state .now)) 4096 (c .before .before .before .args .q) .results) ≤ 4096
+few c = results-fit (view (c .before .before .before .args .state .now)) 4096 (c .before .before .before .args .q) (omega arith)
 
-front : (c : tie.After-ask) → take (c .ask .result .count) (c .ask .last .1 .1 .0) ≡ ask (view (c .before .before .before .args .s)) 4096 (c .before .before .before .args .q) .results
+front : (c : tie.After-ask) → take (c .ask .result .count) (c .ask .last .1 .1 .0) ≡ ask (view (c .before .before .before .args .state .now)) 4096 (c .before .before .before .args .q) .results
 front c = ap₂ (λ (n : ℕ) (l : List ℕ). take n l) (reviewed c .count) (reviewed c .buffer) ∙ take-append-seam _ _
 
 within : (c : tie.After-ask) → c .ask .result .count ≤ length (c .ask .last .1 .1 .0)
 within c =
-    let results = ask (view (c .before .before .before .args .s)) 4096 (c .before .before .before .args .q) .results in
+    let results = ask (view (c .before .before .before .args .state .now)) 4096 (c .before .before .before .args .q) .results in
     omega (arith, few c, reviewed c .count, ap length (reviewed c .buffer), length-append results (drop (length results) (replicate 4096 0)))
 
 array-share-prefix-results : tie.Need-array-share-prefix-results
@@ -41,7 +41,7 @@ returns c =
     record {
       text = rw (← (c .before .before .before .before .before .before .number-of .ensures ∙ reviewed (c .before .before .before .before .before .before .before .before) .answer), ← front (c .before .before .before .before .before .before .before .before)) (c .before .before .answer-text .ensures);
       ok = c .before .before .before .before .before .is-done .ensures ∙ ap (λ (n : ℕ). eqb n 0) (reviewed (c .before .before .before .before .before .before .before .before) .answer);
-      state = sym (asked-same (view (c .before .before .before .before .before .before .before .before .before .before .before .args .s)) 4096 (c .before .before .before .before .before .before .before .before .before .before .before .args .q));
+      state = sym (asked-same (view (c .before .before .before .before .before .before .before .before .before .before .before .args .state .now)) 4096 (c .before .before .before .before .before .before .before .before .before .before .before .args .q));
     }
 
 pub ask-question-spec : {M : Type 1} → statement M

@@ -5,7 +5,7 @@ use mathlib.Core.Path.{_≡_, sym, ap, ap₂, _∙_}
 use Prim.Native.Nat.{ℕ}
 use lib.Dec.{eqb}
 use Rattle.model.specs.Step.{step}
-use Rattle.policy.specs.View.{view}
+use Rattle.state.specs.View.{view}
 use Rattle.sessions.specs.Answering.{given}
 use Rattle.script.specs.Opening.{opensSession}
 use Rattle.script.proofs.Results.{command-results}
@@ -13,16 +13,16 @@ use Rattle.script.proofs.obey_command.Statement.{statement}
 use Rattle.script.proofs.obey_command.Tie as tie
 
 -- the answer's number, whether it is 0, and whether there is a result
-number-is : (c : tie.After-number-of) → c .number-of .result ≡ step (view (c .before .before .before .before .before .before .before .args .s)) (c .before .before .before .before .before .before .before .args .c) (c .before .before .before .before .before .before .before .args .list .now) .answer
+number-is : (c : tie.After-number-of) → c .number-of .result ≡ step (view (c .before .before .before .before .before .before .before .args .state .now)) (c .before .before .before .before .before .before .before .args .c) (c .before .before .before .before .before .before .before .args .list .now) .answer
 number-is c = c .number-of .ensures ∙ c .before .before .before .before .step .ensures .answer
 
-ok-is : (c : tie.After-is-done) → c .is-done .result ≡ eqb (step (view (c .before .before .before .before .before .before .args .s)) (c .before .before .before .before .before .before .args .c) (c .before .before .before .before .before .before .args .list .now) .answer) 0
+ok-is : (c : tie.After-is-done) → c .is-done .result ≡ eqb (step (view (c .before .before .before .before .before .before .args .state .now)) (c .before .before .before .before .before .before .args .c) (c .before .before .before .before .before .before .args .list .now) .answer) 0
 ok-is c = c .is-done .ensures ∙ ap (λ (n : ℕ). eqb n 0) (c .before .before .before .step .ensures .answer)
 
-results-are : (c : tie.After-has-result) → given (c .has-result .result) (c .before .before .before .before .before .step .result .opened .number) ≡ step (view (c .before .before .before .before .before .before .before .before .args .s)) (c .before .before .before .before .before .before .before .before .args .c) (c .before .before .before .before .before .before .before .before .args .list .now) .results
+results-are : (c : tie.After-has-result) → given (c .has-result .result) (c .before .before .before .before .before .step .result .opened .number) ≡ step (view (c .before .before .before .before .before .before .before .before .args .state .now)) (c .before .before .before .before .before .before .before .before .args .c) (c .before .before .before .before .before .before .before .before .args .list .now) .results
 results-are c =
     ap₂ (λ (b : Bool) (n : ℕ). given b n) (c .has-result .ensures ∙ ap (λ (b : Bool). opensSession (c .before .before .before .before .before .before .before .before .args .c) && b) (ok-is (c .before .before))) (c .before .before .before .before .before .step .ensures .opened)
-    ∙ sym (command-results (view (c .before .before .before .before .before .before .before .before .args .s)) (c .before .before .before .before .before .before .before .before .args .c) (c .before .before .before .before .before .before .before .before .args .list .now))
+    ∙ sym (command-results (view (c .before .before .before .before .before .before .before .before .args .state .now)) (c .before .before .before .before .before .before .before .before .args .c) (c .before .before .before .before .before .before .before .before .args .list .now))
 
 returns : tie.Need-returns
 returns c =
