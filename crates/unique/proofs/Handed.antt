@@ -2,14 +2,13 @@
 use mathlib.Core.List.{List, []}
 use mathlib.Core.Path.{_≡_, sym, ap, subst}
 use Prim.Native.Nat.{ℕ}
+use Rattle.numbers.specs.declared.Answer.{Answer}
 use Rattle.model.specs.Model.{Model}
 use Rattle.model.specs.Sheet.{Told}
 use Rattle.model.specs.Step as steps
 use Rattle.model.specs.declared.Command.{Command}
 use Rattle.model.specs.declared.Command.the-variants.{AddUser, AddRole, NoUser, NoRole, Assign, Deassign, Grant, Revoke, Inherit, Disinherit, MakeSet, DropSet, AddMember, DropMember, SetCardinality, OpenSession, Activate, DropActive, EndSession}
-use Rattle.policy.specs.View.{view, seen}
-use Rattle.policy.specs.declared.Outcome.{Outcome}
-use Rattle.policy.specs.declared.State.{State}
+use Rattle.state.specs.View.{view, told}
 use Rattle.sessions.specs.Answering.{toldOpened}
 use Rattle.lines.specs.Parts.{partAt}
 use Rattle.script.specs.Script.{lineFeed}
@@ -18,38 +17,38 @@ use Rattle.demands.specs.Reachable.{Reachable, start, after, loaded}
 use Rattle.demands.proofs.Demand3.{demand3}
 use Rattle.unique.specs.Handed.{Handed, Owned, empty, user, role, nouser, norole, assign, deassign, grant, revoke, inherit, disinherit, make-set, drop-set, add-member, drop-member, set-cardinality, session, activate, drop, end, step, answer-line, turn, load}
 
--- an outcome that tells what the command tells holds a reachable policy
-told : (m : Model) → Reachable m → (c : Command) (list : List ℕ) (o : Outcome) → seen o ≡ steps.step m c list → Reachable (view (o .state))
-unfolding seen
-told m p c list o e = subst Reachable (sym (ap (λ (t : Told). t .after) e)) (after p c list)
+-- numbers that tell what the command tells hold a reachable policy
+stepped : (m : Model) → Reachable m → (c : Command) (list : List ℕ) (a : Answer) (l : List ℕ) → told a l ≡ steps.step m c list → Reachable (view l)
+unfolding told
+stepped m r c list a l e = subst Reachable (sym (ap (λ (t : Told). t .after) e)) (after r c list)
 
-reachable : {s : State} → Handed s → Reachable (view s)
-unfolding steps.step seen toldOpened
+reachable : {l : List ℕ} → Handed l → Reachable (view l)
+unfolding steps.step told toldOpened
 reachable (empty c) = subst Reachable (sym (c .met)) start
-reachable (user c h) = told _ (reachable h) (AddUser (c .given .1 .0)) [] (c .result) (c .met)
-reachable (role c h) = told _ (reachable h) (AddRole (c .given .1 .0)) [] (c .result) (c .met)
-reachable (nouser c h) = told _ (reachable h) (NoUser (c .given .1 .0)) [] (c .result) (c .met)
-reachable (norole c h) = told _ (reachable h) (NoRole (c .given .1 .0)) [] (c .result) (c .met)
-reachable (assign c h) = told _ (reachable h) (Assign (c .given .1 .0) (c .given .1 .1 .0)) [] (c .result) (c .met)
-reachable (deassign c h) = told _ (reachable h) (Deassign (c .given .1 .0) (c .given .1 .1 .0)) [] (c .result) (c .met)
-reachable (grant c h) = told _ (reachable h) (Grant (c .given .1 .0) (c .given .1 .1 .0) (c .given .1 .1 .1 .0)) [] (c .result) (c .met)
-reachable (revoke c h) = told _ (reachable h) (Revoke (c .given .1 .0) (c .given .1 .1 .0) (c .given .1 .1 .1 .0)) [] (c .result) (c .met)
-reachable (inherit c h) = told _ (reachable h) (Inherit (c .given .1 .0) (c .given .1 .1 .0)) [] (c .result) (c .met)
-reachable (disinherit c h) = told _ (reachable h) (Disinherit (c .given .1 .0) (c .given .1 .1 .0)) [] (c .result) (c .met)
-reachable (make-set c h) = told _ (reachable h) (MakeSet (c .given .1 .0) (c .given .1 .1 .0) (c .given .1 .1 .1 .0)) (c .given .1 .1 .1 .1 .0 .now) (c .result) (c .met)
-reachable (drop-set c h) = told _ (reachable h) (DropSet (c .given .1 .0) (c .given .1 .1 .0)) [] (c .result) (c .met)
-reachable (add-member c h) = told _ (reachable h) (AddMember (c .given .1 .0) (c .given .1 .1 .0) (c .given .1 .1 .1 .0)) [] (c .result) (c .met)
-reachable (drop-member c h) = told _ (reachable h) (DropMember (c .given .1 .0) (c .given .1 .1 .0) (c .given .1 .1 .1 .0)) [] (c .result) (c .met)
-reachable (set-cardinality c h) = told _ (reachable h) (SetCardinality (c .given .1 .0) (c .given .1 .1 .0) (c .given .1 .1 .1 .0)) [] (c .result) (c .met)
+reachable (user c h) = stepped _ (reachable h) (AddUser (c .given .1 .0)) [] (c .result) _ (c .met)
+reachable (role c h) = stepped _ (reachable h) (AddRole (c .given .1 .0)) [] (c .result) _ (c .met)
+reachable (nouser c h) = stepped _ (reachable h) (NoUser (c .given .1 .0)) [] (c .result) _ (c .met)
+reachable (norole c h) = stepped _ (reachable h) (NoRole (c .given .1 .0)) [] (c .result) _ (c .met)
+reachable (assign c h) = stepped _ (reachable h) (Assign (c .given .1 .0) (c .given .1 .1 .0)) [] (c .result) _ (c .met)
+reachable (deassign c h) = stepped _ (reachable h) (Deassign (c .given .1 .0) (c .given .1 .1 .0)) [] (c .result) _ (c .met)
+reachable (grant c h) = stepped _ (reachable h) (Grant (c .given .1 .0) (c .given .1 .1 .0) (c .given .1 .1 .1 .0)) [] (c .result) _ (c .met)
+reachable (revoke c h) = stepped _ (reachable h) (Revoke (c .given .1 .0) (c .given .1 .1 .0) (c .given .1 .1 .1 .0)) [] (c .result) _ (c .met)
+reachable (inherit c h) = stepped _ (reachable h) (Inherit (c .given .1 .0) (c .given .1 .1 .0)) [] (c .result) _ (c .met)
+reachable (disinherit c h) = stepped _ (reachable h) (Disinherit (c .given .1 .0) (c .given .1 .1 .0)) [] (c .result) _ (c .met)
+reachable (make-set c h) = stepped _ (reachable h) (MakeSet (c .given .1 .0) (c .given .1 .1 .0) (c .given .1 .1 .1 .0)) (c .given .1 .1 .1 .1 .0 .now) (c .result) _ (c .met)
+reachable (drop-set c h) = stepped _ (reachable h) (DropSet (c .given .1 .0) (c .given .1 .1 .0)) [] (c .result) _ (c .met)
+reachable (add-member c h) = stepped _ (reachable h) (AddMember (c .given .1 .0) (c .given .1 .1 .0) (c .given .1 .1 .1 .0)) [] (c .result) _ (c .met)
+reachable (drop-member c h) = stepped _ (reachable h) (DropMember (c .given .1 .0) (c .given .1 .1 .0) (c .given .1 .1 .1 .0)) [] (c .result) _ (c .met)
+reachable (set-cardinality c h) = stepped _ (reachable h) (SetCardinality (c .given .1 .0) (c .given .1 .1 .0) (c .given .1 .1 .1 .0)) [] (c .result) _ (c .met)
 reachable (session c h) = subst Reachable (sym (ap (λ (t : Told). t .after) (c .met .tells))) (after (reachable h) (OpenSession (c .given .1 .0)) (c .given .1 .1 .0 .now))
-reachable (activate c h) = told _ (reachable h) (Activate (c .given .1 .0) (c .given .1 .1 .0) (c .given .1 .1 .1 .0)) [] (c .result) (c .met)
-reachable (drop c h) = told _ (reachable h) (DropActive (c .given .1 .0) (c .given .1 .1 .0) (c .given .1 .1 .1 .0)) [] (c .result) (c .met)
-reachable (end c h) = told _ (reachable h) (EndSession (c .given .1 .0) (c .given .1 .1 .0)) [] (c .result) (c .met)
+reachable (activate c h) = stepped _ (reachable h) (Activate (c .given .1 .0) (c .given .1 .1 .0) (c .given .1 .1 .1 .0)) [] (c .result) _ (c .met)
+reachable (drop c h) = stepped _ (reachable h) (DropActive (c .given .1 .0) (c .given .1 .1 .0) (c .given .1 .1 .1 .0)) [] (c .result) _ (c .met)
+reachable (end c h) = stepped _ (reachable h) (EndSession (c .given .1 .0) (c .given .1 .1 .0)) [] (c .result) _ (c .met)
 reachable (step c h) = subst Reachable (sym (c .met .after)) (after (reachable h) (c .given .1 .0) (c .given .1 .1 .0 .now))
 reachable (answer-line c h) = subst Reachable (sym (c .met .state)) (lines .reachable _ (c .given .1 .0 .now) (reachable h))
-reachable (turn c h) = subst Reachable (sym (c .met .state)) (lines .reachable _ (partAt lineFeed (c .given .0 .now) (c .given .1 .0 .at)) (reachable h))
-reachable (load c h) = loaded (reachable h) (c .given .1 .0 .now) (seen (c .result)) (c .met)
+reachable (turn c h) = subst Reachable (sym (c .met .state)) (lines .reachable _ (partAt lineFeed (c .given .0 .now) (c .given .1 .1 .0 .at)) (reachable h))
+reachable (load c h) = loaded (reachable h) (c .given .1 .0 .now) _ (c .met)
 
 -- the code's own states keep demand 3
 pub owned : Owned
-owned = record { reachable = reachable; rules = λ {s} h. demand3 (view s) (reachable h) }
+owned = record { reachable = reachable; rules = λ {l} h. demand3 (view l) (reachable h) }

@@ -2,12 +2,16 @@
 use mathlib.Core.Bool.{Bool, true, false, _&&_}
 use mathlib.Core.List.{List, [], _∷_}
 use mathlib.Core.Path.{_≡_, refl, sym, ap, _∙_}
-use Prim.Native.Nat.{ℕ, _≤_, _<_}
+use Prim.Native.Nat.{ℕ, zero, suc, _≤_, _<_, _^_}
 use native.Mathlib.Omega.{arith}
 use native.Mathlib.Decide.{decLt}
 use lib.ListN.{length, length-map, getD}
 use lib.Seq.{ext-getD}
-use denote.Struct.Declared.{row}
+use mir.Val.{Val}
+use mir.Syntax.{w64}
+use denote.Array.{each}
+use denote.Plain.{UInt}
+use denote.Shadow.{shadow}
 use Rattle.roleset.specs.Bounded.{bit}
 use Rattle.roleset.specs.Roles.{has, isEmpty}
 use Rattle.roleset.specs.Promises.{Lowest}
@@ -15,19 +19,19 @@ use Rattle.roleset.proofs.BoundedLaws.{clash, agree}
 use Rattle.numbers.specs.Answers.{numberOf}
 use Rattle.numbers.specs.declared.Answer.{Answer}
 use Rattle.numbers.proofs.Answers.{number-one-to-one}
-use Rattle.model.specs.Model.{Model, noSession}
+use Rattle.model.specs.Model.{Model, Session}
 use Rattle.model.specs.Sheet.{Told}
-use Rattle.policy.specs.Sized.{Sized}
-use Rattle.policy.specs.View.{seen}
-use Rattle.policy.specs.declared.Outcome.{Outcome}
-use Rattle.policy.proofs.Outcome as OutcomeType
-use Rattle.policy.proofs.Tables.{table-one}
-use Rattle.policy.proofs.Values.{sized, one-outcome, view-one-to-one}
-use Rattle.sessions.specs.Answering.{Opens, Checks, ChecksLent, Owns, isDone, given, toldOpened, toldChecked, toldOwned}
+use Rattle.state.specs.Stores.{Table}
+use Rattle.state.specs.View.{Numbers, view, told}
+use Rattle.state.proofs.OneToOne.{view-one-to-one}
+use Rattle.state.proofs.Tables.{table-one}
+use Rattle.sweeps.specs.Sweeps.{Asks, ShedsAll}
+use Rattle.sweeps.specs.declared.Asked.{Asked}
+use Rattle.sweeps.specs.declared.Kept.{Kept}
+use Rattle.sessions.specs.Answering.{Opens, Checks, Owns, isDone, given, toldOpened, toldChecked, toldOwned}
 use Rattle.sessions.specs.declared.Opened.{Opened}
 use Rattle.sessions.specs.declared.Checked.{Checked}
 use Rattle.sessions.specs.declared.Owned.{Owned}
-use Rattle.sessions.proofs.Opened as OpenedType
 use Rattle.engine.specs.Stepping.{Steps}
 use Rattle.engine.specs.declared.Stepped.{Stepped}
 use Rattle.reviews.specs.Reviewing.{Reviewed}
@@ -36,19 +40,31 @@ use Rattle.policyform.specs.Promises.{Saves}
 use Rattle.policyfile.specs.declared.Saved.{Saved}
 use Rattle.policyfile.proofs.Laws.{saves-one, loads-one}
 use Rattle.unique.specs.Promises as promises
-use Rattle.unique.specs.Unique.{Value}
+use Rattle.unique.specs.Unique.{State}
 
--- ---- what the type of a result says of it
+-- ---- what the type says of a state: its length, and that each number is below 2 ^ 64
 
-outcome-sized : (o : Outcome) → Value (row OutcomeType.the-type) o → Sized (o .state)
-outcome-sized o v = sized (o .state) _ (v .1 .1 .1 .1 .0)
+each-small : (l : List ℕ) (us : List Val) → shadow (each ℕ (UInt w64 .own) l us) → (k : ℕ) → getD l k 0 < 2 ^ 64
+each-small [] us h k = omega arith
+each-small (x ∷ l) [] h k = absurd h
+each-small (x ∷ l) (u ∷ us) h zero = h .0 .1
+each-small (x ∷ l) (u ∷ us) h (suc k) = each-small l us (h .1) k
 
-opened-sized : (o : Opened) → Value (row OpenedType.the-type) o → Sized (o .state)
-opened-sized o v = sized (o .state) _ (v .1 .1 .1 .1 .1 .0)
+pub numbers-of : (l : List ℕ) → State l → Numbers l
+numbers-of l v = record { long = v .1 .1 .0 .1; small = each-small l (v .1 .0) (v .1 .1 .1) }
 
--- two outcomes that tell the same are one: the general law, for every command
-outcomes : (told : Told) (x y : Outcome) → Value (row OutcomeType.the-type) x → Value (row OutcomeType.the-type) y → seen x ≡ told → seen y ≡ told → x ≡ y
-outcomes told x y vx vy = one-outcome told x y (outcome-sized x vx) (outcome-sized y vy)
+-- two states that mean the same are one
+pub states : (m : Model) (l r : List ℕ) → State l → State r → view l ≡ m → view r ≡ m → l ≡ r
+states m l r sl sr p q = view-one-to-one l r (numbers-of l sl) (numbers-of r sr) (p ∙ sym q)
+
+-- two outcomes of a command that tell the same are one
+outcomes : (t : Told) (x y : Answer) (l r : List ℕ) → State l → State r → told x l ≡ t → told y r ≡ t → (x ≡ y) × (l ≡ r)
+unfolding told
+outcomes t x y l r sl sr p q = (number-one-to-one x y (ap (λ (t : Told). t .answer) (p ∙ sym q)), states (t .after) l r sl sr (ap (λ (t : Told). t .after) p) (ap (λ (t : Told). t .after) q))
+
+-- two tables of so many numbers are one
+tables : (n : ℕ) (t : ℕ → ℕ) (x y : List ℕ) → Table n t x → Table n t y → x ≡ y
+tables n t x y p q = table-one x y 0 (p .long ∙ sym (q .long)) (p .each ∙ sym (q .each))
 
 -- two arrays with the same places are one
 arrays : (n : ℕ) (x y : List ℕ) (f : ℕ → ℕ) → length x ≡ n → length y ≡ n → ((k : ℕ) → k < n → getD x k 0 ≡ f k) → ((k : ℕ) → k < n → getD y k 0 ≡ f k) → x ≡ y
@@ -109,40 +125,72 @@ hierarchy =
     }
 
 pub separation : promises.Separation
-separation =
-    record {
-      breaks = λ κs a x y e f vx vy p q. p ∙ sym q;
-      breaks-some = λ κs a x y e f vx vy p q. p ∙ sym q;
-      some-breaks = λ κs a x y e f vx vy p q. p ∙ sym q;
-      some-breaks-some = λ κs a x y e f vx vy p q. p ∙ sym q;
-    }
+separation = record { breaks = λ κs a x y e f vx vy p q. p ∙ sym q; breaks-some = λ κs a x y e f vx vy p q. p ∙ sym q }
+
+pub walking : promises.Walking
+walking = record { reach = λ κs a x y e f vx vy p q. p ∙ sym q }
 
 -- ---- the state, lists and sweeps
 
-pub policy : promises.Policy
-policy =
+pub state : promises.State
+state =
     record {
-      empty-state = λ κs a x y e f vx vy p q. view-one-to-one x y (sized x _ (vx .1)) (sized y _ (vy .1)) (p ∙ sym q);
-      full = λ κs a x y e f vx vy p q. p ∙ sym q;
-      refused = λ κs a x y e f vx vy p q. p ∙ sym q;
       has-user = λ κs a x y e f vx vy p q. p ∙ sym q;
+      roles = λ κs a x y e f vx vy p q. p ∙ sym q;
+      has-role = λ κs a x y e f vx vy p q. p ∙ sym q;
+      directly-below = λ κs a x y e f vx vy p q. p ∙ sym q;
+      assigned-to = λ κs a x y e f vx vy p q. p ∙ sym q;
+      holders-of = λ κs a x y e f vx vy p q. p ∙ sym q;
+      set-named = λ κs a x y e f vx vy p q. p ∙ sym q;
       session-at = λ κs a x y e f vx vy p q. p ∙ sym q;
+      assignment-count = λ κs a x y e f vx vy p q. p ∙ sym q;
+      grant-count = λ κs a x y e f vx vy p q. p ∙ sym q;
+      line-count = λ κs a x y e f vx vy p q. p ∙ sym q;
+      juniors = λ κs a x y e f p q. tables 64 _ (x .now) (y .now) p q;
+      assigned = λ κs a x y e f p q. tables 256 _ (x .now) (y .now) p q;
+      holders = λ κs a x y e f p q. tables 4096 _ (x .now) (y .now) p q;
+      juniors-table = λ κs a x y e f vx vy p q. tables 64 _ x y p q;
+      assigned-table = λ κs a x y e f vx vy p q. tables 256 _ x y p q;
+      sets-from = λ κs a x y e f vx vy p q. p ∙ sym q;
+      start = λ κs a x y e f sx sy p q. (refl, states _ _ _ sx sy p q);
+      put-all = λ κs a x y e f sx sy p q. (refl, states _ _ _ sx sy p q);
+      put-user = λ κs a x y e f sx sy p q. (refl, states _ _ _ sx sy p q);
+      put-roles = λ κs a x y e f sx sy p q. (refl, states _ _ _ sx sy p q);
+      put-juniors = λ κs a x y e f sx sy p q. (refl, states _ _ _ sx sy p q);
+      put-assigned = λ κs a x y e f sx sy p q. (refl, states _ _ _ sx sy p q);
+      put-holders = λ κs a x y e f sx sy p q. (refl, states _ _ _ sx sy p q);
+      put-lines = λ κs a x y e f sx sy p q. (refl, states _ _ _ sx sy p q);
+      put-assignments = λ κs a x y e f sx sy p q. (refl, states _ _ _ sx sy p q);
+      put-set = λ κs a x y e f sx sy p q. (refl, states _ _ _ sx sy p q);
+      put-members = λ κs a x y e f sx sy p q. (refl, states _ _ _ sx sy p q);
+      clear-set = λ κs a x y e f sx sy p q. (refl, states _ _ _ sx sy p q);
+      open-session = λ κs a x y e f sx sy p q. (refl, states _ _ _ sx sy p q);
+      put-active = λ κs a x y e f sx sy p q. (refl, states _ _ _ sx sy p q);
+      close-session = λ κs a x y e f sx sy p q. (refl, states _ _ _ sx sy p q);
+      put-all-active = λ κs a x y e f sx sy p q. (refl, states _ _ _ sx sy p q);
       either = λ κs a x y e f vx vy p q. p ∙ sym q;
       permission-beyond = λ κs a x y e f vx vy p q. p ∙ sym q;
+      less = λ κs a x y e f vx vy p q. p ∙ sym q;
     }
 
 pub lists : promises.Lists
 lists = record { read = λ κs a x y e f vx vy p q i. record { ascending = (p .ascending ∙ sym (q .ascending)) i; beyond = (p .beyond ∙ sym (q .beyond)) i; roles = (p .roles ∙ sym (q .roles)) i } }
 
+asked-one : (isBroken isCut : Bool) (x y : Asked) → Asks isBroken isCut x → Asks isBroken isCut y → x ≡ y
+asked-one isBroken isCut x y p q = λ i. record { broken = (p .broken ∙ sym (q .broken)) i; cut = (p .cut ∙ sym (q .cut)) i }
+
+kept-one : (juniors assigned : ℕ → ℕ) (sessions : ℕ → Session) (x y : Kept) → ShedsAll juniors assigned sessions x → ShedsAll juniors assigned sessions y → x ≡ y
+kept-one juniors assigned sessions x y p q = λ i. record { active = arrays 64 (x .active) (y .active) _ (p .long) (q .long) (p .each) (q .each) i; cut = (p .cut ∙ sym (q .cut)) i }
+
 pub sweeps : promises.Sweeps
 sweeps =
     record {
-      authorised-all = λ κs a x y e f vx vy p q i. record { roles = arrays 256 (x .roles) (y .roles) _ (sym (length-map (x .roles) _) ∙ vx .1 .1 .1 .0 .1 .0 .1) (sym (length-map (y .roles) _) ∙ vy .1 .1 .1 .0 .1 .0 .1) (p .each) (q .each) i; cut = (p .cut ∙ sym (q .cut)) i };
-      shed = λ κs a x y e f vx vy p q i. record { sessions = table-one (x .sessions) (y .sessions) noSession (sym (length-map (x .sessions) _) ∙ vx .1 .1 .1 .0 .1 .0 .1 ∙ sym (vy .1 .1 .1 .0 .1 .0 .1) ∙ length-map (y .sessions) _) (p .each ∙ sym (q .each)) i; cut = (p .cut ∙ sym (q .cut)) i };
-      end-all = λ κs a x y e f vx vy p q. table-one x y noSession (vx .1 .1 .0 .1 ∙ sym (vy .1 .1 .0 .1)) (p ∙ sym q);
-      active-roles = λ κs a x y e f vx vy p q. table-one x y 0 (vx .1 .1 .0 .1 ∙ sym (vy .1 .1 .0 .1)) (p ∙ sym q);
+      ask-static = λ κs a x y e f vx vy p q. asked-one _ _ x y p q;
+      ask-set = λ κs a x y e f vx vy p q. asked-one _ _ x y p q;
+      shed = λ κs a x y e f vx vy p q. kept-one _ _ _ x y p q;
+      end-all = λ κs a x y e f sx sy p q. (refl, states _ _ _ sx sy p q);
       lowest-free = λ κs a x y e f vx vy p q. p ∙ sym q;
-      strip = λ κs a x y e f vx vy p q. (refl, p ∙ sym q);
+      strip = λ κs a x y e f vx vy p q. (p .had ∙ sym (q .had), p .stripped ∙ sym (q .stripped));
     }
 
 -- ---- the commands
@@ -150,36 +198,36 @@ sweeps =
 pub users : promises.Users
 users =
     record {
-      user = λ κs a x y e f vx vy p q. outcomes _ x y vx vy p q;
-      role = λ κs a x y e f vx vy p q. outcomes _ x y vx vy p q;
-      nouser = λ κs a x y e f vx vy p q. outcomes _ x y vx vy p q;
-      norole = λ κs a x y e f vx vy p q. outcomes _ x y vx vy p q;
+      user = λ κs a x y e f sx sy p q. outcomes _ x y _ _ sx sy p q;
+      role = λ κs a x y e f sx sy p q. outcomes _ x y _ _ sx sy p q;
+      nouser = λ κs a x y e f sx sy p q. outcomes _ x y _ _ sx sy p q;
+      norole = λ κs a x y e f sx sy p q. outcomes _ x y _ _ sx sy p q;
     }
 
 pub assigning : promises.Assigning
 assigning =
     record {
-      assign = λ κs a x y e f vx vy p q. outcomes _ x y vx vy p q;
-      deassign = λ κs a x y e f vx vy p q. outcomes _ x y vx vy p q;
-      grant = λ κs a x y e f vx vy p q. outcomes _ x y vx vy p q;
-      revoke = λ κs a x y e f vx vy p q. outcomes _ x y vx vy p q;
+      assign = λ κs a x y e f sx sy p q. outcomes _ x y _ _ sx sy p q;
+      deassign = λ κs a x y e f sx sy p q. outcomes _ x y _ _ sx sy p q;
+      grant = λ κs a x y e f sx sy p q. outcomes _ x y _ _ sx sy p q;
+      revoke = λ κs a x y e f sx sy p q. outcomes _ x y _ _ sx sy p q;
     }
 
 pub inheriting : promises.Inheriting
 inheriting =
     record {
-      inherit = λ κs a x y e f vx vy p q. outcomes _ x y vx vy p q;
-      disinherit = λ κs a x y e f vx vy p q. outcomes _ x y vx vy p q;
+      inherit = λ κs a x y e f sx sy p q. outcomes _ x y _ _ sx sy p q;
+      disinherit = λ κs a x y e f sx sy p q. outcomes _ x y _ _ sx sy p q;
     }
 
 pub sets : promises.Sets
 sets =
     record {
-      make-set = λ κs a x y e f vx vy p q. outcomes _ x y vx vy p q;
-      drop-set = λ κs a x y e f vx vy p q. outcomes _ x y vx vy p q;
-      add-member = λ κs a x y e f vx vy p q. outcomes _ x y vx vy p q;
-      drop-member = λ κs a x y e f vx vy p q. outcomes _ x y vx vy p q;
-      set-cardinality = λ κs a x y e f vx vy p q. outcomes _ x y vx vy p q;
+      make-set = λ κs a x y e f sx sy p q. outcomes _ x y _ _ sx sy p q;
+      drop-set = λ κs a x y e f sx sy p q. outcomes _ x y _ _ sx sy p q;
+      add-member = λ κs a x y e f sx sy p q. outcomes _ x y _ _ sx sy p q;
+      drop-member = λ κs a x y e f sx sy p q. outcomes _ x y _ _ sx sy p q;
+      set-cardinality = λ κs a x y e f sx sy p q. outcomes _ x y _ _ sx sy p q;
     }
 
 -- ---- the functions with a result
@@ -206,11 +254,11 @@ bits-one true false e = absurd (omega arith)
 bits-one false true e = absurd (omega arith)
 bits-one false false e = refl
 
-opened-one : (told : Told) (x y : Opened) → Sized (x .state) → Sized (y .state) → Opens told x → Opens told y → x ≡ y
+opened-one : (t : Told) (x y : Opened) (l r : List ℕ) → State l → State r → Opens t x l → Opens t y r → (x ≡ y) × (l ≡ r)
 unfolding toldOpened
-opened-one told x y sx sy p q = λ i. record { answer = answers i; session = record { number = numbers-one i }; state = states i }
+opened-one t x y l r sl sr p q = ((λ i. record { answer = answers i; session = record { number = numbers-one i } }), states (t .after) l r sl sr (ap (λ (t : Told). t .after) (p .tells)) (ap (λ (t : Told). t .after) (q .tells)))
   where
-    same : toldOpened x ≡ toldOpened y
+    same : toldOpened x l ≡ toldOpened y r
     same = p .tells ∙ sym (q .tells)
 
     answers : x .answer ≡ y .answer
@@ -218,9 +266,6 @@ opened-one told x y sx sy p q = λ i. record { answer = answers i; session = rec
 
     numbers-one : x .session .number ≡ y .session .number
     numbers-one = results-one (x .answer) (y .answer) (x .session .number) (y .session .number) answers (ap (λ (t : Told). t .results) same) (p .silent) (q .silent)
-
-    states : x .state ≡ y .state
-    states = view-one-to-one (x .state) (y .state) sx sy (ap (λ (t : Told). t .after) same)
 
 checked-one : (m : Model) (told : Told) (x y : Checked) → Checks m told x → Checks m told y → x ≡ y
 unfolding toldChecked
@@ -234,7 +279,7 @@ checked-one m told x y p q = λ i. record { answer = answers i; yes = bits-one (
 
 owned-one : (m : Model) (told : Told) (x y : Owned) → Owns m told x → Owns m told y → x ≡ y
 unfolding toldOwned
-owned-one m told x y p q = λ i. record { answer = answers i; owner = record { number = results-one (x .answer) (y .answer) (x .owner .number) (y .owner .number) answers (ap (λ (t : Told). t .results) same) (p .silent) (q .silent) i } }
+owned-one m told x y p q = λ i. record { answer = answers i; owner = results-one (x .answer) (y .answer) (x .owner) (y .owner) answers (ap (λ (t : Told). t .results) same) (p .silent) (q .silent) i }
   where
     same : toldOwned m x ≡ toldOwned m y
     same = p .tells ∙ sym (q .tells)
@@ -242,31 +287,27 @@ owned-one m told x y p q = λ i. record { answer = answers i; owner = record { n
     answers : x .answer ≡ y .answer
     answers = number-one-to-one (x .answer) (y .answer) (ap (λ (t : Told). t .answer) same)
 
-lent-one : (juniors holders : ℕ → ℕ) (session : Rattle.model.specs.Model.Session) (op obj : ℕ) (x y : Checked) → ChecksLent juniors holders session op obj x → ChecksLent juniors holders session op obj y → x ≡ y
-lent-one juniors holders session op obj x y p q = λ i. record { answer = answers i; yes = (p .answered ∙ ap (λ (c : Answer). isDone c && Rattle.sessions.specs.Answering.permits juniors holders (session .active) (Rattle.model.specs.Words.permission op obj)) answers ∙ sym (q .answered)) i }
-  where
-    answers : x .answer ≡ y .answer
-    answers = number-one-to-one (x .answer) (y .answer) (p .answer ∙ sym (q .answer))
-
 pub sessions : promises.Sessions
 sessions =
     record {
-      session = λ κs a x y e f vx vy p q. opened-one _ x y (opened-sized x vx) (opened-sized y vy) p q;
-      activate = λ κs a x y e f vx vy p q. outcomes _ x y vx vy p q;
-      drop-role = λ κs a x y e f vx vy p q. outcomes _ x y vx vy p q;
-      end-session = λ κs a x y e f vx vy p q. outcomes _ x y vx vy p q;
+      session = λ κs a x y e f sx sy p q. opened-one _ x y _ _ sx sy p q;
+      activate = λ κs a x y e f sx sy p q. outcomes _ x y _ _ sx sy p q;
+      drop-role = λ κs a x y e f sx sy p q. outcomes _ x y _ _ sx sy p q;
+      end-session = λ κs a x y e f sx sy p q. outcomes _ x y _ _ sx sy p q;
       owner = λ κs a x y e f vx vy p q. owned-one _ _ x y p q;
-      check-lent = λ κs a x y e f vx vy p q. lent-one _ _ _ _ _ x y p q;
       check = λ κs a x y e f vx vy p q. checked-one _ _ x y p q;
     }
 
 -- ---- every command through one function
 
-stepped-one : (told : Told) (x y : Stepped) → Sized (x .state) → Sized (y .state) → Steps told x → Steps told y → x ≡ y
-stepped-one told x y sx sy p q = λ i. record { answer = number-one-to-one (x .answer) (y .answer) (p .answer ∙ sym (q .answer)) i; opened = record { number = (p .opened ∙ sym (q .opened)) i }; state = view-one-to-one (x .state) (y .state) sx sy (p .after ∙ sym (q .after)) i }
+stepped-one : (t : Told) (x y : Stepped) (l r : List ℕ) → State l → State r → Steps t x l → Steps t y r → (x ≡ y) × (l ≡ r)
+stepped-one t x y l r sl sr p q = (
+  (λ i. record { answer = number-one-to-one (x .answer) (y .answer) (p .answer ∙ sym (q .answer)) i; opened = record { number = (p .opened ∙ sym (q .opened)) i } }),
+  states (t .after) l r sl sr (p .after) (q .after),
+)
 
 pub engine : promises.Engine
-engine = record { step = λ κs a x y e f vx vy p q. stepped-one _ x y (sized (x .state) _ (vx .1 .1 .1 .1 .1 .0)) (sized (y .state) _ (vy .1 .1 .1 .1 .1 .0)) p q }
+engine = record { step = λ κs a x y e f sx sy p q. stepped-one _ x y _ _ sx sy p q }
 
 -- ---- the reviews, with the buffer lent
 
@@ -314,7 +355,7 @@ pub policywrite : promises.Policywrite
 policywrite = record { write = λ κs a x y e f vx vy p q. (p .next ∙ sym (q .next), p .buffer ∙ sym (q .buffer)) }
 
 pub policyread : promises.Policyread
-policyread = record { gather = λ κs a x y e f vx vy p q. view-one-to-one x y (sized x _ (vx .1)) (sized y _ (vy .1)) (p ∙ sym q) }
+policyread = record { gather = λ κs a x y e f sx sy p q. (refl, states _ _ _ sx sy p q) }
 
 pub policycheck : promises.Policycheck
 policycheck = record { formed = λ κs a x y e f vx vy p q. agree x y (λ h. q .says (p .holds h)) (λ h. p .says (q .holds h)); broken = λ κs a x y e f vx vy p q. number-one-to-one x y (p ∙ sym q) }
@@ -325,4 +366,4 @@ saved-one m out after after′ x y p q =
     ((λ i. record { answer = number-one-to-one (x .answer) (y .answer) (one .0) i; length = one .1 .0 i }), one .1 .1)
 
 pub policyfile : promises.Policyfile
-policyfile = record { save = λ κs a x y e f vx vy p q. saved-one _ _ _ _ x y p q; load = λ κs a x y e f vx vy p q. outcomes (seen x) x y vx vy refl (sym (loads-one _ _ (seen x) (seen y) p q)) }
+policyfile = record { save = λ κs a x y e f vx vy p q. saved-one _ _ _ _ x y p q; load = λ κs a x y e f sx sy p q. outcomes _ x y _ _ sx sy refl (sym (loads-one _ _ _ _ p q)) }

@@ -1,15 +1,14 @@
 -- "The policy and sessions that a function takes are the engine's own: the empty policy, or what an earlier answer handed back." The code's own
--- states: from `empty()`, by calls of the functions in any order and with any arguments. Assumes nothing.
+-- states: from `start`, by calls of the functions in any order and with any arguments. Assumes nothing.
 use mathlib.Core.List.{List}
 use Prim.Native.Nat.{ℕ}
 use contract.Lifetimes.{Lfts}
 use denote.Triple.Clauses.{AtExit}
 use borrow.Fn.Kinds.{PK, RK, Dens, resT, endedOf, Out}
-use Rattle.policy.specs.View.{view}
-use Rattle.policy.specs.declared.State.{State}
+use Rattle.state.specs.View.{view}
 use Rattle.demands.specs.Demand3.{Rules}
 use Rattle.demands.specs.Reachable.{Reachable}
-use Rattle.policy.proofs as policy
+use Rattle.state.proofs as state
 use Rattle.users.proofs as users
 use Rattle.assigning.proofs as assigning
 use Rattle.inheriting.proofs as inheriting
@@ -27,35 +26,35 @@ pub record Call {n : ℕ} (ps : List (PK n)) (r : RK n) (Post : Out n ps r) : Ty
   pub exits : AtExit (endedOf n ps r) lifetimes
   pub met : Post lifetimes given result exits
 
--- the state is the empty one, or what a command (by its own function, or by `step`), a line of a script or a load of any bytes handed back from such a
--- state, done or refused
-pub data Handed : State → Type 0 where
-  empty : (c : Call policy.empty.Kinds.ps policy.empty.Kinds.r policy.empty.Reads.Post) → Handed (c .result)
-  user : (c : Call users.user.Kinds.ps users.user.Kinds.r users.user.Reads.Post) → Handed (c .given .0) → Handed (c .result .state)
-  role : (c : Call users.role.Kinds.ps users.role.Kinds.r users.role.Reads.Post) → Handed (c .given .0) → Handed (c .result .state)
-  nouser : (c : Call users.nouser.Kinds.ps users.nouser.Kinds.r users.nouser.Reads.Post) → Handed (c .given .0) → Handed (c .result .state)
-  norole : (c : Call users.norole.Kinds.ps users.norole.Kinds.r users.norole.Reads.Post) → Handed (c .given .0) → Handed (c .result .state)
-  assign : (c : Call assigning.assign.Kinds.ps assigning.assign.Kinds.r assigning.assign.Reads.Post) → Handed (c .given .0) → Handed (c .result .state)
-  deassign : (c : Call assigning.deassign.Kinds.ps assigning.deassign.Kinds.r assigning.deassign.Reads.Post) → Handed (c .given .0) → Handed (c .result .state)
-  grant : (c : Call assigning.grant.Kinds.ps assigning.grant.Kinds.r assigning.grant.Reads.Post) → Handed (c .given .0) → Handed (c .result .state)
-  revoke : (c : Call assigning.revoke.Kinds.ps assigning.revoke.Kinds.r assigning.revoke.Reads.Post) → Handed (c .given .0) → Handed (c .result .state)
-  inherit : (c : Call inheriting.inherit.Kinds.ps inheriting.inherit.Kinds.r inheriting.inherit.Reads.Post) → Handed (c .given .0) → Handed (c .result .state)
-  disinherit : (c : Call inheriting.disinherit.Kinds.ps inheriting.disinherit.Kinds.r inheriting.disinherit.Reads.Post) → Handed (c .given .0) → Handed (c .result .state)
-  make-set : (c : Call sets.make_set.Kinds.ps sets.make_set.Kinds.r sets.make_set.Reads.Post) → Handed (c .given .0) → Handed (c .result .state)
-  drop-set : (c : Call sets.drop_set.Kinds.ps sets.drop_set.Kinds.r sets.drop_set.Reads.Post) → Handed (c .given .0) → Handed (c .result .state)
-  add-member : (c : Call sets.add_member.Kinds.ps sets.add_member.Kinds.r sets.add_member.Reads.Post) → Handed (c .given .0) → Handed (c .result .state)
-  drop-member : (c : Call sets.drop_member.Kinds.ps sets.drop_member.Kinds.r sets.drop_member.Reads.Post) → Handed (c .given .0) → Handed (c .result .state)
-  set-cardinality : (c : Call sets.set_cardinality.Kinds.ps sets.set_cardinality.Kinds.r sets.set_cardinality.Reads.Post) → Handed (c .given .0) → Handed (c .result .state)
-  session : (c : Call sessions.session.Kinds.ps sessions.session.Kinds.r sessions.session.Reads.Post) → Handed (c .given .0) → Handed (c .result .state)
-  activate : (c : Call sessions.activate.Kinds.ps sessions.activate.Kinds.r sessions.activate.Reads.Post) → Handed (c .given .0) → Handed (c .result .state)
-  drop : (c : Call sessions.drop.Kinds.ps sessions.drop.Kinds.r sessions.drop.Reads.Post) → Handed (c .given .0) → Handed (c .result .state)
-  end : (c : Call sessions.end.Kinds.ps sessions.end.Kinds.r sessions.end.Reads.Post) → Handed (c .given .0) → Handed (c .result .state)
-  step : (c : Call engine.step.Kinds.ps engine.step.Kinds.r engine.step.Reads.Post) → Handed (c .given .0) → Handed (c .result .state)
-  answer-line : (c : Call script.answer_line.Kinds.ps script.answer_line.Kinds.r script.answer_line.Reads.Post) → Handed (c .given .0) → Handed (c .result .state)
-  turn : (c : Call script.turn.Kinds.ps script.turn.Kinds.r script.turn.Reads.Post) → Handed (c .given .1 .0 .state) → Handed (c .result .next .state)
-  load : (c : Call policyfile.load.Kinds.ps policyfile.load.Kinds.r policyfile.load.Reads.Post) → Handed (c .given .0) → Handed (c .result .state)
+-- the numbers are those that `start` left, or those that a command (by its own function, or by `step`), a line of a script or a load of any bytes left
+-- of such numbers, done or refused
+pub data Handed : List ℕ → Type 0 where
+  empty : (c : Call state.stores.start.Kinds.ps state.stores.start.Kinds.r state.stores.start.Reads.Post) → Handed (c .exits .0 .now)
+  user : (c : Call users.user.Kinds.ps users.user.Kinds.r users.user.Reads.Post) → Handed (c .given .0 .now) → Handed (c .exits .0 .now)
+  role : (c : Call users.role.Kinds.ps users.role.Kinds.r users.role.Reads.Post) → Handed (c .given .0 .now) → Handed (c .exits .0 .now)
+  nouser : (c : Call users.nouser.Kinds.ps users.nouser.Kinds.r users.nouser.Reads.Post) → Handed (c .given .0 .now) → Handed (c .exits .0 .now)
+  norole : (c : Call users.norole.Kinds.ps users.norole.Kinds.r users.norole.Reads.Post) → Handed (c .given .0 .now) → Handed (c .exits .0 .now)
+  assign : (c : Call assigning.assign.Kinds.ps assigning.assign.Kinds.r assigning.assign.Reads.Post) → Handed (c .given .0 .now) → Handed (c .exits .0 .now)
+  deassign : (c : Call assigning.deassign.Kinds.ps assigning.deassign.Kinds.r assigning.deassign.Reads.Post) → Handed (c .given .0 .now) → Handed (c .exits .0 .now)
+  grant : (c : Call assigning.grant.Kinds.ps assigning.grant.Kinds.r assigning.grant.Reads.Post) → Handed (c .given .0 .now) → Handed (c .exits .0 .now)
+  revoke : (c : Call assigning.revoke.Kinds.ps assigning.revoke.Kinds.r assigning.revoke.Reads.Post) → Handed (c .given .0 .now) → Handed (c .exits .0 .now)
+  inherit : (c : Call inheriting.inherit.Kinds.ps inheriting.inherit.Kinds.r inheriting.inherit.Reads.Post) → Handed (c .given .0 .now) → Handed (c .exits .0 .now)
+  disinherit : (c : Call inheriting.disinherit.Kinds.ps inheriting.disinherit.Kinds.r inheriting.disinherit.Reads.Post) → Handed (c .given .0 .now) → Handed (c .exits .0 .now)
+  make-set : (c : Call sets.make_set.Kinds.ps sets.make_set.Kinds.r sets.make_set.Reads.Post) → Handed (c .given .0 .now) → Handed (c .exits .0 .now)
+  drop-set : (c : Call sets.drop_set.Kinds.ps sets.drop_set.Kinds.r sets.drop_set.Reads.Post) → Handed (c .given .0 .now) → Handed (c .exits .0 .now)
+  add-member : (c : Call sets.add_member.Kinds.ps sets.add_member.Kinds.r sets.add_member.Reads.Post) → Handed (c .given .0 .now) → Handed (c .exits .0 .now)
+  drop-member : (c : Call sets.drop_member.Kinds.ps sets.drop_member.Kinds.r sets.drop_member.Reads.Post) → Handed (c .given .0 .now) → Handed (c .exits .0 .now)
+  set-cardinality : (c : Call sets.set_cardinality.Kinds.ps sets.set_cardinality.Kinds.r sets.set_cardinality.Reads.Post) → Handed (c .given .0 .now) → Handed (c .exits .0 .now)
+  session : (c : Call sessions.session.Kinds.ps sessions.session.Kinds.r sessions.session.Reads.Post) → Handed (c .given .0 .now) → Handed (c .exits .0 .now)
+  activate : (c : Call sessions.activate.Kinds.ps sessions.activate.Kinds.r sessions.activate.Reads.Post) → Handed (c .given .0 .now) → Handed (c .exits .0 .now)
+  drop : (c : Call sessions.drop.Kinds.ps sessions.drop.Kinds.r sessions.drop.Reads.Post) → Handed (c .given .0 .now) → Handed (c .exits .0 .now)
+  end : (c : Call sessions.end.Kinds.ps sessions.end.Kinds.r sessions.end.Reads.Post) → Handed (c .given .0 .now) → Handed (c .exits .0 .now)
+  step : (c : Call engine.step.Kinds.ps engine.step.Kinds.r engine.step.Reads.Post) → Handed (c .given .0 .now) → Handed (c .exits .0 .now)
+  answer-line : (c : Call script.answer_line.Kinds.ps script.answer_line.Kinds.r script.answer_line.Reads.Post) → Handed (c .given .0 .now) → Handed (c .exits .0 .now)
+  load : (c : Call policyfile.load.Kinds.ps policyfile.load.Kinds.r policyfile.load.Reads.Post) → Handed (c .given .0 .now) → Handed (c .exits .0 .now)
+  turn : (c : Call script.turn.Kinds.ps script.turn.Kinds.r script.turn.Reads.Post) → Handed (c .given .1 .0 .now) → Handed (c .exits .1 .0 .now)
 
 -- What such a state holds can be reached from the empty policy by the commands of the paper and by loads, and so demands 2 and 3 are about it.
 pub record Owned : Type 0 where
-  pub reachable : {s : State} → Handed s → Reachable (view s)
-  pub rules : {s : State} → Handed s → Rules (view s)
+  pub reachable : {l : List ℕ} → Handed l → Reachable (view l)
+  pub rules : {l : List ℕ} → Handed l → Rules (view l)

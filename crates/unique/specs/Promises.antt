@@ -2,8 +2,9 @@
 use Rattle.roleset.proofs as roleset
 use Rattle.numbers.proofs as numbers
 use Rattle.hierarchy.proofs as hierarchy
+use Rattle.state.proofs as state
+use Rattle.walking.proofs as walking
 use Rattle.separation.proofs as separation
-use Rattle.policy.proofs as policy
 use Rattle.lists.proofs as lists
 use Rattle.sweeps.proofs as sweeps
 use Rattle.users.proofs as users
@@ -20,7 +21,7 @@ use Rattle.policywrite.proofs as policywrite
 use Rattle.policyread.proofs as policyread
 use Rattle.policycheck.proofs as policycheck
 use Rattle.policyfile.proofs as policyfile
-use Rattle.unique.specs.Unique.{Unique, UniqueLent}
+use Rattle.unique.specs.Unique.{Unique, UniqueLent, UniqueSeen, UniqueState}
 
 -- ---- roleset: sets of roles
 
@@ -56,24 +57,58 @@ pub record Hierarchy : Type 0 where
   pub turned : Unique hierarchy.turned.Kinds.ps hierarchy.turned.Kinds.r hierarchy.turned.Reads.Post
   pub at-or-above : Unique hierarchy.at_or_above.Kinds.ps hierarchy.at_or_above.Kinds.r hierarchy.at_or_above.Reads.Post
 
+-- ---- state: the lent state
+
+pub record State : Type 0 where
+  pub has-user : Unique state.reads.has_user.Kinds.ps state.reads.has_user.Kinds.r state.reads.has_user.Reads.Post
+  pub roles : Unique state.reads.roles.Kinds.ps state.reads.roles.Kinds.r state.reads.roles.Reads.Post
+  pub has-role : Unique state.reads.has_role.Kinds.ps state.reads.has_role.Kinds.r state.reads.has_role.Reads.Post
+  pub directly-below : Unique state.reads.directly_below.Kinds.ps state.reads.directly_below.Kinds.r state.reads.directly_below.Reads.Post
+  pub assigned-to : Unique state.reads.assigned_to.Kinds.ps state.reads.assigned_to.Kinds.r state.reads.assigned_to.Reads.Post
+  pub holders-of : Unique state.reads.holders_of.Kinds.ps state.reads.holders_of.Kinds.r state.reads.holders_of.Reads.Post
+  pub set-named : Unique state.reads.set_named.Kinds.ps state.reads.set_named.Kinds.r state.reads.set_named.Reads.Post
+  pub session-at : Unique state.reads.session_at.Kinds.ps state.reads.session_at.Kinds.r state.reads.session_at.Reads.Post
+  pub assignment-count : Unique state.reads.assignment_count.Kinds.ps state.reads.assignment_count.Kinds.r state.reads.assignment_count.Reads.Post
+  pub grant-count : Unique state.reads.grant_count.Kinds.ps state.reads.grant_count.Kinds.r state.reads.grant_count.Reads.Post
+  pub line-count : Unique state.reads.line_count.Kinds.ps state.reads.line_count.Kinds.r state.reads.line_count.Reads.Post
+  -- parts that are lent on: what stands there
+  pub juniors : UniqueSeen state.parts.juniors.Kinds.ps state.parts.juniors.Kinds.r state.parts.juniors.Reads.Post (λ κs x e. x .now)
+  pub assigned : UniqueSeen state.parts.assigned.Kinds.ps state.parts.assigned.Kinds.r state.parts.assigned.Reads.Post (λ κs x e. x .now)
+  pub holders : UniqueSeen state.parts.holders.Kinds.ps state.parts.holders.Kinds.r state.parts.holders.Reads.Post (λ κs x e. x .now)
+  pub juniors-table : Unique state.parts.juniors_table.Kinds.ps state.parts.juniors_table.Kinds.r state.parts.juniors_table.Reads.Post
+  pub assigned-table : Unique state.parts.assigned_table.Kinds.ps state.parts.assigned_table.Kinds.r state.parts.assigned_table.Reads.Post
+  pub sets-from : Unique state.parts.sets_from.Kinds.ps state.parts.sets_from.Kinds.r state.parts.sets_from.Reads.Post
+  -- what stores
+  pub start : UniqueState state.stores.start.Kinds.ps state.stores.start.Kinds.r state.stores.start.Reads.Post (λ κs e. e .0 .now)
+  pub put-all : UniqueState state.stores.put_all.Kinds.ps state.stores.put_all.Kinds.r state.stores.put_all.Reads.Post (λ κs e. e .0 .now)
+  pub put-user : UniqueState state.stores.put_user.Kinds.ps state.stores.put_user.Kinds.r state.stores.put_user.Reads.Post (λ κs e. e .0 .now)
+  pub put-roles : UniqueState state.stores.put_roles.Kinds.ps state.stores.put_roles.Kinds.r state.stores.put_roles.Reads.Post (λ κs e. e .0 .now)
+  pub put-juniors : UniqueState state.stores.put_juniors.Kinds.ps state.stores.put_juniors.Kinds.r state.stores.put_juniors.Reads.Post (λ κs e. e .0 .now)
+  pub put-assigned : UniqueState state.stores.put_assigned.Kinds.ps state.stores.put_assigned.Kinds.r state.stores.put_assigned.Reads.Post (λ κs e. e .0 .now)
+  pub put-holders : UniqueState state.stores.put_holders.Kinds.ps state.stores.put_holders.Kinds.r state.stores.put_holders.Reads.Post (λ κs e. e .0 .now)
+  pub put-lines : UniqueState state.stores.put_lines.Kinds.ps state.stores.put_lines.Kinds.r state.stores.put_lines.Reads.Post (λ κs e. e .0 .now)
+  pub put-assignments : UniqueState state.stores.put_assignments.Kinds.ps state.stores.put_assignments.Kinds.r state.stores.put_assignments.Reads.Post (λ κs e. e .0 .now)
+  pub put-set : UniqueState state.stores.put_set.Kinds.ps state.stores.put_set.Kinds.r state.stores.put_set.Reads.Post (λ κs e. e .0 .now)
+  pub put-members : UniqueState state.stores.put_members.Kinds.ps state.stores.put_members.Kinds.r state.stores.put_members.Reads.Post (λ κs e. e .0 .now)
+  pub clear-set : UniqueState state.stores.clear_set.Kinds.ps state.stores.clear_set.Kinds.r state.stores.clear_set.Reads.Post (λ κs e. e .0 .now)
+  pub open-session : UniqueState state.stores.open_session.Kinds.ps state.stores.open_session.Kinds.r state.stores.open_session.Reads.Post (λ κs e. e .0 .now)
+  pub put-active : UniqueState state.stores.put_active.Kinds.ps state.stores.put_active.Kinds.r state.stores.put_active.Reads.Post (λ κs e. e .0 .now)
+  pub close-session : UniqueState state.stores.close_session.Kinds.ps state.stores.close_session.Kinds.r state.stores.close_session.Reads.Post (λ κs e. e .0 .now)
+  pub put-all-active : UniqueState state.stores.put_all_active.Kinds.ps state.stores.put_all_active.Kinds.r state.stores.put_all_active.Reads.Post (λ κs e. e .0 .now)
+  pub either : Unique state.naming.either.Kinds.ps state.naming.either.Kinds.r state.naming.either.Reads.Post
+  pub permission-beyond : Unique state.naming.permission_beyond.Kinds.ps state.naming.permission_beyond.Kinds.r state.naming.permission_beyond.Reads.Post
+  pub less : Unique state.naming.less.Kinds.ps state.naming.less.Kinds.r state.naming.less.Reads.Post
+
+-- ---- walking: the walk over the lent state
+
+pub record Walking : Type 0 where
+  pub reach : Unique walking.reach.Kinds.ps walking.reach.Kinds.r walking.reach.Reads.Post
+
 -- ---- separation: separation
 
 pub record Separation : Type 0 where
   pub breaks : Unique separation.breaks.Kinds.ps separation.breaks.Kinds.r separation.breaks.Reads.Post
   pub breaks-some : Unique separation.breaks_some.Kinds.ps separation.breaks_some.Kinds.r separation.breaks_some.Reads.Post
-  pub some-breaks : Unique separation.some_breaks.Kinds.ps separation.some_breaks.Kinds.r separation.some_breaks.Reads.Post
-  pub some-breaks-some : Unique separation.some_breaks_some.Kinds.ps separation.some_breaks_some.Kinds.r separation.some_breaks_some.Reads.Post
-
--- ---- policy: the state
-
-pub record Policy : Type 0 where
-  pub empty-state : Unique policy.empty.Kinds.ps policy.empty.Kinds.r policy.empty.Reads.Post
-  pub full : Unique policy.full.Kinds.ps policy.full.Kinds.r policy.full.Reads.Post
-  pub refused : Unique policy.refused.Kinds.ps policy.refused.Kinds.r policy.refused.Reads.Post
-  pub has-user : Unique policy.naming.has_user.Kinds.ps policy.naming.has_user.Kinds.r policy.naming.has_user.Reads.Post
-  pub session-at : Unique policy.naming.session_at.Kinds.ps policy.naming.session_at.Kinds.r policy.naming.session_at.Reads.Post
-  pub either : Unique policy.naming.either.Kinds.ps policy.naming.either.Kinds.r policy.naming.either.Reads.Post
-  pub permission-beyond : Unique policy.naming.permission_beyond.Kinds.ps policy.naming.permission_beyond.Kinds.r policy.naming.permission_beyond.Reads.Post
 
 -- ---- lists: lists of roles
 
@@ -83,60 +118,58 @@ pub record Lists : Type 0 where
 -- ---- sweeps: sweeps over users and sessions
 
 pub record Sweeps : Type 0 where
-  pub authorised-all : Unique sweeps.authorised_all.Kinds.ps sweeps.authorised_all.Kinds.r sweeps.authorised_all.Reads.Post
+  pub ask-static : Unique sweeps.ask_static.Kinds.ps sweeps.ask_static.Kinds.r sweeps.ask_static.Reads.Post
+  pub ask-set : Unique sweeps.ask_set.Kinds.ps sweeps.ask_set.Kinds.r sweeps.ask_set.Reads.Post
   pub shed : Unique sweeps.shed.Kinds.ps sweeps.shed.Kinds.r sweeps.shed.Reads.Post
-  pub end-all : Unique sweeps.end_all.Kinds.ps sweeps.end_all.Kinds.r sweeps.end_all.Reads.Post
-  pub active-roles : Unique sweeps.active_roles.Kinds.ps sweeps.active_roles.Kinds.r sweeps.active_roles.Reads.Post
+  pub end-all : UniqueState sweeps.end_all.Kinds.ps sweeps.end_all.Kinds.r sweeps.end_all.Reads.Post (λ κs e. e .0 .now)
   pub lowest-free : Unique sweeps.lowest_free.Kinds.ps sweeps.lowest_free.Kinds.r sweeps.lowest_free.Reads.Post
-  -- its result is nothing: the table lent
   pub strip : UniqueLent sweeps.strip.Kinds.ps sweeps.strip.Kinds.r sweeps.strip.Reads.Post (λ κs e. e .0 .now)
 
 -- ---- users: `user`, `role`, `nouser`, `norole`
 
 pub record Users : Type 0 where
-  pub user : Unique users.user.Kinds.ps users.user.Kinds.r users.user.Reads.Post
-  pub role : Unique users.role.Kinds.ps users.role.Kinds.r users.role.Reads.Post
-  pub nouser : Unique users.nouser.Kinds.ps users.nouser.Kinds.r users.nouser.Reads.Post
-  pub norole : Unique users.norole.Kinds.ps users.norole.Kinds.r users.norole.Reads.Post
+  pub user : UniqueState users.user.Kinds.ps users.user.Kinds.r users.user.Reads.Post (λ κs e. e .0 .now)
+  pub role : UniqueState users.role.Kinds.ps users.role.Kinds.r users.role.Reads.Post (λ κs e. e .0 .now)
+  pub nouser : UniqueState users.nouser.Kinds.ps users.nouser.Kinds.r users.nouser.Reads.Post (λ κs e. e .0 .now)
+  pub norole : UniqueState users.norole.Kinds.ps users.norole.Kinds.r users.norole.Reads.Post (λ κs e. e .0 .now)
 
 -- ---- assigning: `assign`, `deassign`, `grant`, `revoke`
 
 pub record Assigning : Type 0 where
-  pub assign : Unique assigning.assign.Kinds.ps assigning.assign.Kinds.r assigning.assign.Reads.Post
-  pub deassign : Unique assigning.deassign.Kinds.ps assigning.deassign.Kinds.r assigning.deassign.Reads.Post
-  pub grant : Unique assigning.grant.Kinds.ps assigning.grant.Kinds.r assigning.grant.Reads.Post
-  pub revoke : Unique assigning.revoke.Kinds.ps assigning.revoke.Kinds.r assigning.revoke.Reads.Post
+  pub assign : UniqueState assigning.assign.Kinds.ps assigning.assign.Kinds.r assigning.assign.Reads.Post (λ κs e. e .0 .now)
+  pub deassign : UniqueState assigning.deassign.Kinds.ps assigning.deassign.Kinds.r assigning.deassign.Reads.Post (λ κs e. e .0 .now)
+  pub grant : UniqueState assigning.grant.Kinds.ps assigning.grant.Kinds.r assigning.grant.Reads.Post (λ κs e. e .0 .now)
+  pub revoke : UniqueState assigning.revoke.Kinds.ps assigning.revoke.Kinds.r assigning.revoke.Reads.Post (λ κs e. e .0 .now)
 
 -- ---- inheriting: `inherit`, `disinherit`
 
 pub record Inheriting : Type 0 where
-  pub inherit : Unique inheriting.inherit.Kinds.ps inheriting.inherit.Kinds.r inheriting.inherit.Reads.Post
-  pub disinherit : Unique inheriting.disinherit.Kinds.ps inheriting.disinherit.Kinds.r inheriting.disinherit.Reads.Post
+  pub inherit : UniqueState inheriting.inherit.Kinds.ps inheriting.inherit.Kinds.r inheriting.inherit.Reads.Post (λ κs e. e .0 .now)
+  pub disinherit : UniqueState inheriting.disinherit.Kinds.ps inheriting.disinherit.Kinds.r inheriting.disinherit.Reads.Post (λ κs e. e .0 .now)
 
 -- ---- sets: the five commands of a set, of both kinds
 
 pub record Sets : Type 0 where
-  pub make-set : Unique sets.make_set.Kinds.ps sets.make_set.Kinds.r sets.make_set.Reads.Post
-  pub drop-set : Unique sets.drop_set.Kinds.ps sets.drop_set.Kinds.r sets.drop_set.Reads.Post
-  pub add-member : Unique sets.add_member.Kinds.ps sets.add_member.Kinds.r sets.add_member.Reads.Post
-  pub drop-member : Unique sets.drop_member.Kinds.ps sets.drop_member.Kinds.r sets.drop_member.Reads.Post
-  pub set-cardinality : Unique sets.set_cardinality.Kinds.ps sets.set_cardinality.Kinds.r sets.set_cardinality.Reads.Post
+  pub make-set : UniqueState sets.make_set.Kinds.ps sets.make_set.Kinds.r sets.make_set.Reads.Post (λ κs e. e .0 .now)
+  pub drop-set : UniqueState sets.drop_set.Kinds.ps sets.drop_set.Kinds.r sets.drop_set.Reads.Post (λ κs e. e .0 .now)
+  pub add-member : UniqueState sets.add_member.Kinds.ps sets.add_member.Kinds.r sets.add_member.Reads.Post (λ κs e. e .0 .now)
+  pub drop-member : UniqueState sets.drop_member.Kinds.ps sets.drop_member.Kinds.r sets.drop_member.Reads.Post (λ κs e. e .0 .now)
+  pub set-cardinality : UniqueState sets.set_cardinality.Kinds.ps sets.set_cardinality.Kinds.r sets.set_cardinality.Reads.Post (λ κs e. e .0 .now)
 
 -- ---- sessions: `session`, `activate`, `drop`, `end`, `check`, and whose a session is
 
 pub record Sessions : Type 0 where
-  pub session : Unique sessions.session.Kinds.ps sessions.session.Kinds.r sessions.session.Reads.Post
-  pub activate : Unique sessions.activate.Kinds.ps sessions.activate.Kinds.r sessions.activate.Reads.Post
-  pub drop-role : Unique sessions.drop.Kinds.ps sessions.drop.Kinds.r sessions.drop.Reads.Post
-  pub end-session : Unique sessions.end.Kinds.ps sessions.end.Kinds.r sessions.end.Reads.Post
+  pub session : UniqueState sessions.session.Kinds.ps sessions.session.Kinds.r sessions.session.Reads.Post (λ κs e. e .0 .now)
+  pub activate : UniqueState sessions.activate.Kinds.ps sessions.activate.Kinds.r sessions.activate.Reads.Post (λ κs e. e .0 .now)
+  pub drop-role : UniqueState sessions.drop.Kinds.ps sessions.drop.Kinds.r sessions.drop.Reads.Post (λ κs e. e .0 .now)
+  pub end-session : UniqueState sessions.end.Kinds.ps sessions.end.Kinds.r sessions.end.Reads.Post (λ κs e. e .0 .now)
   pub owner : Unique sessions.owner.Kinds.ps sessions.owner.Kinds.r sessions.owner.Reads.Post
-  pub check-lent : Unique sessions.check_lent.Kinds.ps sessions.check_lent.Kinds.r sessions.check_lent.Reads.Post
   pub check : Unique sessions.check.Kinds.ps sessions.check.Kinds.r sessions.check.Reads.Post
 
 -- ---- engine: every command through one function
 
 pub record Engine : Type 0 where
-  pub step : Unique engine.step.Kinds.ps engine.step.Kinds.r engine.step.Reads.Post
+  pub step : UniqueState engine.step.Kinds.ps engine.step.Kinds.r engine.step.Reads.Post (λ κs e. e .0 .now)
 
 -- ---- reviews: the reviews, with the buffer lent
 
@@ -184,7 +217,7 @@ pub record Policywrite : Type 0 where
 -- ---- policyread: a state gathered from any bytes
 
 pub record Policyread : Type 0 where
-  pub gather : Unique policyread.gather.Kinds.ps policyread.gather.Kinds.r policyread.gather.Reads.Post
+  pub gather : UniqueState policyread.gather.Kinds.ps policyread.gather.Kinds.r policyread.gather.Reads.Post (λ κs e. e .1 .0 .now)
 
 -- ---- policycheck: a policy that was read, asked
 
@@ -196,4 +229,4 @@ pub record Policycheck : Type 0 where
 
 pub record Policyfile : Type 0 where
   pub save : UniqueLent policyfile.save.Kinds.ps policyfile.save.Kinds.r policyfile.save.Reads.Post (λ κs e. e .1 .0 .now)
-  pub load : Unique policyfile.load.Kinds.ps policyfile.load.Kinds.r policyfile.load.Reads.Post
+  pub load : UniqueState policyfile.load.Kinds.ps policyfile.load.Kinds.r policyfile.load.Reads.Post (λ κs e. e .0 .now)

@@ -5,7 +5,7 @@ use Rattle.words.proofs as words
 use Rattle.lines.proofs as lines
 use Rattle.reading.proofs as reading
 use Rattle.script.proofs as script
-use Rattle.unique.specs.Unique.{Unique, UniqueLent, UniqueSeen}
+use Rattle.unique.specs.Unique.{Unique, UniqueLent, UniqueSeen, UniqueBoth}
 
 -- ---- words: the words of a script
 
@@ -36,5 +36,5 @@ pub record Reading : Type 0 where
 pub record Script : Type 0 where
   pub answer-text : UniqueLent script.answer_text.Kinds.ps script.answer_text.Kinds.r script.answer_text.Reads.Post (λ κs e. e .0 .now)
   pub total-text : UniqueLent script.total_text.Kinds.ps script.total_text.Kinds.r script.total_text.Reads.Post (λ κs e. e .0 .now)
-  pub answer-line : UniqueLent script.answer_line.Kinds.ps script.answer_line.Kinds.r script.answer_line.Reads.Post (λ κs e. e .1 .1 .0 .now)
-  pub turn : UniqueLent script.turn.Kinds.ps script.turn.Kinds.r script.turn.Reads.Post (λ κs e. e .1 .1 .0 .now)
+  pub answer-line : UniqueBoth script.answer_line.Kinds.ps script.answer_line.Kinds.r script.answer_line.Reads.Post (λ κs e. e .0 .now) (λ κs e. e .1 .1 .0 .now)
+  pub turn : UniqueBoth script.turn.Kinds.ps script.turn.Kinds.r script.turn.Reads.Post (λ κs e. e .1 .0 .now) (λ κs e. e .1 .1 .1 .0 .now)
