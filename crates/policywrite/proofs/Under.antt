@@ -1,20 +1,20 @@
 -- A section that is being written: the numbers below a limit are asked in turn, and the entries of those that pass the test are written past the
--- place of their count, which is written last. Every loop of this crate is one. Assumes nothing.
+-- place of their count, which is written last. Users, sets and sessions are written so. Assumes nothing.
 use mathlib.Core.Bool.{Bool, true, false}
-use mathlib.Core.List.{List, [], _∷_, _++_}
+use mathlib.Core.List.{List, [], _∷_}
 use mathlib.Core.Path.{_≡_, sym, ap, _∙_}
 use Prim.Native.Nat.{ℕ, _+_, _*_, _≤_, _<_}
 use native.Mathlib.Nat.{mul-suc}
 use native.Mathlib.Numerals.{add-one}
 use native.Mathlib.Omega.{arith}
 use lib.ListN.{length, length-append}
-use lib.Seq.{sets}
 use Rattle.roleset.specs.Bounded.{members}
 use Rattle.roleset.proofs.MembersLaws.{members-start, members-taken, members-left}
 use Rattle.text.specs.Bytes.{two, flat, section}
 use Rattle.text.specs.Places.{Wrote}
-use Rattle.text.proofs.Writing.{sets-front, wrote-none, wrote-more, wrote-length, flat-none, flat-one, flat-append}
+use Rattle.text.proofs.Writing.{wrote-none, wrote-more, wrote-length, flat-none, flat-one, flat-append}
 use Rattle.policywrite.specs.Parts.{Part}
+use Rattle.policywrite.proofs.Sections.{section-counted}
 
 -- of the numbers below `all`, those below k were asked; n of them passed, and their entries, none wider than `wide`, are written
 pub record Under (put : ℕ → List ℕ) (test : ℕ → Bool) (wide all : ℕ) (before after : List ℕ) (at place n k : ℕ) : Type 0 where
@@ -39,12 +39,7 @@ module _ {put : ℕ → List ℕ} {test : ℕ → Bool} {wide all : ℕ} where
 
   -- all were asked, and the count is written in front
   pub under-end : {a b d : List ℕ} {at i n k j most : ℕ} → all ≤ k → 2 + wide * all ≤ most → Under put test wide all a b at i n k → Wrote b d at j (two n) → Part a d at i most (section put (members all test))
-  unfolding section
-  under-end {a} {b} {d} {at} {i} {n} {k} h m u x =
-      let last : k ≡ all = omega (arith, u .within) in
-      let entries = flat put (members k test) in
-      let whole : Wrote a d at i (section put (members k test)) = record { buffer = x .buffer ∙ ap (λ (l : List ℕ). sets l at (two n)) (u .written .buffer) ∙ sets-front a at (two n) entries ∙ ap (λ (c : ℕ). sets a at (two c ++ entries)) (u .counted); next = omega (arith, u .written .next, length-append (two (length (members k test))) entries) } in
-      record { wrote = rw last at whole; room = omega (arith, rw last at (u .room)) }
+  under-end {k = k} h m u x = let last : k ≡ all = omega (arith, u .within) in record { wrote = rw last at (section-counted put (members k test) (u .counted) (u .written) x); room = omega (arith, rw last at (u .room)) }
 
   -- the buffer is as long as it was
   pub under-length : {a b d : List ℕ} {at i n k j : ℕ} → Under put test wide all a b at i n k → Wrote b d at j (two n) → length d ≡ length a
