@@ -2,3 +2,4 @@
 pub mod Unique
 pub mod Handed
 pub mod Scripts
+pub mod Frame
