@@ -1,11 +1,10 @@
 -- Breaking is monotone: what no role held breaks, is broken by any roles held. Where nothing is in common, only a cardinality of 0 is reached. Assumes nothing.
-use mathlib.Core.Bool.{Bool, true, false, _&&_}
+use mathlib.Core.Bool.{true}
 use mathlib.Core.Path.{_≡_, sym, ap, _∙_}
 use Prim.Native.Nat.{ℕ, _<_}
 use native.Mathlib.Omega.{arith}
 use lib.Dec.{eqb, leb}
 use borrow.Author.Tests.{eqb-true, eq-eqb, leb-true, le-leb}
-use Rattle.roleset.specs.Bounded.{some}
 use Rattle.roleset.specs.Roles.{has, both, count}
 use Rattle.roleset.proofs.BoundedLaws.{clash, agree, and-left, and-right, and-both, some-intro, some-elim}
 use Rattle.roleset.proofs.Laws.{has-both, has-none, count-mono, count-none}

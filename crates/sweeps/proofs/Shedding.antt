@@ -1,23 +1,58 @@
 -- What a sweep that sheds gives, said of a model with the same lines, assignments and sessions. Assumes nothing.
+use mathlib.Core.Bool.{Bool, true, false}
 use mathlib.Core.List.{List}
-use mathlib.Core.Path.{_≡_, sym, ap, _∙_}
-use Prim.Native.Nat.{ℕ}
-use Rattle.model.specs.Model.{Model, Session, withSessions}
-use Rattle.model.specs.Words.{shed, shedCut, shedded}
-use Rattle.policy.specs.View.{sessionsIn}
+use mathlib.Core.Path.{_≡_, refl, sym, ap, _∙_, fun-ext, subst}
+use Prim.Native.Nat.{ℕ, _≤_, _<_}
+use native.Mathlib.Omega.{arith}
+use native.Mathlib.Decide.{decLt}
+use lib.Seq.{getD-take}
+use Rattle.hierarchy.specs.Walks.{reach}
+use Rattle.model.specs.Model.{Model, Session, noSession, withSessions}
+use Rattle.model.specs.Words.{shed, shedCut, shedded, keeping}
+use Rattle.state.specs.Places.{ownersAt, activeAt}
+use Rattle.state.specs.Stores.{withActive}
+use Rattle.state.specs.View.{part, view}
+use Rattle.state.proofs.Slots.{part-none}
 use Rattle.sweeps.specs.Sweeps.{ShedsAll}
 use Rattle.sweeps.specs.declared.Kept.{Kept}
 
-module _ (m : Model) (juniors assigned : ℕ → ℕ) (before : List Session) (kept : Kept) (sheds : ShedsAll juniors assigned before kept) (lines : juniors ≡ m .juniors) (holds : assigned ≡ m .assigned) (same : sessionsIn before ≡ m .sessions) where
+-- past the 64 sessions of a state there is none
+pub view-past : (l : List ℕ) (k : ℕ) → 64 ≤ k → view l .sessions k ≡ noSession
+unfolding view
+view-past l k h = rw (part-none l ownersAt 64 k h, part-none l activeAt 64 k h)
+
+-- the same of equal tables
+pub sheds-same : {j j′ a a′ : ℕ → ℕ} {s s′ : ℕ → Session} (x : Kept) → j ≡ j′ → a ≡ a′ → s ≡ s′ → ShedsAll j a s x → ShedsAll j′ a′ s′ x
+sheds-same x p q r h = subst (λ (T : Type 0). T) (λ i. ShedsAll (p i) (q i) (r i) x) h
+
+-- shedding leaves all but the active roles
+shedded-active : (juniors assigned : ℕ → ℕ) (s : Session) → shedded juniors assigned s ≡ record { live = s .live; owner = s .owner; active = shedded juniors assigned s .active }
+unfolding shedded
+shedded-active juniors assigned s = go (s .live)
+  where
+    after : Bool → Session
+    after b = elim b [ true ↦ keeping s (reach juniors (assigned (s .owner)) .roles) | false ↦ s ]
+
+    go : (b : Bool) → after b ≡ record { live = s .live; owner = s .owner; active = after b .active }
+    go true = refl
+    go false = refl
+
+-- no session sheds nothing
+shedded-none : (juniors assigned : ℕ → ℕ) → shedded juniors assigned noSession ≡ noSession
+unfolding shedded
+shedded-none juniors assigned = refl
+
+module _ (m : Model) (kept : Kept) (sheds : ShedsAll (m .juniors) (m .assigned) (m .sessions) kept) where
   -- the sweep was cut off exactly when the definition says so
   pub shed-cut : shedCut m ≡ kept .cut
   unfolding shedCut
-  shed-cut = rw (← lines, ← holds, ← same) (sym (sheds .cut))
+  shed-cut = sym (sheds .cut)
 
   -- the sessions that it leaves are those of the model after shedding
-  pub shed-after : shed m ≡ withSessions m (sessionsIn (kept .sessions))
+  pub shed-after : ((k : ℕ) → 64 ≤ k → m .sessions k ≡ noSession) → shed m ≡ withSessions m (withActive (m .sessions) (part (kept .active) 0 64))
   unfolding shed
-  shed-after = ap (withSessions m) (sessions-after ∙ sym (sheds .each))
+  shed-after past = ap (withSessions m) (fun-ext (λ k. go k (decLt k 64)))
     where
-      sessions-after : _≡_ {A = ℕ → Session} (λ k. shedded (m .juniors) (m .assigned) (m .sessions k)) (λ k. shedded juniors assigned (sessionsIn before k))
-      sessions-after = rw (← lines, ← holds, ← same)
+      go : (k : ℕ) → Dec (k < 64) → shedded (m .juniors) (m .assigned) (m .sessions k) ≡ withActive (m .sessions) (part (kept .active) 0 64) k
+      go k (yes p) = shedded-active (m .juniors) (m .assigned) (m .sessions k) ∙ ap (λ (x : ℕ). record { live = m .sessions k .live; owner = m .sessions k .owner; active = x }) (sym (getD-take 64 (kept .active) k 0 p ∙ sheds .each k p))
+      go k (no p) = let z : 64 ≤ k = omega arith in rw (past k z, part-none (kept .active) 0 64 k z) (shedded-none (m .juniors) (m .assigned))

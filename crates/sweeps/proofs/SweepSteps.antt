@@ -1,31 +1,32 @@
 -- What one turn of a sweep does to one session: shedding, and ending. Assumes nothing.
 use mathlib.Core.Bool.{Bool, true, false, _&&_, and-false}
-use mathlib.Core.Path.{_≡_, sym, ap, _∙_}
-use Prim.Native.Nat.{ℕ}
+use mathlib.Core.Logic.{_⊎_, inl, inr}
+use mathlib.Core.Path.{_≡_, refl, sym, ap, _∙_, fun-ext}
+use Prim.Native.Nat.{ℕ, _+_, _≤_, _<_}
+use native.Mathlib.Omega.{arith}
+use native.Mathlib.Decide.{decLt}
 use lib.Dec.{eqb}
 use Rattle.roleset.specs.Roles.{both}
+use Rattle.roleset.proofs.BoundedLaws.{last-or-below}
 use Rattle.hierarchy.specs.Walks.{reach}
 use Rattle.hierarchy.specs.declared.Walk.{Walk}
-use Rattle.model.specs.Model.{Session, noSession}
-use Rattle.model.specs.Words.{keeping, shedded}
-use Rattle.model.specs.commands.Users.{endedOf}
+use Rattle.model.specs.Model.{Model, Session, noSession, put, withSessions}
+use Rattle.model.specs.Words.{shedded}
+use Rattle.model.specs.commands.Sessions.{sessionSet}
+use Rattle.model.specs.commands.Users.{endedOf, allEnded}
+use Rattle.model.proofs.Puts.{put-same, put-other}
+use Rattle.sweeps.specs.Sweeps.{Keeps}
 
 module _ (juniors assigned : ℕ → ℕ) (s : Session) where
   -- a live session keeps what its owner's walk meets
-  pub shed-live : (w : Walk) (x : ℕ) → s .live ≡ true → w ≡ reach juniors (assigned (s .owner)) → x ≡ both (s .active) (w .roles) → record { live = true; owner = s .owner; active = x } ≡ shedded juniors assigned s
+  pub keeps-live : (w : Walk) (x : ℕ) → s .live ≡ true → w ≡ reach juniors (assigned (s .owner)) → x ≡ both (s .active) (w .roles) → Keeps juniors assigned s (record { roles = x; cut = w .cut })
   unfolding shedded
-  shed-live w x h e f = rw (f, e, h, shedded, h)
-
-  pub cut-live : (w : Walk) (b : Bool) → s .live ≡ true → w ≡ reach juniors (assigned (s .owner)) → w .cut ≡ b → (s .live && reach juniors (assigned (s .owner)) .cut) ≡ b
-  cut-live w b h e f = rw (h, ← e) f
+  keeps-live w x h e f = record { roles = f ∙ rw (e, shedded, h); cut = rw (h, e) }
 
   -- any other is as it was
-  pub shed-dead : s .live ≡ false → s ≡ shedded juniors assigned s
+  pub keeps-dead : s .live ≡ false → Keeps juniors assigned s (record { roles = s .active; cut = false })
   unfolding shedded
-  shed-dead h = sym (ap (λ (b : Bool). elim b [ true ↦ keeping s (reach juniors (assigned (s .owner)) .roles) | false ↦ s ]) h)
-
-  pub cut-dead : s .live ≡ false → (s .live && reach juniors (assigned (s .owner)) .cut) ≡ false
-  cut-dead h = rw h
+  keeps-dead h = record { roles = rw (shedded, h); cut = rw h }
 
 -- a live session of the user ends; one that is not live, or another's, is as it was
 pub end-own : (u : ℕ) (s : Session) → s .live ≡ true → eqb (s .owner) u ≡ true → noSession ≡ endedOf u s
@@ -39,3 +40,41 @@ end-dead u s h = sym (ap (λ (b : Bool). elim (b && eqb (s .owner) u) [ true ↦
 pub end-other : (u : ℕ) (s : Session) → eqb (s .owner) u ≡ false → s ≡ endedOf u s
 unfolding endedOf
 end-other u s e = sym (ap (λ (b : Bool). elim b [ true ↦ noSession | false ↦ s ]) (ap (λ (b : Bool). s .live && b) e ∙ and-false (s .live)))
+
+-- the sessions of the user below n have ended, and all else is as it was
+module _ (m : Model) (u : ℕ) where
+  pub record Ended (n : ℕ) (after : Model) : Type 0 where
+    pub rest : after ≡ withSessions m (after .sessions)
+    pub done : (k : ℕ) → k < n → after .sessions k ≡ endedOf u (m .sessions k)
+    pub left : (k : ℕ) → n ≤ k → after .sessions k ≡ m .sessions k
+
+  pub ended-start : Ended 0 m
+  ended-start = record { rest = refl; done = λ k p. absurd (omega arith); left = λ k p. refl }
+
+  -- the next session ends
+  pub ended-one : (n : ℕ) (before after : Model) → Ended n before → after ≡ sessionSet before n noSession → noSession ≡ endedOf u (m .sessions n) → Ended (n + 1) after
+  ended-one n before after d e h = record { rest = e ∙ ap (λ (x : Model). withSessions x (put (before .sessions) n noSession)) (d .rest) ∙ sym (ap (λ (x : Model). withSessions m (x .sessions)) e); done = λ k p. at k ∙ go k (last-or-below k n (omega arith)); left = λ k p. at k ∙ put-other (before .sessions) n noSession k (λ q. omega arith) ∙ d .left k (omega arith) }
+    where
+      at : (k : ℕ) → after .sessions k ≡ put (before .sessions) n noSession k
+      at k = ap (λ (x : Model). x .sessions k) e
+
+      go : (k : ℕ) → (k ≡ n) ⊎ (k < n) → put (before .sessions) n noSession k ≡ endedOf u (m .sessions k)
+      go k (inl p) = rw p (put-same (before .sessions) n noSession ∙ h)
+      go k (inr p) = put-other (before .sessions) n noSession k (λ q. omega arith) ∙ d .done k p
+
+  -- the next session stays
+  pub ended-none : (n : ℕ) (after : Model) → Ended n after → m .sessions n ≡ endedOf u (m .sessions n) → Ended (n + 1) after
+  ended-none n after d h = record { rest = d .rest; done = λ k p. go k (last-or-below k n (omega arith)); left = λ k p. d .left k (omega arith) }
+    where
+      go : (k : ℕ) → (k ≡ n) ⊎ (k < n) → after .sessions k ≡ endedOf u (m .sessions k)
+      go k (inl p) = rw p (d .left n (omega arith) ∙ h)
+      go k (inr p) = d .done k p
+
+  -- all are passed, and there are none past them
+  pub ended-all : (n : ℕ) (after : Model) → ((k : ℕ) → n ≤ k → m .sessions k ≡ noSession) → Ended n after → after ≡ allEnded m u
+  unfolding allEnded
+  ended-all n after past d = d .rest ∙ ap (withSessions m) (fun-ext (λ k. go k (decLt k n)))
+    where
+      go : (k : ℕ) → Dec (k < n) → after .sessions k ≡ endedOf u (m .sessions k)
+      go k (yes p) = d .done k p
+      go k (no p) = let z : n ≤ k = omega arith in d .left k z ∙ end-dead u (m .sessions k) (ap (λ (s : Session). s .live) (past k z))

@@ -1,6 +1,5 @@
 -- The rule of one set is a count of the roles that it shares with those held; where it shares none, a test of the cardinality. Assumes nothing.
 use borrow.Author.Needs.{needs}
-use mathlib.Core.Path.{refl}
 use Rattle.model.specs.Words.{breaks}
 use Rattle.separation.proofs.Breaking.{none-common}
 use Rattle.separation.proofs.breaks.Statement.{statement}
