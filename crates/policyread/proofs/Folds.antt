@@ -8,14 +8,13 @@ use native.Mathlib.Decide.{decLt}
 use native.Mathlib.Numerals.{add-one}
 use native.Mathlib.Omega.{arith}
 use lib.Dec.{eqb, ltb}
-use lib.ListN.{length, getD, set, length-set, List·getD-eq-default}
-use lib.Seq.{getD-set-same, getD-set-other}
 use borrow.Author.Tests.{eqb-true, eqb-false, lt-ltb, le-ltb}
 use Rattle.roleset.specs.Bounded.{onlyIf, members}
 use Rattle.roleset.specs.Roles.{has, with}
 use Rattle.roleset.proofs.Laws.{ext, has-none, has-with, with-small}
 use Rattle.roleset.proofs.BoundedLaws.{clash, last-or-below}
-use Rattle.policyread.specs.Steps.{mark}
+use Rattle.model.specs.Model.{put}
+use Rattle.model.proofs.Puts.{put-same, put-other}
 
 -- entry by entry, in the order of the numbers
 module _ {A : Type 0} (act : A → ℕ → A) (test : ℕ → Bool) (P : ℕ → A → Type 0) (taken : (n : ℕ) (a : A) → test n ≡ true → P n a → P (n + 1) (act a n)) (left : (n : ℕ) (a : A) → test n ≡ false → P n a → P (n + 1) a) where
@@ -30,40 +29,39 @@ module _ {A : Type 0} (act : A → ℕ → A) (test : ℕ → Bool) (P : ℕ →
 
 -- a record at each place that passes the test
 module _ {A : Type 0} (d : A) (g : ℕ → A) (test : ℕ → Bool) (size : ℕ) (absent : (k : ℕ) → test k ≡ false → g k ≡ d) (small : (k : ℕ) → test k ≡ true → k < size) where
-  -- the array of which the places below n are gathered
-  record Placed (n : ℕ) (l : List A) : Type 0 where
-    pub long : length l ≡ size
-    pub done : (k : ℕ) → k < n → getD l k d ≡ g k
-    pub left : (k : ℕ) → n ≤ k → getD l k d ≡ d
+  abbrev placing : (ℕ → A) → ℕ → ℕ → A
+  placing t n = put t n (g n)
 
-  placed-taken : (n : ℕ) (l : List A) → test n ≡ true → Placed n l → Placed (n + 1) (set l n (g n))
-  placed-taken n l e p = record { long = length-set l n (g n) ∙ p .long; done = λ k h. go k (last-or-below k n (omega arith)); left = λ k h. getD-set-other l n k (g n) d (λ q. omega arith) ∙ p .left k (omega arith) }
+  -- the table of which the places below n are gathered
+  record Placed (n : ℕ) (t : ℕ → A) : Type 0 where
+    pub done : (k : ℕ) → k < n → t k ≡ g k
+    pub left : (k : ℕ) → n ≤ k → t k ≡ d
+
+  placed-taken : (n : ℕ) (t : ℕ → A) → test n ≡ true → Placed n t → Placed (n + 1) (placing t n)
+  placed-taken n t e p = record { done = λ k h. go k (last-or-below k n (omega arith)); left = λ k h. put-other t n (g n) k (λ q. omega arith) ∙ p .left k (omega arith) }
     where
-      inside : n < size
-      inside = small n e
+      go : (k : ℕ) → (k ≡ n) ⊎ (k < n) → put t n (g n) k ≡ g k
+      go k (inl q) = rw q (put-same t n (g n))
+      go k (inr q) = put-other t n (g n) k (λ r. omega arith) ∙ p .done k q
 
-      go : (k : ℕ) → (k ≡ n) ⊎ (k < n) → getD (set l n (g n)) k d ≡ g k
-      go k (inl q) = rw q (getD-set-same l n (g n) d (omega (arith, p .long, inside)))
-      go k (inr q) = getD-set-other l n k (g n) d (λ r. omega arith) ∙ p .done k q
-
-  placed-left : (n : ℕ) (l : List A) → test n ≡ false → Placed n l → Placed (n + 1) l
-  placed-left n l e p = record { long = p .long; done = λ k h. go k (last-or-below k n (omega arith)); left = λ k h. p .left k (omega arith) }
+  placed-left : (n : ℕ) (t : ℕ → A) → test n ≡ false → Placed n t → Placed (n + 1) t
+  placed-left n t e p = record { done = λ k h. go k (last-or-below k n (omega arith)); left = λ k h. p .left k (omega arith) }
     where
-      go : (k : ℕ) → (k ≡ n) ⊎ (k < n) → getD l k d ≡ g k
+      go : (k : ℕ) → (k ≡ n) ⊎ (k < n) → t k ≡ g k
       go k (inl q) = rw q (p .left n (omega arith) ∙ sym (absent n e))
       go k (inr q) = p .done k q
 
-  pub records-back : (l : List A) → length l ≡ size → ((k : ℕ) → getD l k d ≡ d) → _≡_ {A = ℕ → A} (λ k. getD (foldl (λ (t : List A) (n : ℕ). set t n (g n)) l (members size test)) k d) g
-  records-back l long none = fun-ext (λ k. go k (decLt k size))
+  pub records-back : foldl placing (λ k. d) (members size test) ≡ g
+  records-back = fun-ext (λ k. go k (decLt k size))
     where
-      all : Placed size (foldl (λ (t : List A) (n : ℕ). set t n (g n)) l (members size test))
-      all = fold-members (λ (t : List A) (n : ℕ). set t n (g n)) test Placed placed-taken placed-left size l (record { long = long; done = λ k h. absurd (omega arith); left = λ k h. none k })
+      all : Placed size (foldl placing (λ k. d) (members size test))
+      all = fold-members placing test Placed placed-taken placed-left size (λ k. d) (record { done = λ k h. absurd (omega arith); left = λ k h. refl })
 
       outside : (k : ℕ) → size ≤ k → (b : Bool) → test k ≡ b → test k ≡ false
       outside k h true e = let s = small k e in absurd (omega arith)
       outside k h false e = e
 
-      go : (k : ℕ) → Dec (k < size) → getD (foldl (λ (t : List A) (n : ℕ). set t n (g n)) l (members size test)) k d ≡ g k
+      go : (k : ℕ) → Dec (k < size) → foldl placing (λ k. d) (members size test) k ≡ g k
       go k (yes p) = all .done k p
       go k (no p) = all .left k (omega arith) ∙ sym (absent k (outside k (omega arith) (test k) refl))
 
@@ -129,21 +127,25 @@ pub record Numbered (size all : ℕ) (row col : ℕ → ℕ) (num : ℕ → ℕ 
   pub place : (i r : ℕ) → i < size → r < 64 → row (num i r) ≡ i
   pub role : (i r : ℕ) → i < size → r < 64 → col (num i r) ≡ r
   pub number : (k : ℕ) → num (row k) (col k) ≡ k
+  pub inside : (k : ℕ) → k < all → row k < size
 
 module _ (size all : ℕ) (row col : ℕ → ℕ) (num : ℕ → ℕ → ℕ) (fit : Numbered size all row col num) (table : ℕ → ℕ) (small : (i : ℕ) → table i < 2 ^ 64) (none : (i : ℕ) → size ≤ i → table i ≡ 0) where
+  -- entry k is added
+  abbrev marking : (ℕ → ℕ) → ℕ → ℕ → ℕ
+  marking t k = put t (row k) (with (t (row k)) (col k))
+
   -- the table of which the entries below n are gathered
-  record Marked (n : ℕ) (t : List ℕ) : Type 0 where
-    pub long : length t ≡ size
-    pub fine : (i : ℕ) → i < size → getD t i 0 < 2 ^ 64
-    pub each : (i r : ℕ) → i < size → r < 64 → has (getD t i 0) r ≡ (ltb (num i r) n && has (table i) r)
+  record Marked (n : ℕ) (t : ℕ → ℕ) : Type 0 where
+    pub past : (i : ℕ) → size ≤ i → t i ≡ 0
+    pub fine : (i : ℕ) → i < size → t i < 2 ^ 64
+    pub each : (i r : ℕ) → i < size → r < 64 → has (t i) r ≡ (ltb (num i r) n && has (table i) r)
 
   -- another place or another role is another entry
   other : (n i r : ℕ) → i < size → r < 64 → (row n ≡ i → col n ≡ r → ⊥) → num i r ≡ n → ⊥
   other n i r h l x e = x (ap row (sym e) ∙ fit .place i r h l) (ap col (sym e) ∙ fit .role i r h l)
 
-  marked-taken : (n : ℕ) (t : List ℕ) → has (table (row n)) (col n) ≡ true → Marked n t → Marked (n + 1) (mark t (row n) (col n))
-  unfolding mark
-  marked-taken n t e m = record { long = length-set t (row n) _ ∙ m .long; fine = λ i h. fine i h (eqb i (row n)) refl; each = λ i r h l. each i r h l (eqb i (row n)) refl }
+  marked-taken : (n : ℕ) (t : ℕ → ℕ) → has (table (row n)) (col n) ≡ true → Marked n t → Marked (n + 1) (marking t n)
+  marked-taken n t e m = record { past = λ i h. put-other t (row n) new i (λ e. omega (arith, inside)) ∙ m .past i h; fine = λ i h. fine i h (eqb i (row n)) refl; each = λ i r h l. each i r h l (eqb i (row n)) refl }
     where
       within : Dec (row n < size) → row n < size
       within (yes p) = p
@@ -153,22 +155,22 @@ module _ (size all : ℕ) (row col : ℕ → ℕ) (num : ℕ → ℕ → ℕ) (f
       inside = within (decLt (row n) size)
 
       new : ℕ
-      new = with (getD t (row n) 0) (col n)
+      new = with (t (row n)) (col n)
 
-      fine : (i : ℕ) → i < size → (b : Bool) → eqb i (row n) ≡ b → getD (set t (row n) new) i 0 < 2 ^ 64
-      fine i h true q = rw (eqb-true i (row n) q, getD-set-same t (row n) new 0 (omega (arith, m .long, inside))) (with-small (getD t (row n) 0) (col n))
-      fine i h false q = rw (getD-set-other t (row n) i new 0 (eqb-false i (row n) q)) (m .fine i h)
+      fine : (i : ℕ) → i < size → (b : Bool) → eqb i (row n) ≡ b → put t (row n) new i < 2 ^ 64
+      fine i h true q = rw (eqb-true i (row n) q, put-same t (row n) new) (with-small (t (row n)) (col n))
+      fine i h false q = rw (put-other t (row n) new i (eqb-false i (row n) q)) (m .fine i h)
 
-      here : (r : ℕ) → r < 64 → (b : Bool) → eqb r (col n) ≡ b → (has (getD t (row n) 0) r || eqb r (col n)) ≡ (ltb (num (row n) r) (n + 1) && has (table (row n)) r)
-      here r l true q = let p = eqb-true r (col n) q in rw (q, p, fit .number n, lt-ltb n (n + 1) (omega arith), e) (or-yes (has (getD t (row n) 0) (col n)))
-      here r l false q = rw q (or-no (has (getD t (row n) 0) r) ∙ m .each (row n) r inside l ∙ sym (below-next (num (row n) r) n (has (table (row n)) r) (other n (row n) r inside l (λ a b. eqb-false r (col n) q (sym b)))))
+      here : (r : ℕ) → r < 64 → (b : Bool) → eqb r (col n) ≡ b → (has (t (row n)) r || eqb r (col n)) ≡ (ltb (num (row n) r) (n + 1) && has (table (row n)) r)
+      here r l true q = let p = eqb-true r (col n) q in rw (q, p, fit .number n, lt-ltb n (n + 1) (omega arith), e) (or-yes (has (t (row n)) (col n)))
+      here r l false q = rw q (or-no (has (t (row n)) r) ∙ m .each (row n) r inside l ∙ sym (below-next (num (row n) r) n (has (table (row n)) r) (other n (row n) r inside l (λ a b. eqb-false r (col n) q (sym b)))))
 
-      each : (i r : ℕ) → i < size → r < 64 → (b : Bool) → eqb i (row n) ≡ b → has (getD (set t (row n) new) i 0) r ≡ (ltb (num i r) (n + 1) && has (table i) r)
-      each i r h l true q = rw (eqb-true i (row n) q, getD-set-same t (row n) new 0 (omega (arith, m .long, inside))) (has-with (getD t (row n) 0) (col n) r l ∙ here r l (eqb r (col n)) refl)
-      each i r h l false q = rw (getD-set-other t (row n) i new 0 (eqb-false i (row n) q)) (m .each i r h l ∙ sym (below-next (num i r) n (has (table i) r) (other n i r h l (λ a b. eqb-false i (row n) q (sym a)))))
+      each : (i r : ℕ) → i < size → r < 64 → (b : Bool) → eqb i (row n) ≡ b → has (put t (row n) new i) r ≡ (ltb (num i r) (n + 1) && has (table i) r)
+      each i r h l true q = rw (eqb-true i (row n) q, put-same t (row n) new) (has-with (t (row n)) (col n) r l ∙ here r l (eqb r (col n)) refl)
+      each i r h l false q = rw (put-other t (row n) new i (eqb-false i (row n) q)) (m .each i r h l ∙ sym (below-next (num i r) n (has (table i) r) (other n i r h l (λ a b. eqb-false i (row n) q (sym a)))))
 
-  marked-left : (n : ℕ) (t : List ℕ) → has (table (row n)) (col n) ≡ false → Marked n t → Marked (n + 1) t
-  marked-left n t e m = record { long = m .long; fine = m .fine; each = λ i r h l. m .each i r h l ∙ sym (go i r h l (eqb (num i r) n) refl) }
+  marked-left : (n : ℕ) (t : ℕ → ℕ) → has (table (row n)) (col n) ≡ false → Marked n t → Marked (n + 1) t
+  marked-left n t e m = record { past = m .past; fine = m .fine; each = λ i r h l. m .each i r h l ∙ sym (go i r h l (eqb (num i r) n) refl) }
     where
       go : (i r : ℕ) → i < size → r < 64 → (b : Bool) → eqb (num i r) n ≡ b → (ltb (num i r) (n + 1) && has (table i) r) ≡ (ltb (num i r) n && has (table i) r)
       go i r h l true q =
@@ -176,13 +178,13 @@ module _ (size all : ℕ) (row col : ℕ → ℕ) (num : ℕ → ℕ → ℕ) (f
           below-same (num i r) n (has (table i) r) (ap₂ (λ (a b : ℕ). has (table a) b) (sym (fit .place i r h l) ∙ ap row p) (sym (fit .role i r h l) ∙ ap col p) ∙ e)
       go i r h l false q = below-next (num i r) n (has (table i) r) (eqb-false (num i r) n q)
 
-  pub grid-back : (l : List ℕ) → length l ≡ size → ((k : ℕ) → getD l k 0 ≡ 0) → _≡_ {A = ℕ → ℕ} (λ k. getD (foldl (λ (t : List ℕ) (k : ℕ). mark t (row k) (col k)) l (members all (λ k. has (table (row k)) (col k)))) k 0) table
-  grid-back l long empty = fun-ext (λ i. go i (decLt i size))
+  pub grid-back : foldl marking (λ i. 0) (members all (λ k. has (table (row k)) (col k))) ≡ table
+  grid-back = fun-ext (λ i. go i (decLt i size))
     where
-      done : Marked all (foldl (λ (t : List ℕ) (k : ℕ). mark t (row k) (col k)) l (members all (λ k. has (table (row k)) (col k))))
-      done = fold-members (λ (t : List ℕ) (k : ℕ). mark t (row k) (col k)) (λ k. has (table (row k)) (col k)) Marked marked-taken marked-left all l
-          (record { long = long; fine = λ i h. rw (empty i) (omega arith); each = λ i r h p. rw (empty i, le-ltb (num i r) 0 (omega arith)) (has-none r) })
+      done : Marked all (foldl marking (λ i. 0) (members all (λ k. has (table (row k)) (col k))))
+      done = fold-members marking (λ k. has (table (row k)) (col k)) Marked marked-taken marked-left all (λ i. 0)
+          (record { past = λ i h. refl; fine = λ i h. omega arith; each = λ i r h p. rw (le-ltb (num i r) 0 (omega arith)) (has-none r) })
 
-      go : (i : ℕ) → Dec (i < size) → getD (foldl (λ (t : List ℕ) (k : ℕ). mark t (row k) (col k)) l (members all (λ k. has (table (row k)) (col k)))) i 0 ≡ table i
+      go : (i : ℕ) → Dec (i < size) → foldl marking (λ i. 0) (members all (λ k. has (table (row k)) (col k))) i ≡ table i
       go i (yes p) = ext _ (table i) (done .fine i p) (small i) (λ r h. done .each i r p h ∙ rw (lt-ltb (num i r) all (fit .within i r p h)))
-      go i (no p) = List·getD-eq-default (foldl (λ (t : List ℕ) (k : ℕ). mark t (row k) (col k)) l (members all (λ k. has (table (row k)) (col k)))) 0 {n = i} (omega (arith, done .long)) ∙ sym (none i (omega arith))
+      go i (no p) = done .past i (omega arith) ∙ sym (none i (omega arith))

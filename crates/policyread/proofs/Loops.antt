@@ -1,18 +1,18 @@
--- A section that is being read into an array: so many entries are still to read, and reading them gives the whole. Every loop of this crate is one.
+-- A section that is being read: so many entries are still to read, and reading them gives the whole. Every loop of this crate is one.
 -- Assumes nothing.
-use mathlib.Core.Bool.{Bool, true}
 use mathlib.Core.List.{List}
-use mathlib.Core.Path.{_≡_, refl, sym, ap, ap₂, _∙_}
+use mathlib.Core.Path.{_≡_, refl, sym, ap, _∙_}
 use Prim.Native.Nat.{ℕ, zero, suc, _+_, _*_, _-_, _≤_, _<_}
 use native.Mathlib.Nat.{mul-suc, mul-le-mul-left}
 use native.Mathlib.Omega.{arith}
-use lib.ListN.{length, getD, set, length-set}
-use lib.Seq.{set-out}
 use Rattle.roleset.specs.Roles.{with}
+use Rattle.model.specs.Model.{Model}
 use Rattle.model.specs.Words.{permission}
 use Rattle.text.specs.Places.{wordAt, atMost, again, readSection}
 use Rattle.text.proofs.Reading.{at-most-le}
-use Rattle.policyread.specs.Steps.{mark, readUser, readRole, readPair, readGrant, readEntry, Got, GotEntry}
+use Rattle.policyread.specs.declared.Pairs.{Pairs}
+use Rattle.policyread.specs.declared.Pairs.the-variants.{Lines, Assignments}
+use Rattle.policyread.specs.Steps.{userAdded, pairAdded, grantAdded, readUser, readRole, pairsMost, readPair, readGrant, readEntry, Got, GotEntry}
 
 -- ---- entries still to read
 
@@ -49,47 +49,32 @@ module _ {A : Type 0} {step : ℕ × A → ℕ × A} {whole : ℕ × A} {wide mo
       none : 0 ≡ left
       none = omega arith
 
--- ---- an array that is being filled: entry after entry is put at its place, and one past the end is dropped
-
-pub record Filling {B : Type 0} (step : ℕ × List B → ℕ × List B) (whole : ℕ × List B) (wide most at size left place : ℕ) (l : List B) : Type 0 where
-  pub long : length l ≡ size
-  pub rest : Left step whole wide most at left place l
-
-module _ {B : Type 0} {step : ℕ × List B → ℕ × List B} {whole : ℕ × List B} {wide most at size : ℕ} where
-  -- the entry that was read is put at its place
-  pub filling-put : {left place next : ℕ} {l after : List B} (i : ℕ) (v : B) → 0 < left → step (place, l) ≡ (next, set l i v) → next ≤ place + wide → after ≡ set l i v → Filling step whole wide most at size left place l → Filling step whole wide most at size (left - 1) next after
-  filling-put {next = next} {l} i v h e w p f = record { long = ap length p ∙ length-set l i v ∙ f .long; rest = left-step h (e ∙ ap (λ (m : List B). (next, m)) (sym p)) w (f .rest) }
-
-  -- it has no place
-  pub filling-past : {left place next : ℕ} {l : List B} (i : ℕ) (v : B) → 0 < left → step (place, l) ≡ (next, set l i v) → next ≤ place + wide → size ≤ i → Filling step whole wide most at size left place l → Filling step whole wide most at size (left - 1) next l
-  filling-past {next = next} {l} i v h e w p f = record { long = f .long; rest = left-step h (e ∙ ap (λ (m : List B). (next, m)) (set-out l i v (omega (arith, f .long)))) w (f .rest) }
-
--- a role is added at the place
-pub filling-mark : {step : ℕ × List ℕ → ℕ × List ℕ} {whole : ℕ × List ℕ} {wide most at size left place next : ℕ} {l after : List ℕ} (i r : ℕ) → 0 < left → step (place, l) ≡ (next, mark l i r) → next ≤ place + wide → after ≡ mark l i r → Filling step whole wide most at size left place l → Filling step whole wide most at size (left - 1) next after
-unfolding mark
-filling-mark {l = l} i r h e w p f = filling-put i (with (getD l i 0) r) h e w p f
-
--- ---- one entry of each kind, from the numbers that were read for it
+-- ---- one entry of each kind, from the numbers that were read for it and what was stored
 
 module _ (bytes : List ℕ) (at : ℕ) where
-  pub user-was : (l : List Bool) (u : ℕ) → u ≡ wordAt bytes at → readUser bytes (at, l) ≡ (at + 2, set l u true)
+  pub user-was : (m after : Model) (u : ℕ) → u ≡ wordAt bytes at → after ≡ userAdded m u → readUser bytes (at, m) ≡ (at + 2, after)
   unfolding readUser
-  user-was l u p = ap (λ (n : ℕ). (at + 2, set l n true)) (sym p)
+  user-was m after u p q = sym (rw (q, p))
 
   pub role-was : (s r after : ℕ) → r ≡ wordAt bytes at → after ≡ with s r → readRole bytes (at, s) ≡ (at + 2, after)
   unfolding readRole
-  role-was s r after p q = ap (λ (n : ℕ). (at + 2, with s n)) (sym p) ∙ ap (λ (n : ℕ). (at + 2, n)) (sym q)
+  role-was s r after p q = sym (rw (q, p))
 
-  pub pair-was : (l : List ℕ) (i r : ℕ) → i ≡ wordAt bytes at → r ≡ wordAt bytes (at + 2) → readPair bytes (at, l) ≡ (at + 4, mark l i r)
+  pub pair-was : (pairs : Pairs) (m after : Model) (i r : ℕ) → i ≡ wordAt bytes at → r ≡ wordAt bytes (at + 2) → after ≡ pairAdded pairs m i r → readPair pairs bytes (at, m) ≡ (at + 4, after)
   unfolding readPair
-  pair-was l i r p q = ap₂ (λ (n k : ℕ). (at + 4, mark l n k)) (sym p) (sym q)
+  pair-was pairs m after i r p q e = sym (rw (e, p, q))
 
-  pub grant-was : (l : List ℕ) (r op obj : ℕ) → r ≡ wordAt bytes at → op ≡ wordAt bytes (at + 2) → obj ≡ wordAt bytes (at + 4) → readGrant bytes (at, l) ≡ (at + 6, mark l (permission op obj) r)
+  pub grant-was : (m after : Model) (r op obj : ℕ) → r ≡ wordAt bytes at → op ≡ wordAt bytes (at + 2) → obj ≡ wordAt bytes (at + 4) → after ≡ grantAdded m (permission op obj) r → readGrant bytes (at, m) ≡ (at + 6, after)
   unfolding readGrant
-  grant-was l r op obj p q t = sym (rw (p, q, t))
+  grant-was m after r op obj p q t e = sym (rw (e, p, q, t))
 
-pub entry-was : {B : Type 0} {bytes : List ℕ} {at i x next roles : ℕ} (make : ℕ → ℕ → B) (l : List B) → GotEntry bytes at i x next roles → readEntry make bytes (at, l) ≡ (next, set l i (make x roles))
+pub entry-was : {bytes : List ℕ} {at i x next roles : ℕ} (add : Model → ℕ → ℕ → ℕ → Model) (m after : Model) → GotEntry bytes at i x next roles → after ≡ add m i x roles → readEntry add bytes (at, m) ≡ (next, after)
 unfolding readEntry
-entry-was {bytes = bytes} {at} {i} {x} {next} {roles} make l g =
-    ap (λ (r : ℕ × ℕ). (r .0, set l (wordAt bytes at) (make (wordAt bytes (at + 2)) (r .1)))) (sym (g .list .is))
-    ∙ ap₂ (λ (n y : ℕ). (next, set l n (make y roles))) (sym (g .leads)) (sym (g .follows))
+entry-was {bytes} {at} {i} {x} {next} {roles} add m after g e =
+    ap (λ (r : ℕ × ℕ). (r .0, add m (wordAt bytes at) (wordAt bytes (at + 2)) (r .1))) (sym (g .list .is))
+    ∙ sym (rw (e, g .leads, g .follows))
+
+-- no section of pairs may have more than 2,048
+pub pairs-few : (pairs : Pairs) → pairsMost pairs ≤ 2048
+pairs-few Lines = omega arith
+pairs-few Assignments = omega arith

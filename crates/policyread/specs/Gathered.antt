@@ -1,40 +1,46 @@
 -- What is gathered from any bytes, whether or not they are a file: the eight sections, each read from the place past the one before it, into
--- arrays with nothing in them. Assumes nothing.
-use mathlib.Core.Bool.{Bool, false}
+-- a policy with nothing in it; and how many lines, assignments and grants there are then. Assumes nothing.
 use mathlib.Core.List.{List}
 use Prim.Native.Nat.{ℕ}
-use lib.ListN.{replicate}
-use Rattle.hierarchy.specs.Lines.{tableOf}
-use Rattle.model.specs.Model.{Model, RoleSet, Session, noSet, noSession}
-use Rattle.separation.specs.Tables.{setsIn}
-use Rattle.policy.specs.View.{flags, sessionsIn}
+use Rattle.model.specs.Model.{Model, empty, withRoles, withJuniors, withAssigned, withHolders}
+use Rattle.model.specs.declared.Kind.the-variants.{Static, Dynamic}
 use Rattle.text.specs.Places.{readSection}
-use Rattle.policyread.specs.Steps.{readUser, readRoles, readPair, readGrant, readSet, readSession}
+use Rattle.policyread.specs.declared.Pairs.{Pairs}
+use Rattle.policyread.specs.declared.Pairs.the-variants.{Lines, Assignments}
+use Rattle.policyread.specs.Steps.{readUser, readRoles, pairsMost, readPair, readGrant, readSet, readSession}
 
--- each section: the place past it, and what it holds
-unfoldable pub usersRead : List ℕ → ℕ × List Bool
-usersRead bytes = readSection bytes 256 (readUser bytes) 0 (replicate 256 false)
+-- each section: the place past it, and what is gathered so far
+unfoldable pub usersRead : List ℕ → ℕ × Model
+usersRead bytes = readSection bytes 256 (readUser bytes) 0 empty
 
-unfoldable pub rolesRead : List ℕ → ℕ × ℕ
-rolesRead bytes = readRoles bytes (usersRead bytes .0)
+unfoldable pub rolesRead : List ℕ → ℕ × Model
+rolesRead bytes = (readRoles bytes (usersRead bytes .0) .0, withRoles (usersRead bytes .1) (readRoles bytes (usersRead bytes .0) .1))
 
-unfoldable pub linesRead : List ℕ → ℕ × List ℕ
-linesRead bytes = readSection bytes 512 (readPair bytes) (rolesRead bytes .0) (replicate 64 0)
+-- the lines, or the assignments, past what was read before
+abbrev pub pairsRead : Pairs → List ℕ → ℕ × Model → ℕ × Model
+pairsRead pairs bytes p = readSection bytes (pairsMost pairs) (readPair pairs bytes) (p .0) (p .1)
 
-unfoldable pub assignedRead : List ℕ → ℕ × List ℕ
-assignedRead bytes = readSection bytes 2048 (readPair bytes) (linesRead bytes .0) (replicate 256 0)
+unfoldable pub linesRead : List ℕ → ℕ × Model
+linesRead bytes = pairsRead Lines bytes (rolesRead bytes)
 
-unfoldable pub grantsRead : List ℕ → ℕ × List ℕ
-grantsRead bytes = readSection bytes 2048 (readGrant bytes) (assignedRead bytes .0) (replicate 4096 0)
+unfoldable pub assignedRead : List ℕ → ℕ × Model
+assignedRead bytes = pairsRead Assignments bytes (linesRead bytes)
 
-unfoldable pub ssdRead : List ℕ → ℕ × List RoleSet
-ssdRead bytes = readSection bytes 16 (readSet bytes) (grantsRead bytes .0) (replicate 16 noSet)
+unfoldable pub grantsRead : List ℕ → ℕ × Model
+grantsRead bytes = readSection bytes 2048 (readGrant bytes) (assignedRead bytes .0) (assignedRead bytes .1)
 
-unfoldable pub dsdRead : List ℕ → ℕ × List RoleSet
-dsdRead bytes = readSection bytes 16 (readSet bytes) (ssdRead bytes .0) (replicate 16 noSet)
+unfoldable pub ssdRead : List ℕ → ℕ × Model
+ssdRead bytes = readSection bytes 16 (readSet Static bytes) (grantsRead bytes .0) (grantsRead bytes .1)
 
-unfoldable pub sessionsRead : List ℕ → ℕ × List Session
-sessionsRead bytes = readSection bytes 64 (readSession bytes) (dsdRead bytes .0) (replicate 64 noSession)
+unfoldable pub dsdRead : List ℕ → ℕ × Model
+dsdRead bytes = readSection bytes 16 (readSet Dynamic bytes) (ssdRead bytes .0) (ssdRead bytes .1)
+
+unfoldable pub sessionsRead : List ℕ → ℕ × Model
+sessionsRead bytes = readSection bytes 64 (readSession bytes) (dsdRead bytes .0) (dsdRead bytes .1)
+
+-- the lines, assignments and grants are counted
+unfoldable pub counted : Model → Model
+counted m = withHolders (withAssigned (withJuniors m (m .juniors)) (m .assigned)) (m .holders)
 
 unfoldable pub gathered : List ℕ → Model
-gathered bytes = record { users = flags (usersRead bytes .1); roles = rolesRead bytes .1; juniors = tableOf (linesRead bytes .1); assigned = tableOf (assignedRead bytes .1); holders = tableOf (grantsRead bytes .1); ssd = setsIn (ssdRead bytes .1); dsd = setsIn (dsdRead bytes .1); sessions = sessionsIn (sessionsRead bytes .1) }
+gathered bytes = counted (sessionsRead bytes .1)

@@ -1,30 +1,27 @@
--- The sessions that the section names are put at their places. Assumes nothing.
+-- The sessions that the section names are open. Assumes nothing.
 use borrow.Author.Needs.{needs}
-use mathlib.Core.Path.{refl}
 use native.Mathlib.Omega.{arith}
+use Rattle.state.specs.View.{view}
 use Rattle.text.specs.Places.{readSection}
-use Rattle.policyread.specs.Steps.{sessionOf, readSession}
-use Rattle.policyread.proofs.Loops.{Filling, left-start, left-end, filling-put, filling-past, entry-was}
+use Rattle.policyread.specs.Steps.{sessionAdded, readSession}
+use Rattle.policyread.proofs.Loops.{Left, left-start, left-step, left-end, entry-was}
 use Rattle.policyread.proofs.read_sessions.Statement.{statement}
 use Rattle.policyread.proofs.read_sessions.Tie as tie
 
 abbrev Inv-loop : tie.InvT-loop
-Inv-loop bytes at sessions₀ next₀ left₀ sessions next left = Filling (readSession bytes) (readSection bytes 64 (readSession bytes) at sessions₀) 134 64 at 64 left next sessions
+Inv-loop bytes at state₀ next₀ left₀ state next left = Left (readSession bytes) (readSection bytes 64 (readSession bytes) at (view state₀)) 134 64 at left next (view state)
 
 abbrev μ-loop : tie.MeasureT-loop
-μ-loop bytes at sessions₀ next₀ left₀ sessions next left = left
+μ-loop bytes at state₀ next₀ left₀ state next left = left
 
 loop-holds : tie.Need-loop-holds Inv-loop μ-loop
-loop-holds c = record { long = omega arith; rest = left-start _ (c .count-at .ensures) }
+loop-holds c = left-start _ (c .count-at .ensures)
 
 loop-again : tie.Need-loop-again Inv-loop μ-loop
-loop-again c = filling-put _ _ (c .before .before .before .loop-test .taken) (entry-was sessionOf _ (c .before .before .read-entry .ensures)) (omega (arith, c .before .before .read-entry .ensures .list .room)) refl (c .before .before .before .before .loop .inv)
-
-loop-again-2 : tie.Need-loop-again-2 Inv-loop μ-loop
-loop-again-2 c = filling-past _ _ (c .before .before .before .loop-test .taken) (entry-was sessionOf _ (c .before .before .read-entry .ensures)) (omega (arith, c .before .before .read-entry .ensures .list .room)) (omega arith) (c .before .before .before .before .loop .inv)
+loop-again c = left-step (c .before .before .before .loop-test .taken) (entry-was sessionAdded _ _ (c .before .before .read-entry .ensures) (c .open-session .ensures)) (omega (arith, c .before .before .read-entry .ensures .list .room)) (c .before .before .before .before .loop .inv)
 
 returns : tie.Need-returns Inv-loop μ-loop
-returns c = left-end (c .loop-test .left) (c .before .loop .inv .rest)
+returns c = left-end (c .loop-test .left) (c .before .loop .inv)
 
 pub read-sessions-spec : {M : Type 1} → statement M
 read-sessions-spec =
@@ -36,12 +33,8 @@ read-sessions-spec =
     (λ c κs. search needs)
     loop-holds
     (λ c κs. search needs)
-    (λ c. search needs)
-    (λ c. search needs)
-    (λ c. search needs)
+    (λ c κs. search needs)
     (λ c. search needs)
     (λ c. search needs)
     loop-again
-    (λ c. search needs)
-    loop-again-2
     returns)
