@@ -1,84 +1,66 @@
 // The commands `user`, `role`, `nouser` and `norole`.
 ghost use mathlib.Core.Path.{_≡_};
-ghost use Rattle.model.specs.commands.Users.{user, role, nouser, norole, inSet};
-ghost use Rattle.policy.specs.View.{view, seen};
-ghost use Rattle.separation.specs.Tables.{setsIn};
-use model::RoleSet;
+ghost use Prim.Native.Nat.{_-_};
+ghost use Rattle.roleset.specs.Bounded.{bit};
+ghost use Rattle.roleset.specs.Roles.{has, without};
+ghost use Rattle.model.specs.Model.{put, withGrants};
+ghost use Rattle.model.specs.commands.Sets.{setsOf};
+ghost use Rattle.model.specs.commands.Users.{user, role, inSet, holding};
+ghost use Rattle.state.specs.Stores.{inRange};
+ghost use Rattle.state.specs.View.{view, told};
+use model::Kind;
 use numbers::Answer;
 use numbers::Role;
+use numbers::SetName;
 use numbers::User;
-use policy::Outcome;
-use policy::State;
-use policy::naming::either;
-use policy::refused;
+use state::PLACES;
+use state::naming::less;
+use state::reads::grant_count;
+use state::reads::has_role;
+use state::reads::has_user;
+use state::reads::holders_of;
+use state::reads::roles;
+use state::reads::set_named;
+use state::stores::put_holders;
+use state::stores::put_roles;
+use state::stores::put_user;
 
 // The user exists from now on; 1, 4.
-pub fn user(s: State, u: User) -> Outcome
-    ensures { λ o. ⌜ seen o ≡ user (view s) (u .number) ⌝ }
+pub fn user(state: &mut [u64; PLACES], u: User) -> Answer
+    ensures { λ a. ⌜ told a (now (state .exit)) ≡ user (view (now (state .entry))) (u .number) ⌝ }
 {
     if numbers::user_beyond(u) {
-        return refused(Answer::BeyondRange, s);
+        return Answer::BeyondRange;
     }
-    let at = u.number as usize;
-    if s.users[at] {
-        return refused(Answer::AlreadyThere, s);
+    if has_user(state, u) {
+        return Answer::AlreadyThere;
     }
-    let mut after = s;
-    after.users[at] = true;
-    Outcome {
-        answer: Answer::Done,
-        state: after,
-    }
+    put_user(state, u, true);
+    Answer::Done
 }
 
 // The role exists from now on; 1, 4.
-pub fn role(s: State, r: Role) -> Outcome
-    ensures { λ o. ⌜ seen o ≡ role (view s) (r .number) ⌝ }
+pub fn role(state: &mut [u64; PLACES], r: Role) -> Answer
+    ensures { λ a. ⌜ told a (now (state .exit)) ≡ role (view (now (state .entry))) (r .number) ⌝ }
 {
     if numbers::role_beyond(r) {
-        return refused(Answer::BeyondRange, s);
+        return Answer::BeyondRange;
     }
-    if roleset::has(s.roles, r.number) {
-        return refused(Answer::AlreadyThere, s);
+    if has_role(state, r) {
+        return Answer::AlreadyThere;
     }
-    let mut after = s;
-    after.roles = roleset::with(s.roles, r.number);
-    Outcome {
-        answer: Answer::Done,
-        state: after,
-    }
+    let new = roleset::with(roles(state), r.number);
+    put_roles(state, new);
+    Answer::Done
 }
 
-// The user's sessions end, its assignments go, and it exists no longer; 1, 2.
-pub fn nouser(s: State, u: User) -> Outcome
-    ensures { λ o. ⌜ seen o ≡ nouser (view s) (u .number) ⌝ }
+// Does the role stand in some set of this kind?
+fn in_set(state: &[u64; PLACES], kind: Kind, r: Role) -> bool
+    ensures { λ b. ⌜ b ≡ inSet (setsOf kind (view (now (state .entry)))) (r .number) ⌝ }
 {
-    if numbers::user_beyond(u) {
-        return refused(Answer::BeyondRange, s);
-    }
-    let at = u.number as usize;
-    if !s.users[at] {
-        return refused(Answer::Missing, s);
-    }
-    let sessions = s.sessions;
-    let left = sweeps::end_all(sessions, u);
-    let mut after = s;
-    after.sessions = left;
-    after.assigned[at] = 0;
-    after.users[at] = false;
-    Outcome {
-        answer: Answer::Done,
-        state: after,
-    }
-}
-
-// Does the role stand in some of the sets?
-fn in_set(sets: [RoleSet; 16], r: Role) -> bool
-    ensures { λ b. ⌜ b ≡ inSet (setsIn sets) (r .number) ⌝ }
-{
-    let mut n: usize = 0;
+    let mut n: u16 = 0;
     while n < 16 {
-        let set = sets[n];
+        let set = set_named(state, kind, SetName { number: n });
         if roleset::has(set.roles, r.number) {
             return true;
         }
@@ -87,43 +69,24 @@ fn in_set(sets: [RoleSet; 16], r: Role) -> bool
     false
 }
 
-// The role's assignments, grants and direct lines at either end go, and the role itself; then the sessions shed; 1, 2, 8, 13.
-pub fn norole(s: State, r: Role) -> Outcome
-    ensures { λ o. ⌜ seen o ≡ norole (view s) (r .number) ⌝ }
+// The role holds the permission no longer, and a grant that went is counted; past the last permission nothing is stored.
+fn ungrant(state: &mut [u64; PLACES], p: usize, r: Role)
+    ensures { λ _. ⌜ view (now (state .exit)) ≡ inRange 4096 p (view (now (state .entry))) (withGrants (view (now (state .entry))) (put (view (now (state .entry)) .holders) p (without (view (now (state .entry)) .holders p) (r .number))) (view (now (state .entry)) .grantCount - bit (has (view (now (state .entry)) .holders p) (r .number)))) ⌝ }
 {
-    if numbers::role_beyond(r) {
-        return refused(Answer::BeyondRange, s);
+    let old = holders_of(state, p);
+    if roleset::has(old, r.number) {
+        let left = less(grant_count(state), 1);
+        put_holders(state, p, roleset::without(old, r.number), left);
     }
-    if !roleset::has(s.roles, r.number) {
-        return refused(Answer::Missing, s);
-    }
-    let ssd = s.ssd;
-    let dsd = s.dsd;
-    if either(in_set(ssd, r), in_set(dsd, r)) {
-        return refused(Answer::StandsInSet, s);
-    }
-    let at = r.number as usize;
-    let mut juniors = s.juniors;
-    sweeps::strip(&mut juniors, r.number);
-    juniors[at] = 0;
-    let mut assigned = s.assigned;
-    sweeps::strip(&mut assigned, r.number);
-    let sessions = s.sessions;
-    let kept = sweeps::shed(&juniors, &assigned, sessions);
-    if kept.cut {
-        return refused(Answer::ChainTooLong, s);
-    }
-    let mut holders = s.holders;
-    sweeps::strip(&mut holders, r.number);
-    let left = kept.sessions;
-    let mut after = s;
-    after.roles = roleset::without(s.roles, r.number);
-    after.juniors = juniors;
-    after.assigned = assigned;
-    after.holders = holders;
-    after.sessions = left;
-    Outcome {
-        answer: Answer::Done,
-        state: after,
+}
+
+// The role holds no permission any longer, and the grants that went are counted.
+fn ungrant_all(state: &mut [u64; PLACES], r: Role)
+    ensures { λ _. ⌜ view (now (state .exit)) ≡ withGrants (view (now (state .entry))) (λ p. without (view (now (state .entry)) .holders p) (r .number)) (view (now (state .entry)) .grantCount - holding 4096 (view (now (state .entry)) .holders) (r .number)) ⌝ }
+{
+    let mut p: usize = 0;
+    while p < 4096 {
+        ungrant(state, p, r);
+        p += 1;
     }
 }
