@@ -1,17 +1,54 @@
 // The commands `assign`, `deassign`, `grant` and `revoke`.
 ghost use mathlib.Core.Path.{_≡_};
-ghost use Rattle.model.specs.commands.Assigning.{grant, revoke};
+ghost use Rattle.model.specs.commands.Assigning.{assign, grant, revoke};
 ghost use Rattle.state.specs.View.{view, told};
+use model::Kind;
 use numbers::Answer;
 use numbers::Role;
+use numbers::User;
+use separation::breaks_some;
 use state::PLACES;
 use state::naming::either;
 use state::naming::less;
 use state::naming::permission_beyond;
+use state::reads::assigned_to;
+use state::reads::assignment_count;
 use state::reads::grant_count;
 use state::reads::has_role;
+use state::reads::has_user;
 use state::reads::holders_of;
+use state::stores::put_assigned;
 use state::stores::put_holders;
+
+// The role is assigned to the user; 1, 2, 4, 10, 12, 13.
+pub fn assign(state: &mut [u64; PLACES], u: User, r: Role) -> Answer
+    ensures { λ a. ⌜ told a (now (state .exit)) ≡ assign (view (now (state .entry))) (u .number) (r .number) ⌝ }
+{
+    if either(numbers::user_beyond(u), numbers::role_beyond(r)) {
+        return Answer::BeyondRange;
+    }
+    if either(!has_user(state, u), !has_role(state, r)) {
+        return Answer::Missing;
+    }
+    let old = assigned_to(state, u);
+    if roleset::has(old, r.number) {
+        return Answer::AlreadyThere;
+    }
+    let new = roleset::with(old, r.number);
+    let walk = walking::reach(state, new);
+    if breaks_some(state, Kind::Static, walk.roles) {
+        return Answer::BreaksStatic;
+    }
+    let count = assignment_count(state);
+    if 2048 <= count {
+        return Answer::TableFull;
+    }
+    if walk.cut {
+        return Answer::ChainTooLong;
+    }
+    put_assigned(state, u, new, count + 1);
+    Answer::Done
+}
 
 // The role holds the permission from now on; 1, 2, 4, 12.
 pub fn grant(state: &mut [u64; PLACES], op: u16, obj: u16, r: Role) -> Answer
