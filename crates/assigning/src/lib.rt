@@ -1,6 +1,6 @@
 // The commands `assign`, `deassign`, `grant` and `revoke`.
 ghost use mathlib.Core.Path.{_≡_};
-ghost use Rattle.model.specs.commands.Assigning.{assign, grant, revoke};
+ghost use Rattle.model.specs.commands.Assigning.{assign, deassign, grant, revoke};
 ghost use Rattle.state.specs.View.{view, told};
 use model::Kind;
 use numbers::Answer;
@@ -11,12 +11,15 @@ use state::PLACES;
 use state::naming::either;
 use state::naming::less;
 use state::naming::permission_beyond;
+use state::parts::assigned_table;
+use state::parts::juniors_table;
 use state::reads::assigned_to;
 use state::reads::assignment_count;
 use state::reads::grant_count;
 use state::reads::has_role;
 use state::reads::has_user;
 use state::reads::holders_of;
+use state::stores::put_all_active;
 use state::stores::put_assigned;
 use state::stores::put_holders;
 
@@ -39,14 +42,42 @@ pub fn assign(state: &mut [u64; PLACES], u: User, r: Role) -> Answer
     if breaks_some(state, Kind::Static, walk.roles) {
         return Answer::BreaksStatic;
     }
-    let count = assignment_count(state);
-    if 2048 <= count {
+    let assignments = assignment_count(state);
+    if 2048 <= assignments {
         return Answer::TableFull;
     }
     if walk.cut {
         return Answer::ChainTooLong;
     }
-    put_assigned(state, u, new, count + 1);
+    put_assigned(state, u, new, assignments + 1);
+    Answer::Done
+}
+
+// The assignment goes; then the sessions shed; 1, 2, 5, 13.
+pub fn deassign(state: &mut [u64; PLACES], u: User, r: Role) -> Answer
+    ensures { λ a. ⌜ told a (now (state .exit)) ≡ deassign (view (now (state .entry))) (u .number) (r .number) ⌝ }
+{
+    if either(numbers::user_beyond(u), numbers::role_beyond(r)) {
+        return Answer::BeyondRange;
+    }
+    if either(!has_user(state, u), !has_role(state, r)) {
+        return Answer::Missing;
+    }
+    let old = assigned_to(state, u);
+    if !roleset::has(old, r.number) {
+        return Answer::NotThere;
+    }
+    let new = roleset::without(old, r.number);
+    let juniors = juniors_table(state);
+    let mut assigned = assigned_table(state);
+    assigned[u.number as usize] = new;
+    let kept = sweeps::shed(&juniors, &assigned, state);
+    if kept.cut {
+        return Answer::ChainTooLong;
+    }
+    let left = less(assignment_count(state), 1);
+    put_assigned(state, u, new, left);
+    put_all_active(state, &kept.active);
     Answer::Done
 }
 
@@ -65,11 +96,11 @@ pub fn grant(state: &mut [u64; PLACES], op: u16, obj: u16, r: Role) -> Answer
     if roleset::has(old, r.number) {
         return Answer::AlreadyThere;
     }
-    let count = grant_count(state);
-    if 2048 <= count {
+    let grants = grant_count(state);
+    if 2048 <= grants {
         return Answer::TableFull;
     }
-    put_holders(state, p, roleset::with(old, r.number), count + 1);
+    put_holders(state, p, roleset::with(old, r.number), grants + 1);
     Answer::Done
 }
 

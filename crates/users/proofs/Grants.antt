@@ -17,6 +17,7 @@ use Rattle.state.specs.Stores.{inRange}
 use Rattle.state.specs.View.{view}
 use Rattle.state.proofs.Slots.{part-none}
 use Rattle.state.proofs.Stored.{in-range}
+use Rattle.users.specs.Leaving.{ungranted, allUngranted}
 
 -- a role that is not a member can be taken out, and nothing changes
 pub without-absent : (s r : ℕ) → s < 2 ^ 64 → has s r ≡ false → without s r ≡ s
@@ -42,10 +43,6 @@ unmoved n k m = go (ltb k n)
     go : (b : Bool) → elim b [ true ↦ m | false ↦ m ] ≡ m
     go true = refl
     go false = refl
-
--- the model without one grant of the role
-abbrev pub ungranted : Model → ℕ → ℕ → Model
-ungranted m p r = withGrants m (put (m .holders) p (without (m .holders p) r)) (m .grantCount - bit (has (m .holders p) r))
 
 module _ (m : Model) (p r old : ℕ) (is : old ≡ m .holders p) where
   -- the role holds the permission: the store takes it out, and counts one less
@@ -102,7 +99,7 @@ grants-more n r m now after h is e =
     (ap (λ (x : ℕ). m .grantCount - holding n (m .holders) r - bit (has x r)) (same-past n r (m .holders) n (omega arith)) ∙ omega (arith, tally-step n (λ k. has (m .holders k) r)))
 
 -- past the last permission there are no grants
-pub grants-end : (r : ℕ) (l : List ℕ) → soFar 4096 r (view l) ≡ withGrants (view l) (λ p. without (view l .holders p) r) (view l .grantCount - holding 4096 (view l .holders) r)
+pub grants-end : (r : ℕ) (l : List ℕ) → soFar 4096 r (view l) ≡ allUngranted (view l) r
 unfolding view
 grants-end r l = ap (λ (f : ℕ → ℕ). withGrants (view l) f (view l .grantCount - holding 4096 (view l .holders) r)) (fun-ext (λ k. go k (ltb k 4096) refl))
   where

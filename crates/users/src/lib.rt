@@ -1,27 +1,34 @@
 // The commands `user`, `role`, `nouser` and `norole`.
 ghost use mathlib.Core.Path.{_≡_};
-ghost use Prim.Native.Nat.{_-_};
-ghost use Rattle.roleset.specs.Bounded.{bit};
-ghost use Rattle.roleset.specs.Roles.{has, without};
-ghost use Rattle.model.specs.Model.{put, withGrants};
 ghost use Rattle.model.specs.commands.Sets.{setsOf};
-ghost use Rattle.model.specs.commands.Users.{user, role, inSet, holding};
+ghost use Rattle.model.specs.commands.Users.{user, role, nouser, norole, inSet};
 ghost use Rattle.state.specs.Stores.{inRange};
-ghost use Rattle.state.specs.View.{view, told};
+ghost use Rattle.state.specs.View.{part, view, told};
+ghost use Rattle.users.specs.Leaving.{ungranted, allUngranted, leaving};
 use model::Kind;
 use numbers::Answer;
 use numbers::Role;
 use numbers::SetName;
 use numbers::User;
 use state::PLACES;
+use state::naming::either;
 use state::naming::less;
+use state::parts::assigned_table;
+use state::parts::juniors_table;
+use state::reads::assigned_to;
+use state::reads::assignment_count;
 use state::reads::grant_count;
 use state::reads::has_role;
 use state::reads::has_user;
 use state::reads::holders_of;
+use state::reads::line_count;
 use state::reads::roles;
 use state::reads::set_named;
+use state::stores::put_all_active;
+use state::stores::put_assigned;
+use state::stores::put_assignments;
 use state::stores::put_holders;
+use state::stores::put_lines;
 use state::stores::put_roles;
 use state::stores::put_user;
 
@@ -54,6 +61,24 @@ pub fn role(state: &mut [u64; PLACES], r: Role) -> Answer
     Answer::Done
 }
 
+// The user's sessions end, its assignments go, and it exists no longer; 1, 2.
+pub fn nouser(state: &mut [u64; PLACES], u: User) -> Answer
+    ensures { λ a. ⌜ told a (now (state .exit)) ≡ nouser (view (now (state .entry))) (u .number) ⌝ }
+{
+    if numbers::user_beyond(u) {
+        return Answer::BeyondRange;
+    }
+    if !has_user(state, u) {
+        return Answer::Missing;
+    }
+    let gone = roleset::count(assigned_to(state, u)) as u64;
+    let left = less(assignment_count(state), gone);
+    sweeps::end_all(state, u);
+    put_assigned(state, u, 0, left);
+    put_user(state, u, false);
+    Answer::Done
+}
+
 // Does the role stand in some set of this kind?
 fn in_set(state: &[u64; PLACES], kind: Kind, r: Role) -> bool
     ensures { λ b. ⌜ b ≡ inSet (setsOf kind (view (now (state .entry)))) (r .number) ⌝ }
@@ -71,7 +96,7 @@ fn in_set(state: &[u64; PLACES], kind: Kind, r: Role) -> bool
 
 // The role holds the permission no longer, and a grant that went is counted; past the last permission nothing is stored.
 fn ungrant(state: &mut [u64; PLACES], p: usize, r: Role)
-    ensures { λ _. ⌜ view (now (state .exit)) ≡ inRange 4096 p (view (now (state .entry))) (withGrants (view (now (state .entry))) (put (view (now (state .entry)) .holders) p (without (view (now (state .entry)) .holders p) (r .number))) (view (now (state .entry)) .grantCount - bit (has (view (now (state .entry)) .holders p) (r .number)))) ⌝ }
+    ensures { λ _. ⌜ view (now (state .exit)) ≡ inRange 4096 p (view (now (state .entry))) (ungranted (view (now (state .entry))) p (r .number)) ⌝ }
 {
     let old = holders_of(state, p);
     if roleset::has(old, r.number) {
@@ -82,11 +107,63 @@ fn ungrant(state: &mut [u64; PLACES], p: usize, r: Role)
 
 // The role holds no permission any longer, and the grants that went are counted.
 fn ungrant_all(state: &mut [u64; PLACES], r: Role)
-    ensures { λ _. ⌜ view (now (state .exit)) ≡ withGrants (view (now (state .entry))) (λ p. without (view (now (state .entry)) .holders p) (r .number)) (view (now (state .entry)) .grantCount - holding 4096 (view (now (state .entry)) .holders) (r .number)) ⌝ }
+    ensures { λ _. ⌜ view (now (state .exit)) ≡ allUngranted (view (now (state .entry))) (r .number) ⌝ }
 {
     let mut p: usize = 0;
     while p < 4096 {
         ungrant(state, p, r);
         p += 1;
     }
+}
+
+// The role and its grants go; the lines and the assignments become these, of which so many less stand.
+fn put_without<'a>(
+    state: &mut [u64; PLACES],
+    r: Role,
+    juniors: &'a [u64; 64],
+    lines: u64,
+    assigned: &'a [u64; 256],
+    assignments: u64,
+)
+    ensures { λ _. ⌜ view (now (state .exit)) ≡ leaving (view (now (state .entry))) (r .number) (part (now (juniors .entry)) 0 64) lines (part (now (assigned .entry)) 0 256) assignments ⌝ }
+{
+    let left = roleset::without(roles(state), r.number);
+    put_roles(state, left);
+    let lines_left = less(line_count(state), lines);
+    put_lines(state, juniors, lines_left);
+    let assignments_left = less(assignment_count(state), assignments);
+    put_assignments(state, assigned, assignments_left);
+    ungrant_all(state, r);
+}
+
+// The role's assignments, grants and direct lines at either end go, and the role itself; then the sessions shed; 1, 2, 8, 13.
+pub fn norole(state: &mut [u64; PLACES], r: Role) -> Answer
+    ensures { λ a. ⌜ told a (now (state .exit)) ≡ norole (view (now (state .entry))) (r .number) ⌝ }
+{
+    if numbers::role_beyond(r) {
+        return Answer::BeyondRange;
+    }
+    if !has_role(state, r) {
+        return Answer::Missing;
+    }
+    if either(
+        in_set(state, Kind::Static, r),
+        in_set(state, Kind::Dynamic, r),
+    ) {
+        return Answer::StandsInSet;
+    }
+    let at = r.number as usize;
+    let mut juniors = juniors_table(state);
+    let above = sweeps::strip(&mut juniors, r.number);
+    let below = roleset::count(juniors[at]) as u64;
+    juniors[at] = 0;
+    let mut assigned = assigned_table(state);
+    let held = sweeps::strip(&mut assigned, r.number);
+    let kept = sweeps::shed(&juniors, &assigned, state);
+    if kept.cut {
+        return Answer::ChainTooLong;
+    }
+    put_without(state, r, &juniors, above + below, &assigned, held);
+    put_all_active(state, &kept.active);
+    Answer::Done
 }
