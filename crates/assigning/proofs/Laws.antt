@@ -1,30 +1,28 @@
--- What the commands of assignments and of grants share: the numbers that they name, full tables, and the tables after a change. Assumes nothing.
+-- What the commands of assignments and of grants share: past refusal 1 the user or the permission is a place of its table, so that the store there
+-- puts what is to be stored, and the count; and what a sweep that sheds finds and leaves, once a role is taken from the user's. Assumes nothing.
 use borrow.Author.Tests.{leb-false}
-use mathlib.Core.Bool.{Bool, false, _||_}
-use mathlib.Core.Path.{_≡_, refl, sym, ap, _∙_}
+use mathlib.Core.Bool.{false, _||_}
+use mathlib.Core.List.{List}
+use mathlib.Core.Path.{_≡_, refl, sym, ap, ap₂, _∙_}
 use Prim.Native.Nat.{ℕ, _<_}
 use native.Mathlib.Omega.{arith}
 use lib.Dec.{leb}
-use lib.ListN.{length, set}
-use Rattle.roleset.specs.Bounded.{total}
-use Rattle.roleset.specs.Roles.{count, without}
+use lib.ListN.{set}
+use Rattle.roleset.specs.Roles.{without}
 use Rattle.roleset.proofs.BoundedLaws.{or-clear}
-use Rattle.numbers.specs.Ranges.{mostAssignments, mostGrants}
 use Rattle.hierarchy.specs.Lines.{tableOf}
-use Rattle.model.specs.Model.{put, withAssigned, withHolders, withSessions}
-use Rattle.model.specs.Words.{assignments, grants, permission, shed, shedCut}
+use Rattle.model.specs.Model.{Model, put, withAssignments, withGrants, withSessions}
+use Rattle.model.specs.Words.{permission, shed, shedCut}
 use Rattle.model.specs.commands.Assigning.{deassigned}
 use Rattle.model.specs.commands.Naming.{noUser, noRole, noPermission}
-use Rattle.policy.specs.Sized.{Sized}
-use Rattle.policy.specs.View.{view, sessionsIn}
-use Rattle.policy.specs.declared.State.{State}
-use Rattle.policy.proofs.Stores.{store-assigned, store-holders}
-use Rattle.policy.proofs.Tables.{set-put}
+use Rattle.state.specs.Stores.{inRange, withActive, Table}
+use Rattle.state.specs.View.{part, view}
+use Rattle.state.proofs.Stored.{in-range}
 use Rattle.sweeps.specs.Sweeps.{ShedsAll}
 use Rattle.sweeps.specs.declared.Kept.{Kept}
-use Rattle.sweeps.proofs.Shedding.{shed-cut, shed-after}
+use Rattle.sweeps.proofs.Changing.{as-part, table-put}
+use Rattle.sweeps.proofs.Shedding.{sheds-same, shed-cut, shed-after, view-past}
 
--- past refusal 1 the user or the permission is a place of its table
 pub user-within : (u r : ℕ) → (noUser u || noRole r) ≡ false → u < 256
 user-within u r h = leb-false 256 u (or-clear (noUser u) (noRole r) h .0)
 
@@ -33,33 +31,23 @@ permission-within op obj r h =
     let clear = or-clear (leb 16 op) (leb 256 obj) (or-clear (noPermission op obj) (noRole r) h .0) in
     omega (arith, leb-false 16 op (clear .0), leb-false 256 obj (clear .1))
 
-module _ (s : State) (whole : Sized s) where
-  -- refusal 12: the table that would grow is full
-  pub assignments-full : (b : Bool) → b ≡ leb 2048 (total (length (s .assigned)) (λ k. count (tableOf (s .assigned) k))) → leb mostAssignments (assignments (view s)) ≡ b
-  unfolding assignments view
-  assignments-full b e = sym (rw (whole .assigned) at e)
+-- the roles stored at one place of a table, and the count, are these
+module _ (m after : Model) (k roles new standing count : ℕ) (is : roles ≡ new) (counted : standing ≡ count) where
+  pub assigned-stored : k < 256 → after ≡ inRange 256 k m (withAssignments m (put (m .assigned) k roles) standing) → after ≡ withAssignments m (put (m .assigned) k new) count
+  assigned-stored h e = e ∙ in-range 256 k m _ h ∙ ap₂ (λ (x n : ℕ). withAssignments m (put (m .assigned) k x) n) is counted
 
-  pub grants-full : (b : Bool) → b ≡ leb 2048 (total (length (s .holders)) (λ k. count (tableOf (s .holders) k))) → leb mostGrants (grants (view s)) ≡ b
-  unfolding grants view
-  grants-full b e = sym (rw (whole .holders) at e)
+  pub holders-stored : k < 4096 → after ≡ inRange 4096 k m (withGrants m (put (m .holders) k roles) standing) → after ≡ withGrants m (put (m .holders) k new) count
+  holders-stored h e = e ∙ in-range 4096 k m _ h ∙ ap₂ (λ (x n : ℕ). withGrants m (put (m .holders) k x) n) is counted
 
-  -- a set of roles stored at one place of a table
-  pub assigned-stored : (u new roles : ℕ) → u < 256 → new ≡ roles → view (record { users = s .users; roles = s .roles; juniors = s .juniors; assigned = set (s .assigned) u new; holders = s .holders; ssd = s .ssd; dsd = s .dsd; sessions = s .sessions }) ≡ withAssigned (view s) (put (view s .assigned) u roles)
-  assigned-stored u new roles h e = store-assigned s u new (rw (whole .assigned) h) ∙ ap (λ (x : ℕ). withAssigned (view s) (put (view s .assigned) u x)) e
+-- the sweep goes over the lines as they are and the assignments as they will be
+module _ (l juniors assigned : List ℕ) (u r new : ℕ) (kept : Kept) (h : u < 256) (is : new ≡ without (view l .assigned u) r) (lines : Table 64 (view l .juniors) juniors) (holds : Table 256 (view l .assigned) assigned) (sheds : ShedsAll (tableOf juniors) (part (set assigned u new) 0 256) (view l .sessions) kept) where
+  swept : ShedsAll (view l .juniors) (put (view l .assigned) u (without (view l .assigned u) r)) (view l .sessions) kept
+  swept = sheds-same kept (lines .each) (as-part (set assigned u new) (table-put assigned u new h holds) ∙ ap (put (view l .assigned) u) is) refl sheds
 
-  pub holders-stored : (p new roles : ℕ) → p < 4096 → new ≡ roles → view (record { users = s .users; roles = s .roles; juniors = s .juniors; assigned = s .assigned; holders = set (s .holders) p new; ssd = s .ssd; dsd = s .dsd; sessions = s .sessions }) ≡ withHolders (view s) (put (view s .holders) p roles)
-  holders-stored p new roles h e = store-holders s p new (rw (whole .holders) h) ∙ ap (λ (x : ℕ). withHolders (view s) (put (view s .holders) p x)) e
+  pub deassigned-cut : shedCut (deassigned (view l) u r) ≡ kept .cut
+  unfolding deassigned
+  deassigned-cut = shed-cut (deassigned (view l) u r) kept swept
 
-  -- what a sweep that sheds finds and leaves, once the role is taken from the user's
-  module _ (u r new : ℕ) (kept : Kept) (h : u < 256) (e : new ≡ without (tableOf (s .assigned) u) r) (sheds : ShedsAll (tableOf (s .juniors)) (tableOf (set (s .assigned) u new)) (s .sessions) kept) where
-    changed : _≡_ {A = ℕ → ℕ} (tableOf (set (s .assigned) u new)) (deassigned (view s) u r .assigned)
-    unfolding deassigned view
-    changed = set-put (s .assigned) u new 0 (rw (whole .assigned) h) ∙ ap (put (tableOf (s .assigned)) u) e
-
-    pub deassigned-cut : shedCut (deassigned (view s) u r) ≡ kept .cut
-    unfolding deassigned view
-    deassigned-cut = shed-cut (deassigned (view s) u r) _ _ _ kept sheds refl changed refl
-
-    pub deassigned-shed : view (record { users = s .users; roles = s .roles; juniors = s .juniors; assigned = set (s .assigned) u new; holders = s .holders; ssd = s .ssd; dsd = s .dsd; sessions = kept .sessions }) ≡ shed (deassigned (view s) u r)
-    unfolding deassigned view
-    deassigned-shed = ap (λ (table : ℕ → ℕ). withSessions (withAssigned (view s) table) (sessionsIn (kept .sessions))) changed ∙ sym (shed-after (deassigned (view s) u r) _ _ _ kept sheds refl changed refl)
+  pub deassigned-shed : (between after : Model) → between ≡ deassigned (view l) u r → after ≡ withSessions between (withActive (between .sessions) (part (kept .active) 0 64)) → after ≡ shed (deassigned (view l) u r)
+  unfolding deassigned
+  deassigned-shed between after stored e = e ∙ ap (λ (x : Model). withSessions x (withActive (x .sessions) (part (kept .active) 0 64))) stored ∙ sym (shed-after (deassigned (view l) u r) kept swept (view-past l))

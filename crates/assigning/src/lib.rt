@@ -1,130 +1,125 @@
 // The commands `assign`, `deassign`, `grant` and `revoke`.
 ghost use mathlib.Core.Path.{_≡_};
 ghost use Rattle.model.specs.commands.Assigning.{assign, deassign, grant, revoke};
-ghost use Rattle.policy.specs.View.{view, seen};
+ghost use Rattle.state.specs.View.{view, told};
+use model::Kind;
 use numbers::Answer;
 use numbers::Role;
 use numbers::User;
-use policy::Outcome;
-use policy::State;
-use policy::naming::either;
-use policy::naming::has_user;
-use policy::naming::permission_beyond;
-use policy::refused;
+use separation::breaks_some;
+use state::PLACES;
+use state::naming::either;
+use state::naming::less;
+use state::naming::permission_beyond;
+use state::parts::assigned_table;
+use state::parts::juniors_table;
+use state::reads::assigned_to;
+use state::reads::assignment_count;
+use state::reads::grant_count;
+use state::reads::has_role;
+use state::reads::has_user;
+use state::reads::holders_of;
+use state::stores::put_all_active;
+use state::stores::put_assigned;
+use state::stores::put_holders;
 
 // The role is assigned to the user; 1, 2, 4, 10, 12, 13.
-pub fn assign(s: State, u: User, r: Role) -> Outcome
-    ensures { λ o. ⌜ seen o ≡ assign (view s) (u .number) (r .number) ⌝ }
+pub fn assign(state: &mut [u64; PLACES], u: User, r: Role) -> Answer
+    ensures { λ a. ⌜ told a (now (state .exit)) ≡ assign (view (now (state .entry))) (u .number) (r .number) ⌝ }
 {
     if either(numbers::user_beyond(u), numbers::role_beyond(r)) {
-        return refused(Answer::BeyondRange, s);
+        return Answer::BeyondRange;
     }
-    let users = s.users;
-    if either(!has_user(users, u), !roleset::has(s.roles, r.number)) {
-        return refused(Answer::Missing, s);
+    if either(!has_user(state, u), !has_role(state, r)) {
+        return Answer::Missing;
     }
-    let at = u.number as usize;
-    let old = s.assigned[at];
+    let old = assigned_to(state, u);
     if roleset::has(old, r.number) {
-        return refused(Answer::AlreadyThere, s);
+        return Answer::AlreadyThere;
     }
     let new = roleset::with(old, r.number);
-    let walk = hierarchy::reach(&s.juniors, new);
-    let ssd = s.ssd;
-    if separation::breaks_some(ssd, walk.roles) {
-        return refused(Answer::BreaksStatic, s);
+    let walk = walking::reach(state, new);
+    if breaks_some(state, Kind::Static, walk.roles) {
+        return Answer::BreaksStatic;
     }
-    if policy::full(&s.assigned, 2048) {
-        return refused(Answer::TableFull, s);
+    let assignments = assignment_count(state);
+    if 2048 <= assignments {
+        return Answer::TableFull;
     }
     if walk.cut {
-        return refused(Answer::ChainTooLong, s);
+        return Answer::ChainTooLong;
     }
-    let mut after = s;
-    after.assigned[at] = new;
-    Outcome {
-        answer: Answer::Done,
-        state: after,
-    }
+    put_assigned(state, u, new, assignments + 1);
+    Answer::Done
 }
 
 // The assignment goes; then the sessions shed; 1, 2, 5, 13.
-pub fn deassign(s: State, u: User, r: Role) -> Outcome
-    ensures { λ o. ⌜ seen o ≡ deassign (view s) (u .number) (r .number) ⌝ }
+pub fn deassign(state: &mut [u64; PLACES], u: User, r: Role) -> Answer
+    ensures { λ a. ⌜ told a (now (state .exit)) ≡ deassign (view (now (state .entry))) (u .number) (r .number) ⌝ }
 {
     if either(numbers::user_beyond(u), numbers::role_beyond(r)) {
-        return refused(Answer::BeyondRange, s);
+        return Answer::BeyondRange;
     }
-    let users = s.users;
-    if either(!has_user(users, u), !roleset::has(s.roles, r.number)) {
-        return refused(Answer::Missing, s);
+    if either(!has_user(state, u), !has_role(state, r)) {
+        return Answer::Missing;
     }
-    let at = u.number as usize;
-    if !roleset::has(s.assigned[at], r.number) {
-        return refused(Answer::NotThere, s);
+    let old = assigned_to(state, u);
+    if !roleset::has(old, r.number) {
+        return Answer::NotThere;
     }
-    let mut assigned = s.assigned;
-    assigned[at] = roleset::without(assigned[at], r.number);
-    let sessions = s.sessions;
-    let kept = sweeps::shed(&s.juniors, &assigned, sessions);
+    let new = roleset::without(old, r.number);
+    let juniors = juniors_table(state);
+    let mut assigned = assigned_table(state);
+    assigned[u.number as usize] = new;
+    let kept = sweeps::shed(&juniors, &assigned, state);
     if kept.cut {
-        return refused(Answer::ChainTooLong, s);
+        return Answer::ChainTooLong;
     }
-    let left = kept.sessions;
-    let mut after = s;
-    after.assigned = assigned;
-    after.sessions = left;
-    Outcome {
-        answer: Answer::Done,
-        state: after,
-    }
+    let left = less(assignment_count(state), 1);
+    put_assigned(state, u, new, left);
+    put_all_active(state, &kept.active);
+    Answer::Done
 }
 
 // The role holds the permission from now on; 1, 2, 4, 12.
-pub fn grant(s: State, op: u16, obj: u16, r: Role) -> Outcome
-    ensures { λ o. ⌜ seen o ≡ grant (view s) op obj (r .number) ⌝ }
+pub fn grant(state: &mut [u64; PLACES], op: u16, obj: u16, r: Role) -> Answer
+    ensures { λ a. ⌜ told a (now (state .exit)) ≡ grant (view (now (state .entry))) op obj (r .number) ⌝ }
 {
     if either(permission_beyond(op, obj), numbers::role_beyond(r)) {
-        return refused(Answer::BeyondRange, s);
+        return Answer::BeyondRange;
     }
-    if !roleset::has(s.roles, r.number) {
-        return refused(Answer::Missing, s);
+    if !has_role(state, r) {
+        return Answer::Missing;
     }
-    let at = op as usize * 256 + obj as usize;
-    let old = s.holders[at];
+    let p = op as usize * 256 + obj as usize;
+    let old = holders_of(state, p);
     if roleset::has(old, r.number) {
-        return refused(Answer::AlreadyThere, s);
+        return Answer::AlreadyThere;
     }
-    if policy::full(&s.holders, 2048) {
-        return refused(Answer::TableFull, s);
+    let grants = grant_count(state);
+    if 2048 <= grants {
+        return Answer::TableFull;
     }
-    let mut after = s;
-    after.holders[at] = roleset::with(old, r.number);
-    Outcome {
-        answer: Answer::Done,
-        state: after,
-    }
+    put_holders(state, p, roleset::with(old, r.number), grants + 1);
+    Answer::Done
 }
 
 // The role holds the permission no longer; 1, 2, 5.
-pub fn revoke(s: State, op: u16, obj: u16, r: Role) -> Outcome
-    ensures { λ o. ⌜ seen o ≡ revoke (view s) op obj (r .number) ⌝ }
+pub fn revoke(state: &mut [u64; PLACES], op: u16, obj: u16, r: Role) -> Answer
+    ensures { λ a. ⌜ told a (now (state .exit)) ≡ revoke (view (now (state .entry))) op obj (r .number) ⌝ }
 {
     if either(permission_beyond(op, obj), numbers::role_beyond(r)) {
-        return refused(Answer::BeyondRange, s);
+        return Answer::BeyondRange;
     }
-    if !roleset::has(s.roles, r.number) {
-        return refused(Answer::Missing, s);
+    if !has_role(state, r) {
+        return Answer::Missing;
     }
-    let at = op as usize * 256 + obj as usize;
-    let old = s.holders[at];
+    let p = op as usize * 256 + obj as usize;
+    let old = holders_of(state, p);
     if !roleset::has(old, r.number) {
-        return refused(Answer::NotThere, s);
+        return Answer::NotThere;
     }
-    let mut after = s;
-    after.holders[at] = roleset::without(old, r.number);
-    Outcome {
-        answer: Answer::Done,
-        state: after,
-    }
+    let left = less(grant_count(state), 1);
+    put_holders(state, p, roleset::without(old, r.number), left);
+    Answer::Done
 }

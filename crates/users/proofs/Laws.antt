@@ -1,50 +1,59 @@
--- What the deletion of a user, and that of a role, leave of a state. Assumes nothing.
-use mathlib.Core.Bool.{Bool, false}
-use mathlib.Core.List.{List, map}
-use mathlib.Core.Path.{_≡_, refl, sym, ap, _∙_}
-use Prim.Native.Nat.{ℕ, _<_}
-use lib.ListN.{set}
-use Rattle.roleset.specs.Roles.{without}
+-- What the deletion of a user, and that of a role, leave. Assumes nothing.
+use mathlib.Core.Bool.{false}
+use mathlib.Core.List.{List}
+use mathlib.Core.Path.{_≡_, refl, sym, ap, ap₂, _∙_}
+use Prim.Native.Nat.{ℕ, _+_, _-_, _<_, _≤_}
+use lib.ListN.{set, getD}
+use Rattle.roleset.specs.Roles.{has, without, count}
+use Rattle.roleset.proofs.BoundedLaws.{tally-le}
 use Rattle.hierarchy.specs.Lines.{tableOf}
-use Rattle.model.specs.Model.{Session, put, withSessions}
+use Rattle.model.specs.Model.{Model, put, withUsers, withAssignments, withSessions}
 use Rattle.model.specs.Words.{shed, shedCut}
-use Rattle.model.specs.commands.Users.{withoutUser, withoutRole, allEnded, endedOf}
-use Rattle.separation.specs.Tables.{setsIn}
-use Rattle.policy.specs.Sized.{Sized}
-use Rattle.policy.specs.View.{view, flags, sessionsIn}
-use Rattle.policy.specs.declared.State.{State}
-use Rattle.policy.proofs.Tables.{set-put}
-use Rattle.sweeps.specs.Sweeps.{ShedsAll}
+use Rattle.model.specs.commands.Users.{withoutUser, withoutRole, allEnded, linesWith}
+use Rattle.state.specs.Stores.{inRange, withActive, Table}
+use Rattle.state.specs.View.{part, view}
+use Rattle.state.proofs.Stored.{in-range}
+use Rattle.sweeps.specs.Sweeps.{ShedsAll, Strips}
 use Rattle.sweeps.specs.declared.Kept.{Kept}
-use Rattle.sweeps.proofs.Shedding.{shed-cut, shed-after}
-use Rattle.sweeps.proofs.Strips.{strip-table, strip-length}
+use Rattle.sweeps.proofs.Changing.{as-part, table-put, table-stripped, table-had}
+use Rattle.sweeps.proofs.Shedding.{sheds-same, shed-cut, shed-after, view-past}
+use Rattle.users.specs.Leaving.{leaving}
 
-module _ (s : State) (whole : Sized s) where
-  -- the user is gone, its assignments are none, and its sessions have ended
-  pub user-gone : (u : ℕ) (left : List Session) → u < 256 → sessionsIn left ≡ (λ k. endedOf u (sessionsIn (s .sessions) k)) → view (record { users = set (s .users) u false; roles = s .roles; juniors = s .juniors; assigned = set (s .assigned) u 0; holders = s .holders; ssd = s .ssd; dsd = s .dsd; sessions = left }) ≡ withoutUser (view s) u
-  unfolding withoutUser allEnded view
-  user-gone u left h ended = λ i. record { users = set-put (s .users) u false false (rw (whole .users) h) i; roles = s .roles; juniors = tableOf (s .juniors); assigned = set-put (s .assigned) u 0 0 (rw (whole .assigned) h) i; holders = tableOf (s .holders); ssd = setsIn (s .ssd); dsd = setsIn (s .dsd); sessions = ended i }
+-- the sessions have ended, the assignments are none and are counted, and the user is gone
+pub user-gone : (m ended between after : Model) (u standing : ℕ) → u < 256 → standing ≡ m .assignmentCount - count (m .assigned u) → ended ≡ allEnded m u → between ≡ inRange 256 u ended (withAssignments ended (put (ended .assigned) u 0) standing) → after ≡ inRange 256 u between (withUsers between (put (between .users) u false)) → after ≡ withoutUser m u
+unfolding withoutUser allEnded
+user-gone m ended between after u standing h counted e₁ e₂ e₃ =
+    e₃ ∙ in-range 256 u between _ h ∙ ap (λ (x : Model). withUsers x (put (x .users) u false))
+    (e₂ ∙ in-range 256 u ended _ h ∙ ap₂ (λ (x : Model) (n : ℕ). withAssignments x (put (x .assigned) u 0) n) e₁ counted)
 
-  -- the role is stripped from the lines and the assignments, nothing is below it, and a sweep sheds
-  module _ (r : ℕ) (juniors assigned : List ℕ) (kept : Kept) (h : r < 64) (no-line : juniors ≡ map (λ x. without x r) (s .juniors)) (no-user : assigned ≡ map (λ x. without x r) (s .assigned)) (sheds : ShedsAll (tableOf (set juniors r 0)) (tableOf assigned) (s .sessions) kept) where
-    lines : _≡_ {A = ℕ → ℕ} (tableOf (set juniors r 0)) (withoutRole (view s) r .juniors)
-    unfolding withoutRole view
-    lines =
-        ap (λ (l : List ℕ). tableOf (set l r 0)) no-line
-        ∙ set-put (map (λ x. without x r) (s .juniors)) r 0 0 (rw (strip-length (s .juniors) r, whole .juniors) h)
-        ∙ ap (λ (f : ℕ → ℕ). put f r 0) (strip-table (s .juniors) r)
+-- no more sets had the role than there are
+pub few : {n : ℕ} {f : ℕ → ℕ} (x after : List ℕ) (r gone : ℕ) → Table n f x → Strips x after r gone → gone ≤ n
+few {n} {f} x after r gone t s = rw (table-had x after r gone t s) (tally-le n (λ k. has (f k) r))
 
-    holds : _≡_ {A = ℕ → ℕ} (tableOf assigned) (withoutRole (view s) r .assigned)
-    unfolding withoutRole view
-    holds = ap tableOf no-user ∙ strip-table (s .assigned) r
+-- the role is stripped from the lines and the assignments, nothing is below it, and a sweep sheds
+module _ (l juniors assigned lines-left holds-left : List ℕ) (r above held : ℕ) (kept : Kept) (h : r < 64) (lines : Table 64 (view l .juniors) juniors) (holds : Table 256 (view l .assigned) assigned) (no-line : Strips juniors lines-left r above) (no-user : Strips assigned holds-left r held) (sheds : ShedsAll (tableOf (set lines-left r 0)) (part holds-left 0 256) (view l .sessions) kept) where
+  stripped : Table 64 (λ s. without (view l .juniors s) r) lines-left
+  stripped = table-stripped juniors lines-left r above lines no-line
 
-    pub role-cut : shedCut (withoutRole (view s) r) ≡ kept .cut
-    unfolding withoutRole view
-    role-cut = shed-cut (withoutRole (view s) r) _ _ _ kept sheds lines holds refl
+  lines-after : Table 64 (put (λ s. without (view l .juniors s) r) r 0) (set lines-left r 0)
+  lines-after = table-put lines-left r 0 h stripped
 
-    pub role-gone : (roles : ℕ) (holders : List ℕ) → roles ≡ without (s .roles) r → holders ≡ map (λ x. without x r) (s .holders) → view (record { users = s .users; roles = roles; juniors = set juniors r 0; assigned = assigned; holders = holders; ssd = s .ssd; dsd = s .dsd; sessions = kept .sessions }) ≡ shed (withoutRole (view s) r)
-    unfolding withoutRole view
-    role-gone roles holders gone no-grant = stripped ∙ sym (shed-after (withoutRole (view s) r) _ _ _ kept sheds lines holds refl)
-      where
-        stripped : view (record { users = s .users; roles = roles; juniors = set juniors r 0; assigned = assigned; holders = holders; ssd = s .ssd; dsd = s .dsd; sessions = kept .sessions }) ≡ withSessions (withoutRole (view s) r) (sessionsIn (kept .sessions))
-        stripped = λ i. record { users = flags (s .users); roles = gone i; juniors = lines i; assigned = holds i; holders = (ap tableOf no-grant ∙ strip-table (s .holders) r) i; ssd = setsIn (s .ssd); dsd = setsIn (s .dsd); sessions = sessionsIn (kept .sessions) }
+  holds-after : Table 256 (λ u. without (view l .assigned u) r) holds-left
+  holds-after = table-stripped assigned holds-left r held holds no-user
+
+  swept : ShedsAll (put (λ s. without (view l .juniors s) r) r 0) (λ u. without (view l .assigned u) r) (view l .sessions) kept
+  swept = sheds-same kept (lines-after .each) (as-part holds-left holds-after) refl sheds
+
+  pub role-cut : shedCut (withoutRole (view l) r) ≡ kept .cut
+  unfolding withoutRole
+  role-cut = shed-cut (withoutRole (view l) r) kept swept
+
+  pub role-gone : (between after : Model) (below : ℕ) → below ≡ count (getD lines-left r 0) → between ≡ leaving (view l) r (part (set lines-left r 0) 0 64) (above + below) (part holds-left 0 256) held → after ≡ withSessions between (withActive (between .sessions) (part (kept .active) 0 64)) → after ≡ shed (withoutRole (view l) r)
+  unfolding withoutRole
+  role-gone between after below counted stored e =
+      e ∙ ap (λ (x : Model). withSessions x (withActive (x .sessions) (part (kept .active) 0 64)))
+      (stored ∙ ap₂ (λ (f : ℕ → ℕ) (n : ℕ). leaving (view l) r f n (part holds-left 0 256) held) (as-part (set lines-left r 0) lines-after) gone ∙ ap₂ (λ (f : ℕ → ℕ) (n : ℕ). leaving (view l) r (put (λ s. without (view l .juniors s) r) r 0) (linesWith (view l) r) f n) (as-part holds-left holds-after) (table-had assigned holds-left r held holds no-user))
+      ∙ sym (shed-after (withoutRole (view l) r) kept swept (view-past l))
+    where
+      gone : above + below ≡ linesWith (view l) r
+      gone = ap₂ (λ (x y : ℕ). x + y) (table-had juniors lines-left r above lines no-line) (counted ∙ ap (λ (f : ℕ → ℕ). count (f r)) (stripped .each))
