@@ -1,75 +1,58 @@
--- What `inherit` and `disinherit` share: the roles that they name, and the lines after a change. Assumes nothing.
+-- What `inherit` and `disinherit` share: the roles that they name, and the lines after a change, before and after they are stored. Assumes nothing.
 use borrow.Author.Tests.{leb-false}
-use mathlib.Core.Bool.{Bool, false, _||_}
-use mathlib.Core.Path.{_≡_, refl, sym, ap, _∙_}
-use Prim.Native.Nat.{ℕ, _<_}
-use lib.Dec.{leb}
-use lib.ListN.{length, set}
-use Rattle.roleset.specs.Bounded.{some, total}
-use Rattle.roleset.specs.Roles.{count, with, without}
-use Rattle.roleset.proofs.BoundedLaws.{or-clear, some-ext}
-use Rattle.numbers.specs.Ranges.{mostLines}
+use mathlib.Core.Bool.{Bool, false, not, _&&_, _||_}
+use mathlib.Core.List.{List}
+use mathlib.Core.Path.{_≡_, refl, sym, ap, ap₂, _∙_, subst}
+use Prim.Native.Nat.{ℕ, _+_, _-_, _≤_, _<_}
+use lib.ListN.{set}
+use Rattle.roleset.specs.Bounded.{some}
+use Rattle.roleset.specs.Roles.{with, without}
+use Rattle.roleset.proofs.BoundedLaws.{or-clear}
 use Rattle.hierarchy.specs.Lines.{tableOf}
-use Rattle.hierarchy.specs.Walks.{reach}
-use Rattle.model.specs.Model.{put, withJuniors, withSessions}
-use Rattle.model.specs.Words.{breaksSome, staticBroken, linesStanding, shed, shedCut}
+use Rattle.model.specs.Model.{Model, noSession, put, withLines, withSessions}
+use Rattle.model.specs.Words.{staticBroken, shed, shedCut}
 use Rattle.model.specs.commands.Inheriting.{lined, unlined, usersCut}
 use Rattle.model.specs.commands.Naming.{noRole}
-use Rattle.separation.specs.Tables.{setsIn}
-use Rattle.policy.specs.Sized.{Sized}
-use Rattle.policy.specs.View.{view, sessionsIn}
-use Rattle.policy.specs.declared.State.{State}
-use Rattle.policy.proofs.Tables.{set-put}
-use Rattle.sweeps.specs.Sweeps.{AuthorisesAll, ShedsAll}
-use Rattle.sweeps.specs.declared.Authorised.{Authorised}
+use Rattle.state.specs.Stores.{Table, inRange, withActive}
+use Rattle.state.specs.View.{part}
+use Rattle.state.proofs.Stored.{in-range}
+use Rattle.sweeps.specs.Sweeps.{Asks, AsksStatic, ShedsAll}
+use Rattle.sweeps.specs.declared.Asked.{Asked}
 use Rattle.sweeps.specs.declared.Kept.{Kept}
-use Rattle.sweeps.proofs.Shedding.{shed-cut, shed-after}
+use Rattle.sweeps.proofs.Changing.{as-part, table-put}
+use Rattle.sweeps.proofs.Shedding.{sheds-same, shed-cut, shed-after}
 
 -- past refusal 1 the senior is a place of the table of lines
 pub senior-within : (senior junior : ℕ) → (noRole senior || noRole junior) ≡ false → senior < 64
 senior-within senior junior h = leb-false 64 senior (or-clear (noRole senior) (noRole junior) h .0)
 
-module _ (s : State) (whole : Sized s) where
-  -- refusal 12: the table of lines is full
-  pub lines-full : (b : Bool) → b ≡ leb 512 (total (length (s .juniors)) (λ k. count (tableOf (s .juniors) k))) → leb mostLines (linesStanding (view s)) ≡ b
-  unfolding linesStanding view
-  lines-full b e = sym (rw (whole .juniors) at e)
+-- where a rule is not broken, the flag says whether a walk was cut off
+pub asked-cut : {isBroken isCut : Bool} {a : Asked} → Asks isBroken isCut a → a .broken ≡ false → isCut ≡ a .cut
+asked-cut {isBroken} {isCut} {a} q h = sym (q .cut ∙ ap (λ (b : Bool). not b && isCut) (sym (q .broken) ∙ h))
 
-  -- a set of roles stored at one place of the table of lines
-  stored : (senior new roles : ℕ) → senior < 64 → new ≡ roles → _≡_ {A = ℕ → ℕ} (tableOf (set (s .juniors) senior new)) (put (tableOf (s .juniors)) senior roles)
-  stored senior new roles h e = set-put (s .juniors) senior new 0 (rw (whole .juniors) h) ∙ ap (put (tableOf (s .juniors)) senior) e
+module _ (m : Model) (senior junior : ℕ) (h : senior < 64) where
+  -- with the new line: the rule asked of every user, and the lines stored
+  module _ (new : ℕ) (e : new ≡ with (m .juniors senior) junior) where
+    pub asks-lined : (x : List ℕ) (a : Asked) → Table 64 (m .juniors) x → AsksStatic m (tableOf (set x senior new)) a → Asks (some 256 (staticBroken (lined m senior junior))) (usersCut (lined m senior junior)) a
+    unfolding lined staticBroken usersCut
+    asks-lined x a t q = subst (λ (f : ℕ → ℕ). AsksStatic m f a) (table-put x senior new h t .each ∙ ap (put (m .juniors) senior) e) q
 
-  -- with the new line: the static rule of every user, the walks, and the state
-  module _ (senior junior new : ℕ) (all : Authorised) (h : senior < 64) (e : new ≡ with (tableOf (s .juniors) senior) junior) (authorises : AuthorisesAll (tableOf (set (s .juniors) senior new)) (tableOf (s .assigned)) all) where
-    lines : _≡_ {A = ℕ → ℕ} (tableOf (set (s .juniors) senior new)) (lined (view s) senior junior .juniors)
-    unfolding lined view
-    lines = stored senior new _ h e
+    pub lined-stored : (after : Model) (standing : ℕ) → standing ≡ m .lineCount → after ≡ inRange 64 senior m (withLines m (put (m .juniors) senior new) (standing + 1)) → after ≡ lined m senior junior
+    unfolding lined
+    lined-stored after standing n s = s ∙ in-range 64 senior m _ h ∙ ap₂ (λ (roles count : ℕ). withLines m (put (m .juniors) senior roles) (count + 1)) e n
 
-    pub lined-broken : (b : Bool) → length (all .roles) ≡ 256 → b ≡ some (length (all .roles)) (λ k. breaksSome (setsIn (s .ssd)) (tableOf (all .roles) k)) → some 256 (staticBroken (lined (view s) senior junior)) ≡ b
-    unfolding lined view staticBroken
-    lined-broken b all-there found =
-        some-ext 256 (staticBroken (lined (view s) senior junior)) _
-        (λ u l. ap (breaksSome (setsIn (s .ssd))) (ap (λ (table : ℕ → ℕ). reach table (tableOf (s .assigned) u) .roles) (sym lines) ∙ sym (authorises .each u l)))
-        ∙ sym (rw all-there at found)
+  -- without the line: what a sweep that sheds finds, and the lines and the active roles stored
+  module _ (new : ℕ) (e : new ≡ without (m .juniors senior) junior) (x y : List ℕ) (kept : Kept) (lines : Table 64 (m .juniors) x) (holds : Table 256 (m .assigned) y) (sheds : ShedsAll (tableOf (set x senior new)) (part y 0 256) (m .sessions) kept) where
+    fewer : ShedsAll (unlined m senior junior .juniors) (unlined m senior junior .assigned) (unlined m senior junior .sessions) kept
+    unfolding unlined
+    fewer = sheds-same kept (table-put x senior new h lines .each ∙ ap (put (m .juniors) senior) e) (as-part y holds) refl sheds
 
-    pub lined-cut : usersCut (lined (view s) senior junior) ≡ all .cut
-    unfolding usersCut lined view
-    lined-cut = ap (λ (table : ℕ → ℕ). some 256 (λ u. reach table (tableOf (s .assigned) u) .cut)) (sym lines) ∙ sym (authorises .cut)
+    pub unlined-cut : shedCut (unlined m senior junior) ≡ kept .cut
+    unlined-cut = shed-cut (unlined m senior junior) kept fewer
 
-    pub lined-after : view (record { users = s .users; roles = s .roles; juniors = set (s .juniors) senior new; assigned = s .assigned; holders = s .holders; ssd = s .ssd; dsd = s .dsd; sessions = s .sessions }) ≡ lined (view s) senior junior
-    unfolding lined view
-    lined-after = ap (withJuniors (view s)) lines
-
-  -- without the line: what a sweep that sheds finds and leaves
-  module _ (senior junior new : ℕ) (kept : Kept) (h : senior < 64) (e : new ≡ without (tableOf (s .juniors) senior) junior) (sheds : ShedsAll (tableOf (set (s .juniors) senior new)) (tableOf (s .assigned)) (s .sessions) kept) where
-    fewer : _≡_ {A = ℕ → ℕ} (tableOf (set (s .juniors) senior new)) (unlined (view s) senior junior .juniors)
-    unfolding unlined view
-    fewer = stored senior new _ h e
-
-    pub unlined-cut : shedCut (unlined (view s) senior junior) ≡ kept .cut
-    unfolding unlined view
-    unlined-cut = shed-cut (unlined (view s) senior junior) _ _ _ kept sheds fewer refl refl
-
-    pub unlined-shed : view (record { users = s .users; roles = s .roles; juniors = set (s .juniors) senior new; assigned = s .assigned; holders = s .holders; ssd = s .ssd; dsd = s .dsd; sessions = kept .sessions }) ≡ shed (unlined (view s) senior junior)
-    unfolding unlined view
-    unlined-shed = ap (λ (table : ℕ → ℕ). withSessions (withJuniors (view s) table) (sessionsIn (kept .sessions))) fewer ∙ sym (shed-after (unlined (view s) senior junior) _ _ _ kept sheds fewer refl refl)
+    pub unlined-stored : ((k : ℕ) → 64 ≤ k → m .sessions k ≡ noSession) → (between after : Model) (standing : ℕ) → standing ≡ m .lineCount - 1 → between ≡ inRange 64 senior m (withLines m (put (m .juniors) senior new) standing) → after ≡ withSessions between (withActive (between .sessions) (part (kept .active) 0 64)) → after ≡ shed (unlined m senior junior)
+    unfolding unlined
+    unlined-stored past between after standing n s t =
+        t
+        ∙ ap (λ (x : Model). withSessions x (withActive (x .sessions) (part (kept .active) 0 64))) (s ∙ in-range 64 senior m _ h ∙ ap₂ (λ (roles count : ℕ). withLines m (put (m .juniors) senior roles) count) e n)
+        ∙ sym (shed-after (unlined m senior junior) kept fewer past)

@@ -1,87 +1,82 @@
 // The commands `inherit` and `disinherit`.
 ghost use mathlib.Core.Path.{_≡_};
 ghost use Rattle.model.specs.commands.Inheriting.{inherit, disinherit};
-ghost use Rattle.policy.specs.View.{view, seen};
+ghost use Rattle.state.specs.View.{view, told};
 use numbers::Answer;
 use numbers::Role;
-use policy::Outcome;
-use policy::State;
-use policy::naming::either;
-use policy::refused;
+use numbers::role_beyond;
+use state::PLACES;
+use state::naming::either;
+use state::naming::less;
+use state::parts::assigned_table;
+use state::parts::juniors_table;
+use state::reads::directly_below;
+use state::reads::has_role;
+use state::reads::line_count;
+use state::stores::put_all_active;
+use state::stores::put_juniors;
 
 // The line from senior to junior stands from now on; 1, 2, 4, 6, 10, 12, 13.
-pub fn inherit(s: State, senior: Role, junior: Role) -> Outcome
-    ensures { λ o. ⌜ seen o ≡ inherit (view s) (senior .number) (junior .number) ⌝ }
+pub fn inherit(state: &mut [u64; PLACES], senior: Role, junior: Role) -> Answer
+    ensures { λ a. ⌜ told a (now (state .exit)) ≡ inherit (view (now (state .entry))) (senior .number) (junior .number) ⌝ }
 {
-    if either(numbers::role_beyond(senior), numbers::role_beyond(junior)) {
-        return refused(Answer::BeyondRange, s);
+    if either(role_beyond(senior), role_beyond(junior)) {
+        return Answer::BeyondRange;
     }
-    if either(
-        !roleset::has(s.roles, senior.number),
-        !roleset::has(s.roles, junior.number),
-    ) {
-        return refused(Answer::Missing, s);
+    if either(!has_role(state, senior), !has_role(state, junior)) {
+        return Answer::Missing;
     }
-    let at = senior.number as usize;
-    if roleset::has(s.juniors[at], junior.number) {
-        return refused(Answer::AlreadyThere, s);
+    let old = directly_below(state, senior);
+    if roleset::has(old, junior.number) {
+        return Answer::AlreadyThere;
     }
-    let below = hierarchy::reach(&s.juniors, roleset::with(0, junior.number));
+    let below = walking::reach(state, roleset::with(0, junior.number));
     if roleset::has(below.roles, senior.number) {
-        return refused(Answer::InheritsItself, s);
+        return Answer::InheritsItself;
     }
-    let mut juniors = s.juniors;
-    juniors[at] = roleset::with(juniors[at], junior.number);
-    let all = sweeps::authorised_all(&juniors, &s.assigned);
-    let ssd = s.ssd;
-    let roles = all.roles;
-    if separation::some_breaks_some(ssd, &roles) {
-        return refused(Answer::BreaksStatic, s);
+    let more = roleset::with(old, junior.number);
+    let mut juniors = juniors_table(state);
+    juniors[senior.number as usize] = more;
+    let asked = sweeps::ask_static(state, &juniors);
+    if asked.broken {
+        return Answer::BreaksStatic;
     }
-    if policy::full(&s.juniors, 512) {
-        return refused(Answer::TableFull, s);
+    let standing = line_count(state);
+    if 512 <= standing {
+        return Answer::TableFull;
     }
-    if either(below.cut, all.cut) {
-        return refused(Answer::ChainTooLong, s);
+    if either(below.cut, asked.cut) {
+        return Answer::ChainTooLong;
     }
-    let mut after = s;
-    after.juniors = juniors;
-    Outcome {
-        answer: Answer::Done,
-        state: after,
-    }
+    put_juniors(state, senior, more, standing + 1);
+    Answer::Done
 }
 
 // The line from senior to junior goes; then the sessions shed; 1, 2, 5, 13.
-pub fn disinherit(s: State, senior: Role, junior: Role) -> Outcome
-    ensures { λ o. ⌜ seen o ≡ disinherit (view s) (senior .number) (junior .number) ⌝ }
+pub fn disinherit(state: &mut [u64; PLACES], senior: Role, junior: Role) -> Answer
+    ensures { λ a. ⌜ told a (now (state .exit)) ≡ disinherit (view (now (state .entry))) (senior .number) (junior .number) ⌝ }
 {
-    if either(numbers::role_beyond(senior), numbers::role_beyond(junior)) {
-        return refused(Answer::BeyondRange, s);
+    if either(role_beyond(senior), role_beyond(junior)) {
+        return Answer::BeyondRange;
     }
-    if either(
-        !roleset::has(s.roles, senior.number),
-        !roleset::has(s.roles, junior.number),
-    ) {
-        return refused(Answer::Missing, s);
+    if either(!has_role(state, senior), !has_role(state, junior)) {
+        return Answer::Missing;
     }
-    let at = senior.number as usize;
-    if !roleset::has(s.juniors[at], junior.number) {
-        return refused(Answer::NotThere, s);
+    let old = directly_below(state, senior);
+    if !roleset::has(old, junior.number) {
+        return Answer::NotThere;
     }
-    let mut juniors = s.juniors;
-    juniors[at] = roleset::without(juniors[at], junior.number);
-    let sessions = s.sessions;
-    let kept = sweeps::shed(&juniors, &s.assigned, sessions);
+    let fewer = roleset::without(old, junior.number);
+    let mut juniors = juniors_table(state);
+    juniors[senior.number as usize] = fewer;
+    let assigned = assigned_table(state);
+    let kept = sweeps::shed(&juniors, &assigned, state);
     if kept.cut {
-        return refused(Answer::ChainTooLong, s);
+        return Answer::ChainTooLong;
     }
-    let left = kept.sessions;
-    let mut after = s;
-    after.juniors = juniors;
-    after.sessions = left;
-    Outcome {
-        answer: Answer::Done,
-        state: after,
-    }
+    let standing = less(line_count(state), 1);
+    let active = kept.active;
+    put_juniors(state, senior, fewer, standing);
+    put_all_active(state, &active);
+    Answer::Done
 }
