@@ -1,41 +1,49 @@
--- What the commands over one session ask of the user, the session and the role that they name, and the store that ends each. Assumes nothing.
-use borrow.Author.Tests.{leb-false}
-use mathlib.Core.Bool.{Bool, false, _||_}
-use mathlib.Core.Path.{_≡_}
+-- What holds of the user, the session and the role that `activate` and `drop` name, by the refusals that both begin with. Assumes nothing.
+use borrow.Author.Tests.{leb-false, eqb-true, eq-eqb}
+use mathlib.Core.Bool.{Bool, true, false, _||_}
+use mathlib.Core.List.{List, [], _∷_, _++_}
+use mathlib.Core.Path.{_≡_, refl, sym, ap, _∙_}
 use Prim.Native.Nat.{ℕ, _<_}
-use lib.ListN.{set}
-use Rattle.roleset.proofs.BoundedLaws.{or-clear}
-use Rattle.model.specs.Model.{Model, Session}
+use native.Mathlib.Omega.{arith}
+use lib.Dec.{eqb}
+use Rattle.roleset.proofs.BoundedLaws.{clash, or-clear}
+use Rattle.model.specs.Model.{Model}
+use Rattle.model.specs.Sheet.{Refusal, _when_, verdict, settle, refused}
 use Rattle.model.specs.commands.Naming.{noUser, noRole, noSession, userMissing, roleMissing, sessionMissing}
-use Rattle.model.specs.commands.Sessions.{notOwner, sessionSet}
-use Rattle.policy.specs.Sized.{Sized}
-use Rattle.policy.specs.View.{view}
-use Rattle.policy.specs.declared.State.{State}
-use Rattle.policy.proofs.Stores.{store-sessions}
+use Rattle.model.specs.commands.Sessions.{notOwner}
+use Rattle.sessions.specs.First.{firstRefusals}
 
--- refusals 1 and 2 of `activate` and `drop`
-abbrev pub beyond : ℕ → ℕ → ℕ → Bool
-beyond u s r = noUser u || (noSession s || noRole r)
+abbrev three : Bool → Bool → Bool → List Refusal → List Refusal
+three a b c rest = 1 when a ∷ 2 when b ∷ 3 when c ∷ rest
 
-abbrev pub missing : Model → ℕ → ℕ → ℕ → Bool
-missing m u s r = userMissing m u || (sessionMissing m s || roleMissing m r)
+-- where one of the three holds, it is told, and what comes after them is not asked,
+held : (a b c : Bool) (rest : List Refusal) (m after : Model) (n : ℕ) → n ≡ verdict (three a b c []) → eqb n 0 ≡ false → refused n m ≡ settle (three a b c rest) m [] after
+unfolding verdict settle
+held true b c rest m after n p h = ap (λ (k : ℕ). refused k m) p
+held false true c rest m after n p h = ap (λ (k : ℕ). refused k m) p
+held false false true rest m after n p h = ap (λ (k : ℕ). refused k m) p
+held false false false rest m after n p h = clash (eqb n 0) (eq-eqb n 0 p) h
 
--- past refusals 1, 2 and 3
+-- and where the answer is 0, none holds
+clear : (a b c : Bool) → verdict (three a b c []) ≡ 0 → (a ≡ false) × ((b ≡ false) × (c ≡ false))
+unfolding verdict
+clear true b c h = absurd (omega arith)
+clear false true c h = absurd (omega arith)
+clear false false true h = absurd (omega arith)
+clear false false false h = (refl, (refl, refl))
+
+-- A number beyond its range, or what is missing or another's, is told whatever else is asked.
+pub refuses : (m : Model) (u s r : ℕ) (rest : List Refusal) (after : Model) (n : ℕ) → n ≡ verdict (firstRefusals m u s r) → eqb n 0 ≡ false → refused n m ≡ settle (firstRefusals m u s r ++ rest) m [] after
+refuses m u s r rest after n p h = held (noUser u || (noSession s || noRole r)) (userMissing m u || (sessionMissing m s || roleMissing m r)) (notOwner m u s) rest m after n p h
+
+-- past the refusals 1, 2 and 3
 pub record Named (m : Model) (u s r : ℕ) : Type 0 where
-  pub within : beyond u s r ≡ false
-  pub there : missing m u s r ≡ false
+  pub within : (noUser u || (noSession s || noRole r)) ≡ false
+  pub there : (userMissing m u || (sessionMissing m s || roleMissing m r)) ≡ false
   pub own : notOwner m u s ≡ false
+  pub place : s < 64
 
--- past refusal 1 the numbers are places of their arrays
-pub user-within : (u : ℕ) (rest : Bool) → (noUser u || rest) ≡ false → u < 256
-user-within u rest h = leb-false 256 u (or-clear (noUser u) rest h .0)
-
-pub session-within : (s : ℕ) → noSession s ≡ false → s < 64
-session-within s h = leb-false 64 s h
-
-pub named-within : (u s r : ℕ) → beyond u s r ≡ false → s < 64
-named-within u s r h = session-within s (or-clear (noSession s) (noRole r) (or-clear (noUser u) (noSession s || noRole r) h .1) .0)
-
--- a store into the array of sessions sets one session
-pub stored : (s : State) (n : ℕ) (x : Session) → Sized s → n < 64 → view (record { users = s .users; roles = s .roles; juniors = s .juniors; assigned = s .assigned; holders = s .holders; ssd = s .ssd; dsd = s .dsd; sessions = set (s .sessions) n x }) ≡ sessionSet (view s) n x
-stored s n x whole h = store-sessions s n x (rw (whole .sessions) h)
+pub named : (m : Model) (u s r n : ℕ) → n ≡ verdict (firstRefusals m u s r) → eqb n 0 ≡ true → Named m u s r
+named m u s r n p h =
+    let all = clear (noUser u || (noSession s || noRole r)) (userMissing m u || (sessionMissing m s || roleMissing m r)) (notOwner m u s) (sym p ∙ eqb-true n 0 h) in
+    record { within = all .0; there = all .1 .0; own = all .1 .1; place = leb-false 64 s (or-clear (noSession s) (noRole r) (or-clear (noUser u) (noSession s || noRole r) (all .0) .1) .0) }

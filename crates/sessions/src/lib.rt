@@ -1,25 +1,35 @@
 // The session commands `session`, `activate`, `drop` and `end`; the question `check`, and whose a session is.
 ghost use mathlib.Core.Path.{_≡_};
-ghost use Rattle.hierarchy.specs.Lines.{tableOf};
+ghost use Rattle.numbers.specs.Answers.{numberOf};
+ghost use Rattle.model.specs.Sheet.{verdict};
 ghost use Rattle.model.specs.commands.Sessions.{session, activate, drop, end, check, owner};
-ghost use Rattle.policy.specs.View.{view, seen};
-ghost use Rattle.sessions.specs.Answering.{Opens, Checks, ChecksLent, Owns};
-use model::SessionRecord;
+ghost use Rattle.state.specs.View.{view, told};
+ghost use Rattle.sessions.specs.Answering.{Opens, Checks, Owns};
+ghost use Rattle.sessions.specs.First.{firstRefusals};
+use model::Kind;
 use numbers::Answer;
 use numbers::Role;
 use numbers::Session;
 use numbers::User;
-use policy::Outcome;
-use policy::State;
-use policy::naming::either;
-use policy::naming::permission_beyond;
-use policy::refused;
+use separation::breaks_some;
+use state::PLACES;
+use state::naming::either;
+use state::naming::permission_beyond;
+use state::reads::assigned_to;
+use state::reads::has_role;
+use state::reads::has_user;
+use state::reads::holders_of;
+use state::reads::roles;
+use state::reads::session_at;
+use state::stores::close_session;
+use state::stores::open_session;
+use state::stores::put_active;
+use walking::reach;
 
-// The session that was opened, and the state after it; session 0 on a refusal.
+// The session that was opened; session 0 on a refusal.
 pub struct Opened {
     pub answer: Answer,
     pub session: Session,
-    pub state: State,
 }
 
 // What `check` answers: yes or no, and no on a refusal.
@@ -28,251 +38,194 @@ pub struct Checked {
     pub yes: bool,
 }
 
-// Whose a session is; user 0 on a refusal.
+// Whose a session is, as the state has it: in a state of the engine's own a user's number, in any other any number; 0 on a refusal.
 pub struct Owned {
     pub answer: Answer,
-    pub owner: User,
+    pub owner: u64,
 }
 
-// A refusal of `session`: none is opened, and the state is as it was.
-fn not_opened(answer: Answer, state: State) -> Opened
-    ensures { λ o. ⌜ o ≡ record { answer = answer; session = record { number = 0 }; state = state } ⌝ }
+// A refusal of `session`: none is opened.
+fn not_opened(answer: Answer) -> Opened
+    ensures { λ o. ⌜ o ≡ record { answer = answer; session = record { number = 0 } } ⌝ }
 {
     Opened {
         answer,
         session: Session { number: 0 },
-        state,
     }
 }
 
 // Opens the lowest free session for the user, with the listed roles active; 14, 1, 2, 9, 11, 12, 13.
-pub fn session(s: State, u: User, list: &[u16]) -> Opened
-    ensures { λ o. ⌜ Opens (session (view s) (u .number) (now (list .entry))) o ⌝ }
+pub fn session(state: &mut [u64; PLACES], u: User, list: &[u16]) -> Opened
+    ensures { λ o. ⌜ Opens (session (view (now (state .entry))) (u .number) (now (list .entry))) o (now (state .exit)) ⌝ }
 {
     let asked = lists::read(list);
     if !asked.ascending {
-        return not_opened(Answer::NotOfForm, s);
+        return not_opened(Answer::NotOfForm);
     }
     if either(numbers::user_beyond(u), asked.beyond) {
-        return not_opened(Answer::BeyondRange, s);
+        return not_opened(Answer::BeyondRange);
     }
-    let user = u.number as usize;
-    if either(!s.users[user], !roleset::subset(asked.roles, s.roles)) {
-        return not_opened(Answer::Missing, s);
+    if either(
+        !has_user(state, u),
+        !roleset::subset(asked.roles, roles(state)),
+    ) {
+        return not_opened(Answer::Missing);
     }
-    let assigned = s.assigned[user];
-    let walk = hierarchy::reach(&s.juniors, assigned);
+    let walk = reach(state, assigned_to(state, u));
     if !roleset::subset(asked.roles, walk.roles) {
-        return not_opened(Answer::NotAuthorised, s);
+        return not_opened(Answer::NotAuthorised);
     }
-    let dsd = s.dsd;
-    if separation::breaks_some(dsd, asked.roles) {
-        return not_opened(Answer::BreaksDynamic, s);
+    if breaks_some(state, Kind::Dynamic, asked.roles) {
+        return not_opened(Answer::BreaksDynamic);
     }
-    let sessions = s.sessions;
-    let free = sweeps::lowest_free(sessions);
+    let free = sweeps::lowest_free(state);
     if 64 <= free {
-        return not_opened(Answer::TableFull, s);
+        return not_opened(Answer::TableFull);
     }
     if walk.cut {
-        return not_opened(Answer::ChainTooLong, s);
+        return not_opened(Answer::ChainTooLong);
     }
-    let at = free as usize;
-    let mut after = s;
-    after.sessions[at] = SessionRecord {
-        live: true,
-        owner: u.number as u8,
-        active: asked.roles,
-    };
+    let opened = Session { number: free };
+    open_session(state, opened, u, asked.roles);
     Opened {
         answer: Answer::Done,
-        session: Session { number: free },
-        state: after,
+        session: opened,
     }
+}
+
+// The first refusals of `activate` and `drop`; done where none of them holds; 1, 2, 3.
+fn first_refusals(state: &[u64; PLACES], u: User, x: Session, r: Role) -> Answer
+    ensures { λ a. ⌜ numberOf a ≡ verdict (firstRefusals (view (now (state .entry))) (u .number) (x .number) (r .number)) ⌝ }
+{
+    if numbers::activation_beyond(u, x, r) {
+        return Answer::BeyondRange;
+    }
+    let session = session_at(state, x);
+    if either(
+        !has_user(state, u),
+        either(!session.live, !has_role(state, r)),
+    ) {
+        return Answer::Missing;
+    }
+    if session.owner != u.number as u64 {
+        return Answer::OtherOwner;
+    }
+    Answer::Done
 }
 
 // The role becomes active in the session; 1, 2, 3, 4, 9, 11, 13.
-pub fn activate(s: State, u: User, x: Session, r: Role) -> Outcome
-    ensures { λ o. ⌜ seen o ≡ activate (view s) (u .number) (x .number) (r .number) ⌝ }
+pub fn activate(state: &mut [u64; PLACES], u: User, x: Session, r: Role) -> Answer
+    ensures { λ a. ⌜ told a (now (state .exit)) ≡ activate (view (now (state .entry))) (u .number) (x .number) (r .number) ⌝ }
 {
-    if numbers::activation_beyond(u, x, r) {
-        return refused(Answer::BeyondRange, s);
+    let first = first_refusals(state, u, x, r);
+    if !numbers::is_done(first) {
+        return first;
     }
-    let user = u.number as usize;
-    let at = x.number as usize;
-    let old = s.sessions[at];
-    let there = roleset::has(s.roles, r.number);
-    if either(!s.users[user], either(!old.live, !there)) {
-        return refused(Answer::Missing, s);
-    }
-    if old.owner as u16 != u.number {
-        return refused(Answer::OtherOwner, s);
-    }
+    let old = session_at(state, x);
     if roleset::has(old.active, r.number) {
-        return refused(Answer::AlreadyThere, s);
+        return Answer::AlreadyThere;
     }
-    let assigned = s.assigned[user];
-    let walk = hierarchy::reach(&s.juniors, assigned);
+    let assigned = assigned_to(state, u);
+    let walk = reach(state, assigned);
     if !roleset::has(walk.roles, r.number) {
-        return refused(Answer::NotAuthorised, s);
+        return Answer::NotAuthorised;
     }
     let active = roleset::with(old.active, r.number);
-    let dsd = s.dsd;
-    if separation::breaks_some(dsd, active) {
-        return refused(Answer::BreaksDynamic, s);
+    if breaks_some(state, Kind::Dynamic, active) {
+        return Answer::BreaksDynamic;
     }
     if walk.cut {
-        return refused(Answer::ChainTooLong, s);
+        return Answer::ChainTooLong;
     }
-    let mut after = s;
-    after.sessions[at] = SessionRecord {
-        live: old.live,
-        owner: old.owner,
-        active,
-    };
-    Outcome {
-        answer: Answer::Done,
-        state: after,
-    }
+    put_active(state, x, active);
+    Answer::Done
 }
 
 // The role is active in the session no longer; 1, 2, 3, 5.
-pub fn drop(s: State, u: User, x: Session, r: Role) -> Outcome
-    ensures { λ o. ⌜ seen o ≡ drop (view s) (u .number) (x .number) (r .number) ⌝ }
+pub fn drop(state: &mut [u64; PLACES], u: User, x: Session, r: Role) -> Answer
+    ensures { λ a. ⌜ told a (now (state .exit)) ≡ drop (view (now (state .entry))) (u .number) (x .number) (r .number) ⌝ }
 {
-    if numbers::activation_beyond(u, x, r) {
-        return refused(Answer::BeyondRange, s);
+    let first = first_refusals(state, u, x, r);
+    if !numbers::is_done(first) {
+        return first;
     }
-    let user = u.number as usize;
-    let at = x.number as usize;
-    let old = s.sessions[at];
-    let there = roleset::has(s.roles, r.number);
-    if either(!s.users[user], either(!old.live, !there)) {
-        return refused(Answer::Missing, s);
-    }
-    if old.owner as u16 != u.number {
-        return refused(Answer::OtherOwner, s);
-    }
+    let old = session_at(state, x);
     if !roleset::has(old.active, r.number) {
-        return refused(Answer::NotThere, s);
+        return Answer::NotThere;
     }
-    let active = roleset::without(old.active, r.number);
-    let mut after = s;
-    after.sessions[at] = SessionRecord {
-        live: old.live,
-        owner: old.owner,
-        active,
-    };
-    Outcome {
-        answer: Answer::Done,
-        state: after,
-    }
+    put_active(state, x, roleset::without(old.active, r.number));
+    Answer::Done
 }
 
 // The session ends; 1, 2, 3.
-pub fn end(s: State, u: User, x: Session) -> Outcome
-    ensures { λ o. ⌜ seen o ≡ end (view s) (u .number) (x .number) ⌝ }
+pub fn end(state: &mut [u64; PLACES], u: User, x: Session) -> Answer
+    ensures { λ a. ⌜ told a (now (state .exit)) ≡ end (view (now (state .entry))) (u .number) (x .number) ⌝ }
 {
     if either(numbers::user_beyond(u), numbers::session_beyond(x)) {
-        return refused(Answer::BeyondRange, s);
+        return Answer::BeyondRange;
     }
-    let user = u.number as usize;
-    let at = x.number as usize;
-    let old = s.sessions[at];
-    if either(!s.users[user], !old.live) {
-        return refused(Answer::Missing, s);
+    let old = session_at(state, x);
+    if either(!has_user(state, u), !old.live) {
+        return Answer::Missing;
     }
-    if old.owner as u16 != u.number {
-        return refused(Answer::OtherOwner, s);
+    if old.owner != u.number as u64 {
+        return Answer::OtherOwner;
     }
-    let mut after = s;
-    after.sessions[at] = SessionRecord {
-        live: false,
-        owner: 0,
-        active: 0,
-    };
-    Outcome {
-        answer: Answer::Done,
-        state: after,
-    }
+    close_session(state, x);
+    Answer::Done
 }
 
 // Whose the session is; 1, 2.
-pub fn owner(s: State, x: Session) -> Owned
-    ensures { λ o. ⌜ Owns (view s) (owner (view s) (x .number)) o ⌝ }
+pub fn owner(state: &[u64; PLACES], x: Session) -> Owned
+    ensures { λ o. ⌜ Owns (view (now (state .entry))) (owner (view (now (state .entry))) (x .number)) o ⌝ }
 {
-    let none = User { number: 0 };
     if numbers::session_beyond(x) {
         return Owned {
             answer: Answer::BeyondRange,
-            owner: none,
+            owner: 0,
         };
     }
-    let at = x.number as usize;
-    let session = s.sessions[at];
+    let session = session_at(state, x);
     if !session.live {
         return Owned {
             answer: Answer::Missing,
-            owner: none,
+            owner: 0,
         };
     }
-    let owner = User {
-        number: session.owner as u16,
-    };
     Owned {
         answer: Answer::Done,
-        owner,
+        owner: session.owner,
     }
 }
 
-// May the session do the operation on the object? Yes exactly when some effective role holds the grant; 1, 2, 13. The tables are lent, and none is copied.
-pub fn check_lent<'a>(
-    juniors: &'a [u64; 64],
-    holders: &'a [u64; 4096],
-    session: SessionRecord,
-    op: u16,
-    obj: u16,
-) -> Checked
-    ensures { λ a. ⌜ ChecksLent (tableOf (now (juniors .entry))) (tableOf (now (holders .entry))) session op obj a ⌝ }
+// May the session do the operation on the object? Yes exactly when some effective role holds the grant; 1, 2, 13. Nothing is copied.
+pub fn check(state: &[u64; PLACES], x: Session, op: u16, obj: u16) -> Checked
+    ensures { λ a. ⌜ Checks (view (now (state .entry))) (check (view (now (state .entry))) (x .number) op obj) a ⌝ }
 {
-    if permission_beyond(op, obj) {
+    if either(numbers::session_beyond(x), permission_beyond(op, obj)) {
         return Checked {
             answer: Answer::BeyondRange,
             yes: false,
         };
     }
+    let session = session_at(state, x);
     if !session.live {
         return Checked {
             answer: Answer::Missing,
             yes: false,
         };
     }
-    let walk = hierarchy::reach(juniors, session.active);
+    let walk = reach(state, session.active);
     if walk.cut {
         return Checked {
             answer: Answer::ChainTooLong,
             yes: false,
         };
     }
-    let at = op as usize * 256 + obj as usize;
-    let holding = roleset::both(walk.roles, holders[at]);
+    let holders = holders_of(state, op as usize * 256 + obj as usize);
+    let holding = roleset::both(walk.roles, holders);
     Checked {
         answer: Answer::Done,
         yes: !roleset::is_empty(holding),
     }
-}
-
-// The question `check` of a session of the state; 1, 2, 13.
-pub fn check(s: State, x: Session, op: u16, obj: u16) -> Checked
-    ensures { λ a. ⌜ Checks (view s) (check (view s) (x .number) op obj) a ⌝ }
-{
-    if numbers::session_beyond(x) {
-        return Checked {
-            answer: Answer::BeyondRange,
-            yes: false,
-        };
-    }
-    let at = x.number as usize;
-    let session = s.sessions[at];
-    check_lent(&s.juniors, &s.holders, session, op, obj)
 }

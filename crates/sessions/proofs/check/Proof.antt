@@ -1,51 +1,107 @@
--- A session beyond its range is refused, and of any other the lent question answers what the sheet settles. Assumes nothing.
+-- Each test is a refusal of `check`, in its order; past them the roles that the walk meets are held against the grant's holders. Assumes nothing.
 use borrow.Author.Needs.{needs}
-use borrow.Author.Tests.{leb-false, ne-eqb}
-use mathlib.Core.Bool.{Bool, true, false, _&&_}
-use mathlib.Core.List.{List, [], _∷_}
-use mathlib.Core.Path.{_≡_, refl, sym, ap, _∙_}
-use Prim.Native.Nat.{ℕ, zero, suc}
-use native.Mathlib.Omega.{arith}
-use lib.Dec.{eqb}
+use mathlib.Core.Bool.{Bool, true, false, not, _||_}
+use mathlib.Core.List.{[], _∷_}
+use mathlib.Core.Path.{_≡_, refl, sym, ap, ap₂, _∙_}
+use Prim.Native.Nat.{ℕ}
 use Rattle.roleset.specs.Bounded.{bit}
-use Rattle.numbers.specs.Answers.{numberOf}
-use Rattle.model.specs.Model.{Model}
-use Rattle.model.specs.Sheet.{Refusal, Told, verdict, settle, done, refused}
-use Rattle.model.specs.Words.{permission}
-use Rattle.model.specs.commands.Naming.{noSession}
+use Rattle.roleset.specs.Roles.{both, isEmpty}
+use Rattle.roleset.proofs.BoundedLaws.{clash}
+use Rattle.hierarchy.specs.declared.Walk.{Walk}
+use Rattle.model.specs.Model.{Model, Session}
+use Rattle.model.specs.Sheet.{verdict, settle, done}
+use Rattle.model.specs.Words.{permission, reached}
+use Rattle.model.specs.commands.Naming.{noSession, noPermission, sessionMissing}
 use Rattle.model.specs.commands.Sessions.{check, permitted}
-use Rattle.policy.specs.View.{view}
-use Rattle.sessions.specs.Answering.{Checks, isDone, given, toldChecked, refusals, permits}
-use Rattle.sessions.specs.declared.Checked.{Checked}
+use Rattle.state.specs.View.{view}
+use Rattle.sessions.specs.Answering.{toldChecked}
 use Rattle.sessions.proofs.check.Statement.{statement}
 use Rattle.sessions.proofs.check.Tie as tie
 
--- An answer that is the verdict, with a yes or no that is one where the answer is 0, is what the list of refusals settles.
-settled : (m : Model) (x : Checked) (asked : List Refusal) (allowed : Bool) → numberOf (x .answer) ≡ verdict asked → x .yes ≡ (isDone (x .answer) && allowed) → Checks m (settle asked m (bit allowed ∷ []) m) x
-unfolding toldChecked settle
-settled m x asked allowed p q = record { tells = rw (q, p) (go (verdict asked)); silent = λ h. q ∙ ap (λ (d : Bool). d && allowed) h }
-  where
-    go : (v : ℕ) → _≡_ {A = Told} (record { answer = v; results = given (eqb v 0) (bit (eqb v 0 && allowed)); after = m }) (elim (eqb v 0) [ true ↦ done (bit allowed ∷ []) m | false ↦ refused v m ])
-    go zero = refl
-    go (suc v) = rw (ne-eqb (suc v) 0 (λ e. omega arith))
+-- the policy and the sessions, the session and the permission
+abbrev m : tie.Start → Model
+m c = view (c .args .state .now)
 
--- what the test finds, in the words of the definition
-beyond : (c : tie.After-session-beyond) → noSession (c .before .args .x .number) ≡ c .session-beyond .result
-beyond c = sym (c .session-beyond .ensures)
+abbrev number : tie.Start → ℕ
+number c = c .args .x .number
+
+abbrev perm : tie.Start → ℕ
+perm c = permission (c .args .op) (c .args .obj)
+
+abbrev beyond : tie.Start → Bool
+beyond c = noSession (number c) || noPermission (c .args .op) (c .args .obj)
+
+-- from the place past each refusal back to the one before it
+abbrev to-start : tie.Else1 → tie.Start
+to-start c = c .before .before .before .before
+
+abbrev to-1 : tie.Else2 → tie.Else1
+to-1 c = c .before .before .before
+
+abbrev to-2 : tie.Else3 → tie.Else2
+to-2 c = c .before .before
+
+-- what the tests find, and what is known past them
+found-1 : (c : tie.After-either) → beyond (c .before .before .before) ≡ c .either .result
+found-1 c = rw (← c .before .before .session-beyond .ensures, ← c .before .permission-beyond .ensures) (sym (c .either .ensures))
+
+clear-1 : (c : tie.Else1) → beyond (to-start c) ≡ false
+clear-1 c = found-1 (c .before) ∙ c .if1 .left
+
+found-2 : (c : tie.After-session-at) → let s = to-start (c .before) in sessionMissing (m s) (number s) ≡ not (c .session-at .result .live)
+found-2 c = ap (λ (x : Session). not (x .live)) (sym (c .session-at .ensures))
+
+clear-2 : (c : tie.Else2) → let s = to-start (to-1 c) in sessionMissing (m s) (number s) ≡ false
+clear-2 c = found-2 (c .before .before) ∙ c .if2 .left
+
+walked : (c : tie.After-reach) → let s = to-start (to-1 (c .before)) in reached (m s) (m s .sessions (number s) .active) ≡ c .reach .result
+walked c = let s = to-start (to-1 (c .before)) in ap (λ (x : Session). reached (m s) (x .active)) (sym (c .before .before .before .session-at .ensures)) ∙ sym (c .reach .ensures)
 
 returns : tie.Need-returns
 unfolding toldChecked check settle verdict
-returns c = record { tells = rw (beyond (c .before) ∙ c .if1 .taken); silent = λ h. refl }
-
-element-copy-out-session : tie.Need-element-copy-out-session
-element-copy-out-session c = leb-false 64 (c .before .before .before .args .x .number) (beyond (c .before .before) ∙ c .before .if1 .left)
+returns c = record { tells = rw (found-1 (c .before) ∙ c .if1 .taken); silent = λ h. refl }
 
 returns-2 : tie.Need-returns-2
-unfolding check view permits permitted
-returns-2 c =
-    let start = c .before .before .before .before .before .before .before .before .args in
-    rw (beyond (c .before .before .before .before .before .before .before) ∙ c .before .before .before .before .before .before .if1 .left)
-    (settled (view (start .t1)) (c .check-lent .result) (refusals (view (start .t1) .juniors) (view (start .t1) .sessions (start .x .number)) (start .op) (start .obj)) (permitted (view (start .t1)) (start .x .number) (permission (start .op) (start .obj))) (c .check-lent .ensures .answer) (c .check-lent .ensures .answered))
+unfolding toldChecked check settle verdict
+returns-2 c = let at = c .before .before in record { tells = rw (clear-1 (at .before), found-2 at ∙ c .if2 .taken); silent = λ h. refl }
+
+returns-3 : tie.Need-returns-3
+unfolding toldChecked check settle verdict
+returns-3 c =
+    let c2 = c .before .before in
+    record { tells = rw (clear-1 (to-1 c2), clear-2 c2, walked (c .before), c .if3 .taken); silent = λ h. refl }
+
+-- yes or no, in the words of the definition
+answered : (c : tie.After-is-empty) → let s = to-start (to-1 (to-2 (c .before .before .before))) in not (c .is-empty .result) ≡ permitted (m s) (number s) (perm s)
+unfolding permitted
+answered c = ap not (c .is-empty .ensures .is ∙ ap isEmpty (c .before .both .ensures .is ∙ ap₂ (λ (w : Walk) (h : ℕ). both (w .roles) h) (sym (walked (c .before .before .before .before))) (c .before .before .holders-of .ensures)))
+
+returns-4 : tie.Need-returns-4
+unfolding toldChecked check settle verdict
+returns-4 c =
+    let c3 = c .before .before .before in
+    let c2 = to-2 c3 in
+    let s = to-start (to-1 c2) in
+    record {
+      tells = rw (clear-1 (to-1 c2), clear-2 c2, walked (c3 .before), c3 .if3 .left) (ap (λ (b : Bool). done (bit b ∷ []) (m s)) (answered c));
+      silent = λ h. clash true refl h;
+    }
 
 pub check-spec : {M : Type 1} → statement M
-check-spec = tie.close (tie.spec (λ c κs. search needs) returns (λ c. search needs) (λ c. search needs) element-copy-out-session (λ c κs. search needs) returns-2)
+check-spec =
+    tie.close
+    (tie.spec
+    (λ c κs. search needs)
+    (λ c κs. search needs)
+    (λ c κs. search needs)
+    returns
+    (λ c κs. search needs)
+    returns-2
+    (λ c κs. search needs)
+    returns-3
+    (λ c. search needs)
+    (λ c. search needs)
+    (λ c κs. search needs)
+    (λ c κs. search needs)
+    (λ c κs. search needs)
+    returns-4)

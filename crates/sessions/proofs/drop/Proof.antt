@@ -1,23 +1,24 @@
--- Each test of `drop` is a refusal of the sheet, in its order; past all four, the store leaves the session without the role. Assumes nothing.
+-- The refusals that `drop` begins with are told as they are found; past them and the fourth, the store leaves the session without the role. Assumes
+-- nothing.
 use borrow.Author.Needs.{needs}
-use borrow.Author.Tests.{eq-eqb, ne-eqb}
-use mathlib.Core.Bool.{false, not}
+use borrow.Author.Tests.{not-true, not-false}
+use mathlib.Core.Bool.{not}
 use mathlib.Core.List.{[]}
 use mathlib.Core.Path.{_≡_, sym, ap, _∙_}
-use Prim.Native.Nat.{ℕ, _<_}
-use Rattle.roleset.specs.Roles.{has}
-use Rattle.model.specs.Model.{Model}
+use Prim.Native.Nat.{ℕ}
+use Rattle.roleset.specs.Roles.{has, without}
+use Rattle.model.specs.Model.{Model, Session}
 use Rattle.model.specs.Sheet.{verdict, settle, done}
 use Rattle.model.specs.commands.Sessions.{drop, activeSet}
-use Rattle.policy.specs.View.{view, seen}
-use Rattle.policy.proofs.Values.{sized}
-use Rattle.sessions.proofs.Named.{Named, beyond, missing, user-within, named-within, stored}
+use Rattle.state.specs.View.{view, told}
+use Rattle.state.proofs.Stored.{in-range}
+use Rattle.sessions.proofs.Named.{Named, refuses, named}
 use Rattle.sessions.proofs.drop.Statement.{statement}
 use Rattle.sessions.proofs.drop.Tie as tie
 
 -- the policy and the sessions at entry, and the numbers that the command names
 abbrev m : tie.Start → Model
-m c = view (c .args .t1)
+m c = view (c .args .state .now)
 
 abbrev user : tie.Start → ℕ
 user c = c .args .u .number
@@ -28,77 +29,40 @@ number c = c .args .x .number
 abbrev role : tie.Start → ℕ
 role c = c .args .r .number
 
--- from the place past each refusal back to the one before it
-abbrev to-start : tie.Else1 → tie.Start
-to-start c = c .before .before
+abbrev to-start : tie.After-is-done → tie.Start
+to-start c = c .before .before .before
 
-abbrev to-1 : tie.Else2 → tie.Else1
-to-1 c = c .before .before .before .before .before .before .before .before .before
+-- what is known past the first refusals
+past : (c : tie.Else1) → let s = to-start (c .before) in Named (m s) (user s) (number s) (role s)
+past c =
+    let s = to-start (c .before) in
+    named (m s) (user s) (number s) (role s) _ (c .before .before .first-refusals .ensures) (sym (c .before .is-done .ensures) ∙ not-false _ (c .if1 .left))
 
-abbrev to-2 : tie.Else3 → tie.Else2
-to-2 c = c .before .before .before
+-- the session's active roles, as read
+active : (c : tie.After-session-at) → let s = to-start (c .before .before .before) in m s .sessions (number s) .active ≡ c .session-at .result .active
+active c = ap (λ (x : Session). x .active) (sym (c .session-at .ensures))
 
-abbrev to-3 : tie.Else4 → tie.Else3
-to-3 c = c .before .before
-
--- what the tests find, and what is known past them
-clear-1 : (c : tie.Else1) → let s = to-start c in beyond (user s) (number s) (role s) ≡ false
-clear-1 c = sym (c .before .activation-beyond .ensures) ∙ c .if1 .left
-
-within : (c : tie.Else1) → number (to-start c) < 64
-within c = let s = to-start c in named-within (user s) (number s) (role s) (clear-1 c)
-
-found-2 : (c : tie.After-either2) → let s = to-start (c .before .before .before .before .before .before .before .before) in missing (m s) (user s) (number s) (role s) ≡ c .either2 .result
-unfolding view
-found-2 c = rw (← c .before .before .before .before .has .ensures, ← c .before .either .ensures) (sym (c .either2 .ensures))
-
-clear-2 : (c : tie.Else2) → let s = to-start (to-1 c) in missing (m s) (user s) (number s) (role s) ≡ false
-clear-2 c = found-2 (c .before) ∙ c .if2 .left
-
-named : (c : tie.Else3) → let s = to-start (to-1 (to-2 c)) in Named (m s) (user s) (number s) (role s)
-unfolding view
-named c = record { within = clear-1 (to-1 (to-2 c)); there = clear-2 (to-2 c); own = ap not (eq-eqb _ _ (c .if3 .left)) }
-
-found-4 : (c : tie.After-has2) → let s = to-start (to-1 (to-2 (c .before))) in not (has (m s .sessions (number s) .active) (role s)) ≡ not (c .has2 .result)
-unfolding view
-found-4 c = ap not (sym (c .has2 .ensures))
+found : (c : tie.After-has) → let s = to-start (c .before .before .before .before) in not (has (m s .sessions (number s) .active) (role s)) ≡ not (c .has .result)
+found c = rw (active (c .before), c .has .ensures)
 
 returns : tie.Need-returns
-unfolding seen drop settle verdict
-returns c = rw (c .refused .ensures, ← c .before .before .activation-beyond .ensures, c .before .if1 .taken)
-
-element-copy-out-old : tie.Need-element-copy-out-old
-element-copy-out-old c = within (c .before .before)
-
-element-copy-out-either : tie.Need-element-copy-out-either
-element-copy-out-either c = user-within _ _ (clear-1 (c .before .before .before .before))
+unfolding told drop
+returns c = let s = to-start (c .before) in refuses (m s) (user s) (number s) (role s) _ _ _ (c .before .before .first-refusals .ensures) (sym (c .before .is-done .ensures) ∙ not-true _ (c .if1 .taken))
 
 returns-2 : tie.Need-returns-2
-unfolding seen drop settle verdict
-returns-2 c = rw (c .refused2 .ensures, clear-1 (c .before .before .before .before .before .before .before .before .before .before), found-2 (c .before .before) ∙ c .before .if2 .taken)
+unfolding told drop settle verdict
+returns-2 c =
+    let p = past (c .before .before .before .before) in
+    rw (p .within, p .there, p .own, found (c .before) ∙ c .if2 .taken)
 
 returns-3 : tie.Need-returns-3
-unfolding seen drop settle verdict view
+unfolding told drop settle verdict
 returns-3 c =
-    let c2 = c .before .before .before .before in
-    rw (c .refused3 .ensures, clear-1 (to-1 c2), clear-2 c2, ne-eqb _ _ (c .before .if3 .taken))
-
-returns-4 : tie.Need-returns-4
-unfolding seen drop settle verdict
-returns-4 c =
-    let past = named (c .before .before .before) in
-    rw (c .refused4 .ensures, past .within, past .there, past .own, found-4 (c .before .before) ∙ c .before .if4 .taken)
-
-element-set-from-after : tie.Need-element-set-from-after
-element-set-from-after c = within (to-1 (to-2 (to-3 (c .before))))
-
-returns-5 : tie.Need-returns-5
-unfolding seen drop settle verdict activeSet view
-returns-5 c =
-    let past = named (to-3 (c .before)) in
-    let s = to-start (to-1 (to-2 (to-3 (c .before)))) in
-    rw (past .within, past .there, past .own, found-4 (c .before .before) ∙ c .before .if4 .left)
-    (ap (done []) (stored (s .args .t1) (number s) _ (sized _ _ (s .good .0)) (within (to-1 (to-2 (to-3 (c .before))))) ∙ ap (activeSet (m s) (number s)) (c .without .ensures .is)))
+    let c2 = c .before .before .before in
+    let p = past (c2 .before .before .before .before) in
+    let s = to-start (c2 .before .before .before .before .before) in
+    rw (p .within, p .there, p .own, found (c2 .before) ∙ c2 .if2 .left)
+    (ap (done []) (c .put-active .ensures ∙ in-range 64 (number s) _ _ (p .place) ∙ ap (activeSet (m s) (number s)) (c .before .without .ensures .is ∙ ap (λ (roles : ℕ). without roles (role s)) (sym (active (c2 .before .before))))))
 
 pub drop-spec : {M : Type 1} → statement M
 drop-spec =
@@ -107,23 +71,9 @@ drop-spec =
     (λ c κs. search needs)
     (λ c κs. search needs)
     returns
-    (λ c. search needs)
-    (λ c. search needs)
-    (λ c. search needs)
-    element-copy-out-old
-    (λ c κs. search needs)
-    element-copy-out-either
-    (λ c κs. search needs)
     (λ c κs. search needs)
     (λ c κs. search needs)
     returns-2
-    (λ c. search needs)
-    (λ c κs. search needs)
-    returns-3
     (λ c κs. search needs)
     (λ c κs. search needs)
-    returns-4
-    (λ c κs. search needs)
-    (λ c. search needs)
-    element-set-from-after
-    returns-5)
+    returns-3)

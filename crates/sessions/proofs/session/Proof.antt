@@ -4,11 +4,11 @@ use borrow.Author.Tests.{le-leb, lt-leb}
 use mathlib.Core.Bool.{Bool, true, false, not, _||_}
 use mathlib.Core.List.{List, [], _∷_}
 use mathlib.Core.Path.{_≡_, refl, sym, ap, ap₂, _∙_}
-use Prim.Native.Nat.{ℕ, _<_}
-use native.Mathlib.Omega.{arith}
+use Prim.Native.Nat.{ℕ}
 use lib.Dec.{leb}
 use Rattle.roleset.specs.Roles.{subset}
 use Rattle.roleset.proofs.BoundedLaws.{clash}
+use Rattle.hierarchy.specs.Walks.{reach}
 use Rattle.hierarchy.specs.declared.Walk.{Walk}
 use Rattle.numbers.specs.Ranges.{sessions}
 use Rattle.model.specs.Model.{Model}
@@ -17,18 +17,17 @@ use Rattle.model.specs.Words.{reached, authorised, breaksSome, dynamicBroken, s
 use Rattle.model.specs.Lists.{ascending, someFrom, setOf}
 use Rattle.model.specs.commands.Naming.{noUser, userMissing}
 use Rattle.model.specs.commands.Sessions.{session, opened, openFor, sessionSet, lowestFree}
-use Rattle.policy.specs.View.{view}
-use Rattle.policy.proofs.Values.{sized}
-use Rattle.sweeps.proofs.Free.{full-free}
+use Rattle.state.specs.View.{view}
+use Rattle.state.proofs.Stored.{in-range}
 use Rattle.sessions.specs.Answering.{toldOpened}
-use Rattle.sessions.proofs.Named.{user-within, stored}
+use Rattle.sweeps.proofs.Free.{full-free}
 use Rattle.sessions.proofs.Rules.{opened-dynamic}
 use Rattle.sessions.proofs.session.Statement.{statement}
 use Rattle.sessions.proofs.session.Tie as tie
 
 -- the policy and the sessions at entry, the user's number and the list
 abbrev m : tie.Start → Model
-m c = view (c .args .t1)
+m c = view (c .args .state .now)
 
 abbrev user : tie.Start → ℕ
 user c = c .args .u .number
@@ -66,10 +65,16 @@ abbrev to-1 : tie.Else2 → tie.Else1
 to-1 c = c .before .before .before
 
 abbrev to-2 : tie.Else3 → tie.Else2
-to-2 c = c .before .before .before .before .before
+to-2 c = c .before .before .before .before .before .before .before
+
+abbrev from-reach : tie.After-reach → tie.Else3
+from-reach c = c .before .before .before
+
+abbrev to-reach : tie.Else4 → tie.After-reach
+to-reach c = c .before .before
 
 abbrev to-3 : tie.Else4 → tie.Else3
-to-3 c = c .before .before .before .before .before .before
+to-3 c = from-reach (to-reach c)
 
 abbrev to-4 : tie.Else5 → tie.Else4
 to-4 c = c .before .before .before
@@ -93,29 +98,28 @@ found-2 c = rw (← c .before .user-beyond .ensures, ← c .before .before .befo
 clear-2 : (c : tie.Else2) → beyond (to-start (to-1 c)) ≡ false
 clear-2 c = found-2 (c .before) ∙ c .if2 .left
 
-found-3 : (c : tie.After-either2) → missing (to-start (to-1 (c .before .before .before .before))) ≡ c .either2 .result
-unfolding view
-found-3 c = rw (← c .before .before .before .before .before .before .before .before .before .read .ensures .roles, ← c .before .subset .ensures .is) (sym (c .either2 .ensures))
-
-clear-3 : (c : tie.Else3) → missing (to-start (to-1 (to-2 c))) ≡ false
-clear-3 c = found-3 (c .before) ∙ c .if3 .left
-
 -- the set of the listed roles
 asked : (c : tie.Else1) → setOf (list (to-start c)) ≡ c .before .before .read .result .roles
 asked c = sym (c .before .before .read .ensures .roles)
 
-walked : (c : tie.After-reach) → let s = to-start (to-1 (to-2 (c .before .before .before .before))) in reached (m s) (m s .assigned (user s)) ≡ c .reach .result
-unfolding view
-walked c = sym (c .reach .ensures)
+found-3 : (c : tie.After-either2) → missing (to-start (to-1 (c .before .before .before .before .before .before))) ≡ c .either2 .result
+found-3 c =
+    let c2 = c .before .before .before .before .before .before in
+    ap₂ (λ (there all : Bool). not there || not all) (sym (c .before .before .before .before .has-user .ensures)) (ap₂ subset (asked (to-1 c2)) (sym (c .before .before .roles .ensures)) ∙ sym (c .before .subset .ensures .is)) ∙ sym (c .either2 .ensures)
 
-found-4 : (c : tie.After-subset2) → unauthorised (to-start (to-1 (to-2 (c .before .before .before .before .before)))) ≡ not (c .subset2 .result)
-found-4 c = ap not (ap₂ (λ (roles : ℕ) (w : Walk). subset roles (w .roles)) (asked (to-1 (to-2 (c .before .before .before .before .before)))) (walked (c .before)) ∙ sym (c .subset2 .ensures .is))
+clear-3 : (c : tie.Else3) → missing (to-start (to-1 (to-2 c))) ≡ false
+clear-3 c = found-3 (c .before) ∙ c .if3 .left
+
+walked : (c : tie.After-reach) → let s = to-start (to-1 (to-2 (from-reach c))) in reached (m s) (m s .assigned (user s)) ≡ c .reach .result
+walked c = rw (← c .before .assigned-to .ensures) (sym (c .reach .ensures))
+
+found-4 : (c : tie.After-subset2) → unauthorised (to-start (to-1 (to-2 (from-reach (c .before))))) ≡ not (c .subset2 .result)
+found-4 c = ap not (ap₂ (λ (roles : ℕ) (w : Walk). subset roles (w .roles)) (asked (to-1 (to-2 (from-reach (c .before))))) (walked (c .before)) ∙ sym (c .subset2 .ensures .is))
 
 clear-4 : (c : tie.Else4) → unauthorised (to-start (to-1 (to-2 (to-3 c)))) ≡ false
 clear-4 c = found-4 (c .before) ∙ c .if4 .left
 
 found-5 : (c : tie.After-breaks-some) → breaking (to-start (to-1 (to-2 (to-3 (c .before .before))))) ≡ c .breaks-some .result
-unfolding view
 found-5 c =
     let c1 = to-1 (to-2 (to-3 (c .before .before))) in
     let s = to-start c1 in
@@ -125,21 +129,14 @@ clear-5 : (c : tie.Else5) → breaking (to-start (to-1 (to-2 (to-3 (to-4 c))))) 
 clear-5 c = found-5 (c .before) ∙ c .if5 .left
 
 found-6 : (c : tie.After-lowest-free) → full (to-start (to-1 (to-2 (to-3 (to-4 (c .before .before)))))) ≡ leb 64 (c .lowest-free .result)
-unfolding sessionsOpen view
+unfolding sessionsOpen
 found-6 c = full-free (m (to-start (to-1 (to-2 (to-3 (to-4 (c .before .before)))))) .sessions) ∙ ap (leb 64) (sym (c .lowest-free .ensures))
 
 clear-6 : (c : tie.Else6) → full (to-start (to-1 (to-2 (to-3 (to-4 (to-5 c)))))) ≡ false
 clear-6 c = found-6 (c .before) ∙ lt-leb 64 (c .before .lowest-free .result) (c .if6 .left)
 
-found-7 : (c : tie.Then7) → tooLong (to-start (to-1 (to-2 (to-3 (to-4 (to-5 (c .before))))))) ≡ true
-found-7 c = ap (λ (w : Walk). w .cut) (walked (c .before .before .before .before .before .before .before .before .before)) ∙ c .if7 .taken
-
-clear-7 : (c : tie.Else7) → tooLong (to-start (to-1 (to-2 (to-3 (to-4 (to-5 (to-6 c))))))) ≡ false
-clear-7 c = ap (λ (w : Walk). w .cut) (walked (c .before .before .before .before .before .before .before .before .before)) ∙ c .if7 .left
-
--- the user is within its range
-within : (c : tie.Else2) → user (to-start (to-1 c)) < 256
-within c = user-within _ _ (clear-2 c)
+cut : (c : tie.Else6) → tooLong (to-start (to-1 (to-2 (to-3 (to-4 (to-5 c)))))) ≡ to-reach (to-4 (to-5 c)) .reach .result .cut
+cut c = ap (λ (w : Walk). w .cut) (walked (to-reach (to-4 (to-5 c))))
 
 returns : tie.Need-returns
 unfolding toldOpened session settle verdict
@@ -149,22 +146,16 @@ returns-2 : tie.Need-returns-2
 unfolding toldOpened session settle verdict
 returns-2 c = rw (c .not-opened2 .ensures) (record { tells = rw (clear-1 (c .before .before .before .before), found-2 (c .before .before) ∙ c .before .if2 .taken); silent = λ h. refl })
 
-element-copy-out-either : tie.Need-element-copy-out-either
-element-copy-out-either c = within (c .before)
-
 returns-3 : tie.Need-returns-3
 unfolding toldOpened session settle verdict
 returns-3 c =
-    let c2 = c .before .before .before .before .before .before in
+    let c2 = c .before .before .before .before .before .before .before .before in
     rw (c .not-opened3 .ensures) (record { tells = rw (clear-1 (to-1 c2), clear-2 c2, found-3 (c .before .before) ∙ c .before .if3 .taken); silent = λ h. refl })
-
-element-copy-out-assigned : tie.Need-element-copy-out-assigned
-element-copy-out-assigned c = within (to-2 c)
 
 returns-4 : tie.Need-returns-4
 unfolding toldOpened session settle verdict
 returns-4 c =
-    let c3 = c .before .before .before .before .before .before .before in
+    let c3 = from-reach (c .before .before .before) in
     let c2 = to-2 c3 in
     rw (c .not-opened4 .ensures) (record { tells = rw (clear-1 (to-1 c2), clear-2 c2, clear-3 c3, found-4 (c .before .before) ∙ c .before .if4 .taken); silent = λ h. refl })
 
@@ -193,15 +184,12 @@ returns-7 c =
     let c4 = to-4 c5 in
     let c3 = to-3 c4 in
     let c2 = to-2 c3 in
-    rw (c .not-opened7 .ensures) (record { tells = rw (clear-1 (to-1 c2), clear-2 c2, clear-3 c3, clear-4 c4, clear-5 c5, clear-6 c6, found-7 (c .before)); silent = λ h. refl })
-
-cast-t43 : tie.Need-cast-t43
-cast-t43 c = let h = within (to-2 (to-3 (to-4 (to-5 (to-6 (c .before)))))) in omega arith
+    rw (c .not-opened7 .ensures) (record { tells = rw (clear-1 (to-1 c2), clear-2 c2, clear-3 c3, clear-4 c4, clear-5 c5, clear-6 c6, cut c6 ∙ c .before .if7 .taken); silent = λ h. refl })
 
 returns-8 : tie.Need-returns-8
-unfolding toldOpened session settle verdict opened view
+unfolding toldOpened session settle verdict opened
 returns-8 c =
-    let c7 = c .before in
+    let c7 = c .before .before in
     let c6 = to-6 c7 in
     let c5 = to-5 c6 in
     let c4 = to-4 c5 in
@@ -209,10 +197,10 @@ returns-8 c =
     let c2 = to-2 c3 in
     let c1 = to-1 c2 in
     let s = to-start c1 in
-    let free = c .before .before .before .lowest-free in
+    let free = c6 .before .lowest-free in
     record {
-      tells = rw (clear-1 c1, clear-2 c2, clear-3 c3, clear-4 c4, clear-5 c5, clear-6 c6, clear-7 c7)
-          (ap (done (free .result ∷ [])) (stored (s .args .t1) (free .result) _ (sized _ _ (s .good .0)) (c6 .if6 .left))
+      tells = rw (clear-1 c1, clear-2 c2, clear-3 c3, clear-4 c4, clear-5 c5, clear-6 c6, cut c6 ∙ c7 .if7 .left)
+          (ap (done (free .result ∷ [])) (c .open-session .ensures ∙ in-range 64 (free .result) _ _ (c6 .if6 .left))
           ∙ ap₂ (λ (n roles : ℕ). done (n ∷ []) (sessionSet (m s) n (openFor (user s) roles))) (free .ensures) (sym (asked c1)));
       silent = λ h. clash true refl h;
     }
@@ -228,14 +216,13 @@ session-spec =
     (λ c κs. search needs)
     (λ c κs. search needs)
     returns-2
-    (λ c. search needs)
-    element-copy-out-either
+    (λ c κs. search needs)
+    (λ c κs. search needs)
     (λ c κs. search needs)
     (λ c κs. search needs)
     (λ c κs. search needs)
     returns-3
-    (λ c. search needs)
-    element-copy-out-assigned
+    (λ c κs. search needs)
     (λ c κs. search needs)
     (λ c κs. search needs)
     (λ c κs. search needs)
@@ -248,8 +235,5 @@ session-spec =
     returns-6
     (λ c κs. search needs)
     returns-7
-    (λ c. search needs)
-    cast-t43
-    (λ c. search needs)
-    (λ c. search needs)
+    (λ c κs. search needs)
     returns-8)
