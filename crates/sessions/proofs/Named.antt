@@ -1,4 +1,4 @@
--- What holds of the user, the session and the role that `activate` and `drop` name, by the refusals that both begin with. Assumes nothing.
+-- What `activate` and `drop` share: the refusals that both begin with, what holds past them, and the store that ends both. Assumes nothing.
 use borrow.Author.Tests.{leb-false, eqb-true, eq-eqb}
 use mathlib.Core.Bool.{Bool, true, false, _||_}
 use mathlib.Core.List.{List, [], _∷_, _++_}
@@ -8,10 +8,19 @@ use native.Mathlib.Omega.{arith}
 use lib.Dec.{eqb}
 use Rattle.roleset.proofs.BoundedLaws.{clash, or-clear}
 use Rattle.model.specs.Model.{Model}
-use Rattle.model.specs.Sheet.{Refusal, _when_, verdict, settle, refused}
+use Rattle.model.specs.Sheet.{Refusal, _when_, verdict, settle, done, refused}
 use Rattle.model.specs.commands.Naming.{noUser, noRole, noSession, userMissing, roleMissing, sessionMissing}
-use Rattle.model.specs.commands.Sessions.{notOwner}
+use Rattle.model.specs.commands.Sessions.{notOwner, activeSet}
+use Rattle.state.specs.Stores.{inRange}
+use Rattle.state.proofs.Stored.{in-range}
 use Rattle.sessions.specs.First.{firstRefusals}
+
+-- the conditions of refusals 1 and 2
+abbrev pub beyond : ℕ → ℕ → ℕ → Bool
+beyond u s r = noUser u || (noSession s || noRole r)
+
+abbrev pub missing : Model → ℕ → ℕ → ℕ → Bool
+missing m u s r = userMissing m u || (sessionMissing m s || roleMissing m r)
 
 abbrev three : Bool → Bool → Bool → List Refusal → List Refusal
 three a b c rest = 1 when a ∷ 2 when b ∷ 3 when c ∷ rest
@@ -34,16 +43,20 @@ clear false false false h = (refl, (refl, refl))
 
 -- A number beyond its range, or what is missing or another's, is told whatever else is asked.
 pub refuses : (m : Model) (u s r : ℕ) (rest : List Refusal) (after : Model) (n : ℕ) → n ≡ verdict (firstRefusals m u s r) → eqb n 0 ≡ false → refused n m ≡ settle (firstRefusals m u s r ++ rest) m [] after
-refuses m u s r rest after n p h = held (noUser u || (noSession s || noRole r)) (userMissing m u || (sessionMissing m s || roleMissing m r)) (notOwner m u s) rest m after n p h
+refuses m u s r rest after n p h = held (beyond u s r) (missing m u s r) (notOwner m u s) rest m after n p h
 
 -- past the refusals 1, 2 and 3
 pub record Named (m : Model) (u s r : ℕ) : Type 0 where
-  pub within : (noUser u || (noSession s || noRole r)) ≡ false
-  pub there : (userMissing m u || (sessionMissing m s || roleMissing m r)) ≡ false
+  pub within : beyond u s r ≡ false
+  pub there : missing m u s r ≡ false
   pub own : notOwner m u s ≡ false
   pub place : s < 64
 
 pub named : (m : Model) (u s r n : ℕ) → n ≡ verdict (firstRefusals m u s r) → eqb n 0 ≡ true → Named m u s r
 named m u s r n p h =
-    let all = clear (noUser u || (noSession s || noRole r)) (userMissing m u || (sessionMissing m s || roleMissing m r)) (notOwner m u s) (sym p ∙ eqb-true n 0 h) in
+    let all = clear (beyond u s r) (missing m u s r) (notOwner m u s) (sym p ∙ eqb-true n 0 h) in
     record { within = all .0; there = all .1 .0; own = all .1 .1; place = leb-false 64 s (or-clear (noSession s) (noRole r) (or-clear (noUser u) (noSession s || noRole r) (all .0) .1) .0) }
+
+-- what is told where the session's active roles are stored
+pub stored : (m after : Model) (s roles kept : ℕ) → after ≡ inRange 64 s m (activeSet m s kept) → s < 64 → roles ≡ kept → done [] after ≡ done [] (activeSet m s roles)
+stored m after s roles kept p h e = ap (done []) (p ∙ in-range 64 s m (activeSet m s kept) h ∙ ap (activeSet m s) (sym e))

@@ -3,18 +3,16 @@
 use borrow.Author.Needs.{needs}
 use borrow.Author.Tests.{not-true, not-false}
 use mathlib.Core.Bool.{Bool, false, not}
-use mathlib.Core.List.{[]}
 use mathlib.Core.Path.{_≡_, sym, ap, _∙_}
 use Prim.Native.Nat.{ℕ}
 use Rattle.roleset.specs.Roles.{has, with}
 use Rattle.hierarchy.specs.declared.Walk.{Walk}
 use Rattle.model.specs.Model.{Model, Session}
-use Rattle.model.specs.Sheet.{verdict, settle, done}
+use Rattle.model.specs.Sheet.{verdict, settle}
 use Rattle.model.specs.Words.{reached, authorised, dynamicBroken}
 use Rattle.model.specs.commands.Sessions.{activate, activeSet}
 use Rattle.state.specs.View.{view, told}
-use Rattle.state.proofs.Stored.{in-range}
-use Rattle.sessions.proofs.Named.{Named, refuses, named}
+use Rattle.sessions.proofs.Named.{Named, refuses, named, stored}
 use Rattle.sessions.proofs.Rules.{active-dynamic}
 use Rattle.sessions.proofs.activate.Statement.{statement}
 use Rattle.sessions.proofs.activate.Tie as tie
@@ -140,7 +138,7 @@ returns-6 c =
     let p = past (to-1 c2) in
     let s = to-start (to-1 c2) in
     rw (p .within, p .there, p .own, clear-2 c2, clear-3 c3, clear-4 c4, cut c4 ∙ c .before .before .if5 .left)
-    (ap (done []) (c .put-active .ensures ∙ in-range 64 (number s) _ _ (p .place) ∙ ap (activeSet (m s) (number s)) (sym (more (c4 .before .before .before)))))
+    (stored (m s) _ (number s) _ _ (c .put-active .ensures) (p .place) (more (c4 .before .before .before)))
 
 pub activate-spec : {M : Type 1} → statement M
 activate-spec =

@@ -3,16 +3,14 @@
 use borrow.Author.Needs.{needs}
 use borrow.Author.Tests.{not-true, not-false}
 use mathlib.Core.Bool.{not}
-use mathlib.Core.List.{[]}
 use mathlib.Core.Path.{_≡_, sym, ap, _∙_}
 use Prim.Native.Nat.{ℕ}
 use Rattle.roleset.specs.Roles.{has, without}
 use Rattle.model.specs.Model.{Model, Session}
-use Rattle.model.specs.Sheet.{verdict, settle, done}
-use Rattle.model.specs.commands.Sessions.{drop, activeSet}
+use Rattle.model.specs.Sheet.{verdict, settle}
+use Rattle.model.specs.commands.Sessions.{drop}
 use Rattle.state.specs.View.{view, told}
-use Rattle.state.proofs.Stored.{in-range}
-use Rattle.sessions.proofs.Named.{Named, refuses, named}
+use Rattle.sessions.proofs.Named.{Named, refuses, named, stored}
 use Rattle.sessions.proofs.drop.Statement.{statement}
 use Rattle.sessions.proofs.drop.Tie as tie
 
@@ -55,14 +53,17 @@ returns-2 c =
     let p = past (c .before .before .before .before) in
     rw (p .within, p .there, p .own, found (c .before) ∙ c .if2 .taken)
 
+-- the active roles without the role
+less : (c : tie.After-without) → let s = to-start (c .before .before .before .before .before .before .before) in without (m s .sessions (number s) .active) (role s) ≡ c .without .result
+less c = rw (active (c .before .before .before .before), c .without .ensures .is)
+
 returns-3 : tie.Need-returns-3
 unfolding told drop settle verdict
 returns-3 c =
     let c2 = c .before .before .before in
     let p = past (c2 .before .before .before .before) in
     let s = to-start (c2 .before .before .before .before .before) in
-    rw (p .within, p .there, p .own, found (c2 .before) ∙ c2 .if2 .left)
-    (ap (done []) (c .put-active .ensures ∙ in-range 64 (number s) _ _ (p .place) ∙ ap (activeSet (m s) (number s)) (c .before .without .ensures .is ∙ ap (λ (roles : ℕ). without roles (role s)) (sym (active (c2 .before .before))))))
+    rw (p .within, p .there, p .own, found (c2 .before) ∙ c2 .if2 .left) (stored (m s) _ (number s) _ _ (c .put-active .ensures) (p .place) (less (c .before)))
 
 pub drop-spec : {M : Type 1} → statement M
 drop-spec =

@@ -1,12 +1,12 @@
 -- Each test is a refusal of the sheet, in its order; past all three, none holds. Assumes nothing.
 use borrow.Author.Needs.{needs}
 use borrow.Author.Tests.{eq-eqb, ne-eqb}
-use mathlib.Core.Bool.{Bool, false, _||_}
+use mathlib.Core.Bool.{Bool, false}
 use mathlib.Core.Path.{_≡_, sym, ap, _∙_}
 use Rattle.model.specs.Model.{Model, Session}
 use Rattle.model.specs.Sheet.{verdict}
-use Rattle.model.specs.commands.Naming.{noUser, noRole, noSession, userMissing, roleMissing, sessionMissing}
 use Rattle.state.specs.View.{view}
+use Rattle.sessions.proofs.Named.{beyond, missing}
 use Rattle.sessions.proofs.first_refusals.Statement.{statement}
 use Rattle.sessions.proofs.first_refusals.Tie as tie
 
@@ -14,8 +14,8 @@ use Rattle.sessions.proofs.first_refusals.Tie as tie
 abbrev m : tie.Start → Model
 m c = view (c .args .state .now)
 
-abbrev missing : tie.Start → Bool
-missing c = userMissing (m c) (c .args .u .number) || (sessionMissing (m c) (c .args .x .number) || roleMissing (m c) (c .args .r .number))
+abbrev absent : tie.Start → Bool
+absent c = missing (m c) (c .args .u .number) (c .args .x .number) (c .args .r .number)
 
 -- from the place past each refusal back to the one before it
 abbrev to-start : tie.Else1 → tie.Start
@@ -25,16 +25,16 @@ abbrev to-1 : tie.Else2 → tie.Else1
 to-1 c = c .before .before .before .before .before .before .before
 
 -- what the tests find, and what is known past them
-found-2 : (c : tie.After-either2) → missing (to-start (c .before .before .before .before .before .before)) ≡ c .either2 .result
+found-2 : (c : tie.After-either2) → absent (to-start (c .before .before .before .before .before .before)) ≡ c .either2 .result
 found-2 c =
     let user = c .before .before .before .before .has-user in
     let old = c .before .before .before .before .before .session-at in
     rw (← user .ensures, ← old .ensures, ← c .before .before .has-role .ensures, ← c .before .either .ensures) (sym (c .either2 .ensures))
 
-clear-1 : (c : tie.Else1) → let s = to-start c .args in (noUser (s .u .number) || (noSession (s .x .number) || noRole (s .r .number))) ≡ false
+clear-1 : (c : tie.Else1) → let s = to-start c .args in beyond (s .u .number) (s .x .number) (s .r .number) ≡ false
 clear-1 c = sym (c .before .activation-beyond .ensures) ∙ c .if1 .left
 
-clear-2 : (c : tie.Else2) → missing (to-start (to-1 c)) ≡ false
+clear-2 : (c : tie.Else2) → absent (to-start (to-1 c)) ≡ false
 clear-2 c = found-2 (c .before) ∙ c .if2 .left
 
 returns : tie.Need-returns

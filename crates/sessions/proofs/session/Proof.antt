@@ -4,7 +4,7 @@ use borrow.Author.Tests.{le-leb, lt-leb}
 use mathlib.Core.Bool.{Bool, true, false, not, _||_}
 use mathlib.Core.List.{List, [], _∷_}
 use mathlib.Core.Path.{_≡_, refl, sym, ap, ap₂, _∙_}
-use Prim.Native.Nat.{ℕ}
+use Prim.Native.Nat.{ℕ, _<_}
 use lib.Dec.{leb}
 use Rattle.roleset.specs.Roles.{subset}
 use Rattle.roleset.proofs.BoundedLaws.{clash}
@@ -17,6 +17,7 @@ use Rattle.model.specs.Words.{reached, authorised, breaksSome, dynamicBroken, s
 use Rattle.model.specs.Lists.{ascending, someFrom, setOf}
 use Rattle.model.specs.commands.Naming.{noUser, userMissing}
 use Rattle.model.specs.commands.Sessions.{session, opened, openFor, sessionSet, lowestFree}
+use Rattle.state.specs.Stores.{inRange}
 use Rattle.state.specs.View.{view}
 use Rattle.state.proofs.Stored.{in-range}
 use Rattle.sessions.specs.Answering.{toldOpened}
@@ -138,6 +139,10 @@ clear-6 c = found-6 (c .before) ∙ lt-leb 64 (c .before .lowest-free .result) (
 cut : (c : tie.Else6) → tooLong (to-start (to-1 (to-2 (to-3 (to-4 (to-5 c)))))) ≡ to-reach (to-4 (to-5 c)) .reach .result .cut
 cut c = ap (λ (w : Walk). w .cut) (walked (to-reach (to-4 (to-5 c))))
 
+-- what is told where a session is opened
+stored : (m after : Model) (u n free roles kept : ℕ) → after ≡ inRange 64 n m (sessionSet m n (openFor u kept)) → n < 64 → n ≡ free → roles ≡ kept → done (n ∷ []) after ≡ done (free ∷ []) (sessionSet m free (openFor u roles))
+stored m after u n free roles kept p h e f = ap (done (n ∷ [])) (p ∙ in-range 64 n m (sessionSet m n (openFor u kept)) h) ∙ ap₂ (λ (n roles : ℕ). done (n ∷ []) (sessionSet m n (openFor u roles))) e (sym f)
+
 returns : tie.Need-returns
 unfolding toldOpened session settle verdict
 returns c = rw (c .not-opened .ensures) (record { tells = rw (found-1 (c .before .before .before) ∙ c .before .if1 .taken); silent = λ h. refl })
@@ -200,8 +205,7 @@ returns-8 c =
     let free = c6 .before .lowest-free in
     record {
       tells = rw (clear-1 c1, clear-2 c2, clear-3 c3, clear-4 c4, clear-5 c5, clear-6 c6, cut c6 ∙ c7 .if7 .left)
-          (ap (done (free .result ∷ [])) (c .open-session .ensures ∙ in-range 64 (free .result) _ _ (c6 .if6 .left))
-          ∙ ap₂ (λ (n roles : ℕ). done (n ∷ []) (sessionSet (m s) n (openFor (user s) roles))) (free .ensures) (sym (asked c1)));
+          (stored (m s) _ (user s) (free .result) _ _ _ (c .open-session .ensures) (c6 .if6 .left) (free .ensures) (asked c1));
       silent = λ h. clash true refl h;
     }
 
