@@ -159,9 +159,6 @@ pub fn turn(script: &[u8], state: &mut [u64; PLACES], p: Progress, buf: &mut [u8
     let counted = lines::tallied(tally, a.ok);
     Turned {
         len: a.len,
-        next: Progress {
-            at,
-            tally: counted,
-        },
+        next: Progress { at, tally: counted },
     }
 }

@@ -27,11 +27,7 @@ fn bench(i: u64) -> u64 {
 
 // The spare role of the bench's user: the review of another bench, or the role in the middle of a chain.
 fn spare(depth: u16, b: u64) -> u64 {
-    if depth < 3 {
-        (b + 2) % 16 * 4 + 1
-    } else {
-        17
-    }
+    if depth < 3 { (b + 2) % 16 * 4 + 1 } else { 17 }
 }
 
 // The senior of a line that may be drawn: the bench's lead, or the top of the first chain.

@@ -41,14 +41,7 @@ pub(crate) fn check(state: &[u64; PLACES], rounds: u64) -> u64 {
 }
 
 // One move or two; 99 is none.
-fn turn(
-    state: &mut [u64; PLACES],
-    first: u64,
-    second: u64,
-    depth: u16,
-    i: u64,
-    sum: u64,
-) -> u64 {
+fn turn(state: &mut [u64; PLACES], first: u64, second: u64, depth: u16, i: u64, sum: u64) -> u64 {
     let one = moved(state, first, depth, i);
     let half = mix(sum, one, 0);
     if second == 99 {
