@@ -1,43 +1,41 @@
--- Laws of the two kinds of set. Assumes nothing.
-use borrow.Author.Tests.{leb-false}
-use mathlib.Core.Bool.{Bool, true, false, _||_}
-use mathlib.Core.List.{List, [], _∷_}
-use mathlib.Core.Path.{_≡_, refl, sym, ap, _∙_}
+-- Laws of the set commands. Assumes nothing.
+use borrow.Author.Tests.{leb-false, not-true, not-false}
+use mathlib.Core.Bool.{Bool, true, false, not, _||_}
+use mathlib.Core.List.{List, []}
+use mathlib.Core.Path.{_≡_, sym, ap, _∙_}
 use Prim.Native.Nat.{ℕ, _<_}
-use lib.ListN.{length}
-use Rattle.roleset.specs.Bounded.{some}
-use Rattle.roleset.proofs.BoundedLaws.{or-clear, some-ext}
-use Rattle.hierarchy.specs.Lines.{tableOf}
-use Rattle.model.specs.Model.{Model, RoleSet}
-use Rattle.model.specs.Sheet.{Refusal, _when_, verdict, settle, refused}
-use Rattle.model.specs.Words.{breaks}
+use lib.Dec.{eqb}
+use Rattle.roleset.proofs.BoundedLaws.{or-clear}
+use Rattle.numbers.specs.Answers.{numberOf}
+use Rattle.numbers.specs.declared.Answer.{Answer}
+use Rattle.model.specs.Model.{Model}
+use Rattle.model.specs.Sheet.{Refusal, verdict, done, refused, settle}
 use Rattle.model.specs.commands.Naming.{noSet}
-use Rattle.model.specs.commands.Sets.{setsOf, ruleNumber}
+use Rattle.model.specs.commands.Sets.{setsOf, setMissing, aSet}
 use Rattle.model.specs.declared.Kind.{Kind}
-use Rattle.model.specs.declared.Kind.the-variants.{Static, Dynamic}
-use Rattle.policy.specs.declared.State.{State}
-use Rattle.policy.specs.View.{view}
-use Rattle.sets.specs.Asking.{setsAmong}
-
--- the sets of a kind in a state's arrays are those of its model
-sets-among : (s : State) (kind : Kind) (name : ℕ) → setsOf kind (view s) name ≡ setsAmong kind (s .ssd) (s .dsd) name
-unfolding view
-sets-among s Static name = refl
-sets-among s Dynamic name = refl
-
-pub set-found : (s : State) (kind : Kind) (name : ℕ) (x : RoleSet) → x ≡ setsAmong kind (s .ssd) (s .dsd) name → setsOf kind (view s) name ≡ x
-set-found s kind name x e = sets-among s kind name ∙ sym e
+use Rattle.state.specs.Stores.{inRange, setStored, withMembers}
+use Rattle.state.proofs.Stored.{in-range}
 
 -- past refusal 1 the name is a place of its table
 pub name-within : (name : ℕ) (rest : Bool) → (noSet name || rest) ≡ false → name < 16
 name-within name rest h = leb-false 16 name (or-clear (noSet name) rest h .0)
 
--- a broken rule is a refusal with the number of its kind
-pub rule-refused : (kind : Kind) (rest : List Refusal) (m after : Model) → settle (ruleNumber kind when true ∷ rest) m [] after ≡ refused (ruleNumber kind) m
-unfolding settle verdict
-rule-refused Static rest m after = refl
-rule-refused Dynamic rest m after = refl
+-- what is stored at a place of the table is stored
+pub placed : (name : ℕ) (m x after : Model) → name < 16 → after ≡ inRange 16 name m x → after ≡ x
+placed name m x after h e = e ∙ in-range 16 name m x h
 
--- a rule asked of an array of the roles held is asked of those roles
-pub asked-of : (n : ℕ) (set : RoleSet) (held : List ℕ) (roles : ℕ → ℕ) → length held ≡ n → ((k : ℕ) → k < n → tableOf held k ≡ roles k) → some (length held) (λ k. breaks set (tableOf held k)) ≡ some n (λ k. breaks set (roles k))
-asked-of n set held roles whole each = rw whole (some-ext n _ _ (λ k l. ap (breaks set) (each k l)))
+-- a set that is there takes these members: it stays there, with its cardinality
+pub members-placed : (kind : Kind) (name : ℕ) (m after : Model) (roles : ℕ) (rest : Bool) → name < 16 → (setMissing kind m name || rest) ≡ false → after ≡ inRange 16 name m (setStored kind m name (withMembers (setsOf kind m name) roles)) → after ≡ setStored kind m name (aSet (setsOf kind m name .card) roles)
+members-placed kind name m after roles rest h there e =
+    placed name m _ after h e
+    ∙ ap (λ (t : Bool). setStored kind m name (record { there = t; card = setsOf kind m name .card; roles = roles })) (not-false (setsOf kind m name .there) (or-clear (setMissing kind m name) rest there .0))
+
+-- the refusals that are asked last decide
+module _ (refusals : List Refusal) (m after : Model) (a : Answer) (answers : verdict refusals ≡ numberOf a) (done? : Bool) (is : done? ≡ eqb (numberOf a) 0) where
+  pub last-refused : not done? ≡ true → refused (numberOf a) m ≡ settle refusals m [] after
+  unfolding settle
+  last-refused h = rw (settle, answers, ← is, not-true done? h) (ap (λ (n : ℕ). refused n m) (sym answers))
+
+  pub last-done : not done? ≡ false → (x : Model) → x ≡ after → done [] x ≡ settle refusals m [] after
+  unfolding settle
+  last-done h x e = rw (settle, answers, ← is, not-false done? h) (ap (done []) e)

@@ -7,4 +7,4 @@ returns : tie.Need-returns
 returns c = rw (← c .before .count .ensures .0) (c .either .ensures)
 
 pub bad-cardinality-spec : {M : Type 1} → statement M
-bad-cardinality-spec = tie.close (tie.spec (λ c κs. search needs) (λ c κs. search needs) returns)
+bad-cardinality-spec = tie.close (tie.spec (λ c κs. search needs) (λ c. search needs) (λ c κs. search needs) returns)

@@ -4,20 +4,21 @@ use mathlib.Core.Bool.{false, not, _||_}
 use mathlib.Core.List.{[]}
 use mathlib.Core.Path.{_≡_, sym, ap, _∙_}
 use Prim.Native.Nat.{ℕ, _<_}
-use Rattle.roleset.specs.Roles.{has}
-use Rattle.model.specs.Model.{Model}
+use Rattle.roleset.specs.Roles.{has, without}
+use Rattle.model.specs.Model.{Model, RoleSet}
 use Rattle.model.specs.Sheet.{verdict, settle, done}
 use Rattle.model.specs.commands.Naming.{noSet, noRole, roleMissing}
-use Rattle.model.specs.commands.Sets.{setsOf, dropMember}
+use Rattle.model.specs.commands.Sets.{setsOf, aSet, badCardinality, dropMember}
 use Rattle.model.specs.declared.Kind.{Kind}
-use Rattle.policy.specs.View.{view, seen}
-use Rattle.sets.proofs.Laws.{set-found, name-within}
+use Rattle.state.specs.Stores.{setStored}
+use Rattle.state.specs.View.{view, told}
+use Rattle.sets.proofs.Laws.{name-within, members-placed}
 use Rattle.sets.proofs.drop_member.Statement.{statement}
 use Rattle.sets.proofs.drop_member.Tie as tie
 
--- the policy and the sessions at entry, and what the command names
+-- the policy at entry, what the command names, and the set by the name
 abbrev m : tie.Start → Model
-m c = view (c .args .s)
+m c = view (c .args .state .now)
 
 abbrev kind : tie.Start → Kind
 kind c = c .args .kind
@@ -28,15 +29,18 @@ name c = c .args .name .number
 abbrev role : tie.Start → ℕ
 role c = c .args .r .number
 
+abbrev set : tie.Start → RoleSet
+set c = setsOf (kind c) (m c) (name c)
+
 -- from a place back to one before it
 abbrev to-start : tie.Else1 → tie.Start
 to-start c = c .before .before .before .before
 
-abbrev to-1 : tie.After-set-at → tie.Else1
-to-1 c = c .before .before .before
+abbrev to-set : tie.Else2 → tie.After-set-named
+to-set c = c .before .before .before .before .before
 
-abbrev to-set : tie.Else2 → tie.After-set-at
-to-set c = c .before .before .before .before
+abbrev to-1 : tie.After-set-named → tie.Else1
+to-1 c = c .before .before
 
 -- what the tests find, and what is known past them
 found-1 : (c : tie.After-either) → let s = c .before .before .before in (noSet (name s) || noRole (role s)) ≡ c .either .result
@@ -48,51 +52,62 @@ clear-1 c = found-1 (c .before) ∙ c .if1 .left
 within : (c : tie.Else1) → name (to-start c) < 16
 within c = name-within (name (to-start c)) (noRole (role (to-start c))) (clear-1 c)
 
-old : (c : tie.After-set-at) → let s = to-start (to-1 c) in setsOf (kind s) (m s) (name s) ≡ c .set-at .result
-old c = let s = to-start (to-1 c) in set-found (s .args .s) (kind s) (name s) (c .set-at .result) (c .set-at .ensures)
+old : (c : tie.After-set-named) → set (to-start (to-1 c)) ≡ c .set-named .result
+old c = sym (c .set-named .ensures)
 
-found-2 : (c : tie.After-either2) → let s = to-start (to-1 (c .before .before .before)) in (not (c .before .before .before .set-at .result .there) || roleMissing (m s) (role s)) ≡ c .either2 .result
-unfolding view
-found-2 c = rw (← c .before .has .ensures) (sym (c .either2 .ensures))
+found-2 : (c : tie.After-either2) → let s = to-start (to-1 (c .before .before .before .before)) in (not (set s .there) || roleMissing (m s) (role s)) ≡ c .either2 .result
+found-2 c = rw (old (c .before .before .before .before), ← c .before .has-role .ensures) (sym (c .either2 .ensures))
 
-clear-2 : (c : tie.Else2) → let s = to-start (to-1 (to-set c)) in (not (to-set c .set-at .result .there) || roleMissing (m s) (role s)) ≡ false
+clear-2 : (c : tie.Else2) → let s = to-start (to-1 (to-set c)) in (not (set s .there) || roleMissing (m s) (role s)) ≡ false
 clear-2 c = found-2 (c .before) ∙ c .if2 .left
 
-found-3 : (c : tie.After-has2) → has (to-set (c .before) .set-at .result .roles) (role (to-start (to-1 (to-set (c .before))))) ≡ c .has2 .result
-found-3 c = sym (c .has2 .ensures)
+found-3 : (c : tie.After-has) → let s = to-start (to-1 (to-set (c .before))) in not (has (set s .roles) (role s)) ≡ not (c .has .result)
+found-3 c = rw (old (to-set (c .before))) (ap not (sym (c .has .ensures)))
+
+-- the roles that are left, and whether they are too few
+left : (c : tie.After-without) → let s = to-start (to-1 (to-set (c .before .before .before))) in without (set s .roles) (role s) ≡ c .without .result
+left c = rw (old (to-set (c .before .before .before))) (sym (c .without .ensures .is))
+
+found-4 : (c : tie.After-bad-cardinality) → let s = to-start (to-1 (to-set (c .before .before .before .before))) in badCardinality (set s .card) (without (set s .roles) (role s)) ≡ c .bad-cardinality .result
+found-4 c = rw (left (c .before), old (to-set (c .before .before .before .before))) (sym (c .bad-cardinality .ensures))
 
 returns : tie.Need-returns
-unfolding seen dropMember settle verdict
-returns c = rw (c .refused .ensures, found-1 (c .before .before) ∙ c .before .if1 .taken)
+unfolding told dropMember settle verdict
+returns c = rw (found-1 (c .before) ∙ c .if1 .taken)
 
 returns-2 : tie.Need-returns-2
-unfolding seen dropMember settle verdict
-returns-2 c =
-    let at = c .before .before .before .before .before in
-    rw (c .refused2 .ensures, clear-1 (to-1 at), old at, found-2 (c .before .before) ∙ c .before .if2 .taken)
+unfolding told dropMember settle verdict
+returns-2 c = rw (clear-1 (to-1 (c .before .before .before .before .before)), found-2 (c .before) ∙ c .if2 .taken)
 
 returns-3 : tie.Need-returns-3
-unfolding seen dropMember settle verdict
+unfolding told dropMember settle verdict
 returns-3 c =
-    let c2 = c .before .before .before in
-    rw (c .refused3 .ensures, clear-1 (to-1 (to-set c2)), old (to-set c2), clear-2 c2, found-3 (c .before .before), c .before .if3 .taken)
+    let c2 = c .before .before in
+    rw (clear-1 (to-1 (to-set c2)), clear-2 c2, found-3 (c .before) ∙ c .if3 .taken)
 
 returns-4 : tie.Need-returns-4
-unfolding seen dropMember settle verdict
+unfolding told dropMember settle verdict
 returns-4 c =
-    let c3 = c .before .before .before .before in
+    let c3 = c .before .before .before in
     let c2 = c3 .before .before in
-    rw (c .refused4 .ensures, clear-1 (to-1 (to-set c2)), old (to-set c2), clear-2 c2, found-3 (c3 .before), c3 .if3 .left, ← c .before .before .before .without .ensures .is, sym (c .before .before .bad-cardinality .ensures) ∙ c .before .if4 .taken)
+    rw (clear-1 (to-1 (to-set c2)), clear-2 c2, found-3 (c3 .before) ∙ c3 .if3 .left, found-4 (c .before) ∙ c .if4 .taken)
 
-store-requires : tie.Need-store-requires
-store-requires c κs = within (to-1 (to-set (c .before .before .before .before .before)))
+-- the store: the members that are left
+stored : (c : tie.After-put-members) → let s = to-start (to-1 (to-set (c .before .before .before .before .before .before .before))) in view (c .put-members .last .0) ≡ setStored (kind s) (m s) (name s) (aSet (set s .card) (without (set s .roles) (role s)))
+stored c =
+    let at = c .before .before .before .before in
+    let c2 = at .before .before .before in
+    let s = to-start (to-1 (to-set c2)) in
+    members-placed (kind s) (name s) (m s) _ (at .without .result) (roleMissing (m s) (role s)) (within (to-1 (to-set c2))) (clear-2 c2) (c .put-members .ensures)
+    ∙ ap (λ (x : ℕ). setStored (kind s) (m s) (name s) (aSet (set s .card) x)) (sym (left at))
 
 returns-5 : tie.Need-returns-5
-unfolding seen dropMember settle verdict
+unfolding told dropMember settle verdict
 returns-5 c =
-    let c3 = c .before .before .before .before in
+    let c4 = c .before .before in
+    let c3 = c4 .before .before .before in
     let c2 = c3 .before .before in
-    rw (clear-1 (to-1 (to-set c2)), old (to-set c2), clear-2 c2, found-3 (c3 .before), c3 .if3 .left, ← c .before .before .before .without .ensures .is, sym (c .before .before .bad-cardinality .ensures) ∙ c .before .if4 .left) (ap (done []) (c .store .ensures))
+    rw (clear-1 (to-1 (to-set c2)), clear-2 c2, found-3 (c3 .before) ∙ c3 .if3 .left, found-4 (c4 .before) ∙ c4 .if4 .left) (ap (done []) (stored c))
 
 pub drop-member-spec : {M : Type 1} → statement M
 drop-member-spec =
@@ -101,19 +116,15 @@ drop-member-spec =
     (λ c κs. search needs)
     (λ c κs. search needs)
     (λ c κs. search needs)
-    (λ c κs. search needs)
     returns
-    (λ c κs. search needs)
     (λ c κs. search needs)
     (λ c κs. search needs)
     (λ c κs. search needs)
     returns-2
     (λ c κs. search needs)
-    (λ c κs. search needs)
     returns-3
     (λ c κs. search needs)
     (λ c κs. search needs)
-    (λ c κs. search needs)
     returns-4
-    store-requires
+    (λ c κs. search needs)
     returns-5)

@@ -1,59 +1,66 @@
 -- Both tests of `nossd` and `nodsd` are refusals of the sheet; past them the store leaves no set by the name. Assumes nothing.
 use borrow.Author.Needs.{needs}
+use borrow.Author.Tests.{leb-false}
 use mathlib.Core.Bool.{false}
 use mathlib.Core.List.{[]}
 use mathlib.Core.Path.{_≡_, sym, ap, _∙_}
-use Prim.Native.Nat.{_<_}
-use borrow.Author.Tests.{leb-false}
+use Prim.Native.Nat.{ℕ}
+use Rattle.model.specs.Model.{Model}
 use Rattle.model.specs.Sheet.{verdict, settle, done}
 use Rattle.model.specs.commands.Naming.{noSet}
 use Rattle.model.specs.commands.Sets.{setsOf, dropSet}
-use Rattle.policy.specs.View.{view, seen}
-use Rattle.sets.proofs.Laws.{set-found}
+use Rattle.model.specs.declared.Kind.{Kind}
+use Rattle.state.specs.View.{view, told}
+use Rattle.sets.proofs.Laws.{placed}
 use Rattle.sets.proofs.drop_set.Statement.{statement}
 use Rattle.sets.proofs.drop_set.Tie as tie
 
--- past refusal 1 the name is within its range, and the set by the name is the one looked up
-clear-1 : (c : tie.Else1) → noSet (c .before .before .args .name .number) ≡ false
+-- the policy at entry, and what the command names
+abbrev m : tie.Start → Model
+m c = view (c .args .state .now)
+
+abbrev kind : tie.Start → Kind
+kind c = c .args .kind
+
+abbrev name : tie.Start → ℕ
+name c = c .args .name .number
+
+-- from the place where the set was looked up back to the start
+abbrev to-start : tie.After-set-named → tie.Start
+to-start c = c .before .before .before .before
+
+-- past refusal 1 the name is within its range; the set by the name is the one looked up
+clear-1 : (c : tie.Else1) → noSet (name (c .before .before)) ≡ false
 clear-1 c = sym (c .before .set-beyond .ensures) ∙ c .if1 .left
 
-within : (c : tie.Else1) → c .before .before .args .name .number < 16
-within c = leb-false 16 (c .before .before .args .name .number) (clear-1 c)
-
-abbrev to-1 : tie.After-set-at → tie.Else1
-to-1 c = c .before .before .before
-
-old : (c : tie.After-set-at) → let at = to-1 c .before .before .args in setsOf (at .kind) (view (at .s)) (at .name .number) ≡ c .set-at .result
-old c = let at = to-1 c .before .before .args in set-found (at .s) (at .kind) (at .name .number) (c .set-at .result) (c .set-at .ensures)
+old : (c : tie.After-set-named) → let s = to-start c in setsOf (kind s) (m s) (name s) ≡ c .set-named .result
+old c = sym (c .set-named .ensures)
 
 returns : tie.Need-returns
-unfolding seen dropSet settle verdict
-returns c = rw (c .refused .ensures, ← c .before .before .set-beyond .ensures, c .before .if1 .taken)
+unfolding told dropSet settle verdict
+returns c = rw (← c .before .set-beyond .ensures, c .if1 .taken)
 
 returns-2 : tie.Need-returns-2
-unfolding seen dropSet settle verdict
+unfolding told dropSet settle verdict
 returns-2 c =
-    let at = c .before .before .before in
-    rw (c .refused2 .ensures, clear-1 (to-1 at), old at, c .before .if2 .taken)
-
-store-requires : tie.Need-store-requires
-store-requires c κs = within (to-1 (c .before .before))
+    let at = c .before .before in
+    rw (clear-1 (at .before .before), old at, c .if2 .taken)
 
 returns-3 : tie.Need-returns-3
-unfolding seen dropSet settle verdict
+unfolding told dropSet settle verdict
 returns-3 c =
-    let at = c .before .before .before in
-    rw (clear-1 (to-1 at), old at, c .before .if2 .left) (ap (done []) (c .store .ensures))
+    let at = c .before .before .before .before in
+    let s = to-start at in
+    rw (clear-1 (at .before .before), old at, c .before .before .if2 .left)
+    (ap (done []) (placed (name s) (m s) _ _ (leb-false 16 (name s) (clear-1 (at .before .before))) (c .clear-set .ensures)))
 
 pub drop-set-spec : {M : Type 1} → statement M
 drop-set-spec =
     tie.close
     (tie.spec
     (λ c κs. search needs)
-    (λ c κs. search needs)
     returns
     (λ c κs. search needs)
-    (λ c κs. search needs)
     returns-2
-    store-requires
+    (λ c κs. search needs)
     returns-3)
