@@ -9,7 +9,7 @@ use borrow.Author.Tests.{eqb-true, eqb-false, ltb-true, ltb-false, lt-ltb, le-lt
 use Rattle.roleset.specs.Bounded.{bit, tally}
 use Rattle.roleset.specs.Roles.{has, without}
 use Rattle.roleset.proofs.BoundedLaws.{tally-step}
-use Rattle.roleset.proofs.Laws.{ext, has-none, has-without, without-small}
+use Rattle.roleset.proofs.Laws.{ext, has-without, without-small}
 use Rattle.model.specs.Model.{Model, put, withGrants}
 use Rattle.model.specs.commands.Users.{holding}
 use Rattle.model.proofs.Puts.{put-same, put-other}
@@ -17,6 +17,7 @@ use Rattle.state.specs.Stores.{inRange}
 use Rattle.state.specs.View.{view}
 use Rattle.state.proofs.Slots.{part-none}
 use Rattle.state.proofs.Stored.{in-range}
+use Rattle.sweeps.proofs.Strips.{without-none}
 use Rattle.users.specs.Leaving.{ungranted, allUngranted}
 
 -- a role that is not a member can be taken out, and nothing changes
@@ -107,4 +108,4 @@ grants-end r l = ap (λ (f : ℕ → ℕ). withGrants (view l) f (view l .grantC
     go k true e = done-below 4096 r (view l .holders) k (ltb-true k 4096 e)
     go k false e =
         let past = part-none l 0 4096 k (ltb-false k 4096 e) in
-        same-past 4096 r (view l .holders) k (ltb-false k 4096 e) ∙ past ∙ sym (without-absent 0 r (omega arith) (has-none r)) ∙ ap (λ (x : ℕ). without x r) (sym past)
+        same-past 4096 r (view l .holders) k (ltb-false k 4096 e) ∙ past ∙ sym (without-none r) ∙ ap (λ (x : ℕ). without x r) (sym past)

@@ -1,10 +1,9 @@
 -- Each test of `deassign` is a refusal of the sheet, in its order; past all four, the stores take the role from the user's, count it, and shed the sessions. Assumes nothing.
 use borrow.Author.Needs.{needs}
-use mathlib.Core.Bool.{false, not, _||_}
+use mathlib.Core.Bool.{false, _||_}
 use mathlib.Core.List.{[]}
 use mathlib.Core.Path.{_≡_, sym, ap, _∙_}
 use Prim.Native.Nat.{ℕ, _<_, _-_}
-use native.Mathlib.Omega.{arith}
 use Rattle.roleset.specs.Roles.{has, without}
 use Rattle.model.specs.Model.{Model}
 use Rattle.model.specs.Sheet.{verdict, settle, done}

@@ -1,6 +1,6 @@
 -- Where the role holds the permission, the store takes it out and counts one less; where it does not, nothing is stored. Assumes nothing.
 use borrow.Author.Needs.{needs}
-use mathlib.Core.Path.{_≡_, sym, ap, _∙_}
+use mathlib.Core.Path.{sym, ap, _∙_}
 use Prim.Native.Nat.{ℕ, _-_, _<_, _^_}
 use native.Mathlib.Omega.{arith}
 use Rattle.state.specs.View.{view}

@@ -4,7 +4,7 @@ use borrow.Author.Tests.{leb-false}
 use mathlib.Core.Bool.{false}
 use mathlib.Core.List.{[]}
 use mathlib.Core.Path.{_≡_, sym, ap, _∙_}
-use Prim.Native.Nat.{ℕ, _<_}
+use Prim.Native.Nat.{ℕ}
 use Rattle.model.specs.Model.{Model}
 use Rattle.model.specs.Sheet.{verdict, settle, done}
 use Rattle.model.specs.commands.Naming.{noUser}
