@@ -66,12 +66,15 @@ clear-2 c = found-2 (c .before) ∙ c .if2 .left
 found-3 : (c : tie.After-has) → let s = to-start (to-1 (to-set (c .before))) in has (set s .roles) (role s) ≡ c .has .result
 found-3 c = rw (old (to-set (c .before))) (sym (c .has .ensures))
 
--- the larger set, and what its rule says
+-- the larger set, what its rule says, and what is stored
 more : (c : tie.After-with) → let s = to-start (to-1 (to-set (c .before .before .before))) in with (set s .roles) (role s) ≡ c .with .result
 more c = rw (old (to-set (c .before .before .before))) (sym (c .with .ensures .is))
 
 abbrev rules : tie.Start → List Refusal
 rules s = ruleRefusals (kind s) (m s) (aSet (set s .card) (with (set s .roles) (role s)))
+
+abbrev after : tie.Start → Model
+after s = setStored (kind s) (m s) (name s) (aSet (set s .card) (with (set s .roles) (role s)))
 
 asked : (c : tie.After-rule-refusal) → let s = to-start (to-1 (to-set (c .before .before .before .before .before))) in verdict (rules s) ≡ numberOf (c .rule-refusal .result)
 asked c = rw (more (c .before .before), old (to-set (c .before .before .before .before .before))) (sym (c .rule-refusal .ensures))
@@ -97,10 +100,10 @@ returns-4 c =
     let c2 = c3 .before .before in
     let s = to-start (to-1 (to-set c2)) in
     rw (clear-1 (to-1 (to-set c2)), clear-2 c2, found-3 (c3 .before) ∙ c3 .if3 .left)
-    (last-refused (rules s) (m s) _ (c .before .before .rule-refusal .result) (asked (c .before .before)) _ (c .before .is-done .ensures) (c .if4 .taken))
+    (last-refused (rules s) (m s) (after s) (c .before .before .rule-refusal .result) (asked (c .before .before)) _ (c .before .is-done .ensures) (c .if4 .taken))
 
 -- the store: the larger set's members
-stored : (c : tie.After-put-members) → let s = to-start (to-1 (to-set (c .before .before .before .before .before .before .before .before .before))) in view (c .put-members .last .0) ≡ setStored (kind s) (m s) (name s) (aSet (set s .card) (with (set s .roles) (role s)))
+stored : (c : tie.After-put-members) → let s = to-start (to-1 (to-set (c .before .before .before .before .before .before .before .before .before))) in view (c .put-members .last .0) ≡ after s
 stored c =
     let at = c .before .before .before .before .before .before in
     let c2 = at .before .before .before in
@@ -116,7 +119,7 @@ returns-5 c =
     let c2 = c3 .before .before in
     let s = to-start (to-1 (to-set c2)) in
     rw (clear-1 (to-1 (to-set c2)), clear-2 c2, found-3 (c3 .before) ∙ c3 .if3 .left)
-    (last-done (rules s) (m s) _ (c4 .before .before .rule-refusal .result) (asked (c4 .before .before)) _ (c4 .before .is-done .ensures) (c4 .if4 .left) _ (stored c))
+    (last-done (rules s) (m s) (after s) (c4 .before .before .rule-refusal .result) (asked (c4 .before .before)) _ (c4 .before .is-done .ensures) (c4 .if4 .left) _ (stored c))
 
 pub add-member-spec : {M : Type 1} → statement M
 add-member-spec =

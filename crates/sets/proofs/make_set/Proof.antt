@@ -91,9 +91,12 @@ found-5 c = rw (asked-of (to-1 (to-2 (to-3 (c .before))))) (sym (c .bad-cardinal
 clear-5 : (c : tie.Else5) → let s = from-5 c in badCardinality (card s) (setOf (list s)) ≡ false
 clear-5 c = found-5 (c .before) ∙ c .if5 .left
 
--- what the rule of the set says
+-- what the rule of the set says, and what is stored
 abbrev rules : tie.Start → List Refusal
 rules s = ruleRefusals (kind s) (m s) (aSet (card s) (setOf (list s)))
+
+abbrev after : tie.Start → Model
+after s = setStored (kind s) (m s) (name s) (aSet (card s) (setOf (list s)))
 
 asked : (c : tie.After-rule-refusal) → verdict (rules (from-5 (to-5 c))) ≡ numberOf (c .rule-refusal .result)
 asked c = rw (asked-of (to-1 (to-2 (to-3 (to-4 (to-5 c)))))) (sym (c .rule-refusal .ensures))
@@ -137,15 +140,15 @@ returns-6 c =
     let c2 = to-2 c3 in
     let s = from-5 c5 in
     rw (clear-1 (to-1 c2), clear-2 c2, clear-3 c3, clear-4 c4, clear-5 c5)
-    (last-refused (rules s) (m s) _ (ruled .rule-refusal .result) (asked ruled) _ (c .before .is-done .ensures) (c .if6 .taken))
+    (last-refused (rules s) (m s) (after s) (ruled .rule-refusal .result) (asked ruled) _ (c .before .is-done .ensures) (c .if6 .taken))
 
 -- the store: the new set
-stored : (c : tie.After-put-set) → let s = from-5 (to-5 (c .before .before .before .before)) in view (c .put-set .last .0) ≡ setStored (kind s) (m s) (name s) (aSet (card s) (setOf (list s)))
+stored : (c : tie.After-put-set) → let s = from-5 (to-5 (c .before .before .before .before)) in view (c .put-set .last .0) ≡ after s
 stored c =
     let c5 = to-5 (c .before .before .before .before) in
     let c2 = to-2 (to-3 (to-4 c5)) in
     let s = from-5 c5 in
-    rw (asked-of (to-1 c2)) (placed (name s) (m s) _ _ (name-within (name s) (someFrom 64 (list s)) (clear-2 c2)) (c .put-set .ensures))
+    rw (asked-of (to-1 c2)) (placed (name s) (m s) (setStored (kind s) (m s) (name s) (aSet (card s) (to-1 c2 .before .before .read .result .roles))) _ (name-within (name s) (someFrom 64 (list s)) (clear-2 c2)) (c .put-set .ensures))
 
 returns-7 : tie.Need-returns-7
 unfolding told makeSet settle verdict
@@ -158,7 +161,7 @@ returns-7 c =
     let c2 = to-2 c3 in
     let s = from-5 c5 in
     rw (clear-1 (to-1 c2), clear-2 c2, clear-3 c3, clear-4 c4, clear-5 c5)
-    (last-done (rules s) (m s) _ (ruled .rule-refusal .result) (asked ruled) _ (c6 .before .is-done .ensures) (c6 .if6 .left) _ (stored c))
+    (last-done (rules s) (m s) (after s) (ruled .rule-refusal .result) (asked ruled) _ (c6 .before .is-done .ensures) (c6 .if6 .left) _ (stored c))
 
 pub make-set-spec : {M : Type 1} → statement M
 make-set-spec =

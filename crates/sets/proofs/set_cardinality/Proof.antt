@@ -60,9 +60,12 @@ found-2 c = ap (λ (x : RoleSet). not (x .there)) (old c)
 found-3 : (c : tie.After-bad-cardinality) → let s = to-start (to-1 (to-set (c .before))) in badCardinality (card s) (set s .roles) ≡ c .bad-cardinality .result
 found-3 c = rw (old (to-set (c .before))) (sym (c .bad-cardinality .ensures))
 
--- what the rule of the set says
+-- what the rule of the set says, and what is stored
 abbrev rules : tie.Start → List Refusal
 rules s = ruleRefusals (kind s) (m s) (aSet (card s) (set s .roles))
+
+abbrev after : tie.Start → Model
+after s = setStored (kind s) (m s) (name s) (aSet (card s) (set s .roles))
 
 asked : (c : tie.After-rule-refusal) → verdict (rules (to-start (to-1 (to-set (to-2 c))))) ≡ numberOf (c .rule-refusal .result)
 asked c = rw (old (to-set (to-2 c))) (sym (c .rule-refusal .ensures))
@@ -92,14 +95,14 @@ returns-4 c =
     let at = to-set c2 in
     let s = to-start (to-1 at) in
     rw (clear-1 (to-1 at), found-2 at ∙ c2 .if2 .left, found-3 (ruled .before .before .before) ∙ ruled .before .before .if3 .left)
-    (last-refused (rules s) (m s) _ (ruled .rule-refusal .result) (asked ruled) _ (c .before .is-done .ensures) (c .if4 .taken))
+    (last-refused (rules s) (m s) (after s) (ruled .rule-refusal .result) (asked ruled) _ (c .before .is-done .ensures) (c .if4 .taken))
 
 -- the store: the set with the cardinality
-stored : (c : tie.After-put-set) → let s = to-start (to-1 (to-set (to-2 (c .before .before .before .before)))) in view (c .put-set .last .0) ≡ setStored (kind s) (m s) (name s) (aSet (card s) (set s .roles))
+stored : (c : tie.After-put-set) → let s = to-start (to-1 (to-set (to-2 (c .before .before .before .before)))) in view (c .put-set .last .0) ≡ after s
 stored c =
     let at = to-set (to-2 (c .before .before .before .before)) in
     let s = to-start (to-1 at) in
-    rw (old at) (placed (name s) (m s) _ _ (leb-false 16 (name s) (clear-1 (to-1 at))) (c .put-set .ensures))
+    rw (old at) (placed (name s) (m s) (setStored (kind s) (m s) (name s) (aSet (card s) (at .set-named .result .roles))) _ (leb-false 16 (name s) (clear-1 (to-1 at))) (c .put-set .ensures))
 
 returns-5 : tie.Need-returns-5
 unfolding told setCardinality settle verdict
@@ -110,7 +113,7 @@ returns-5 c =
     let at = to-set c2 in
     let s = to-start (to-1 at) in
     rw (clear-1 (to-1 at), found-2 at ∙ c2 .if2 .left, found-3 (ruled .before .before .before) ∙ ruled .before .before .if3 .left)
-    (last-done (rules s) (m s) _ (ruled .rule-refusal .result) (asked ruled) _ (c4 .before .is-done .ensures) (c4 .if4 .left) _ (stored c))
+    (last-done (rules s) (m s) (after s) (ruled .rule-refusal .result) (asked ruled) _ (c4 .before .is-done .ensures) (c4 .if4 .left) _ (stored c))
 
 pub set-cardinality-spec : {M : Type 1} → statement M
 set-cardinality-spec =
