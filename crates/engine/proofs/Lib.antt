@@ -1,1 +1,1 @@
-mod Openings
+mod Telling

@@ -1,7 +1,7 @@
 -- By cases on the command, the function of its own crate tells what the step of the model tells. Assumes nothing.
 use borrow.Author.Needs.{needs}
 use Rattle.model.specs.Step.{step}
-use Rattle.engine.proofs.Openings.{opened-steps}
+use Rattle.engine.proofs.Telling.{plain-steps, opened-steps}
 use Rattle.engine.proofs.step.Statement.{statement}
 use Rattle.engine.proofs.step.Tie as tie
 
@@ -67,22 +67,22 @@ step-spec =
     (λ c. search needs)
     (λ c κs. search needs)
     (λ c κs. search needs)
-    (λ c. rw (c .before .before .before .c .given .1) (rw (c .before .user .ensures) at (c .plain .ensures)))
-    (λ c. rw (c .before .before .before .c2 .given .1) (rw (c .before .role .ensures) at (c .plain2 .ensures)))
-    (λ c. rw (c .before .before .before .c3 .given .1) (rw (c .before .nouser .ensures) at (c .plain3 .ensures)))
-    (λ c. rw (c .before .before .before .c4 .given .1) (rw (c .before .norole .ensures) at (c .plain4 .ensures)))
-    (λ c. rw (c .before .before .before .c5 .given .1) (rw (c .before .assign .ensures) at (c .plain5 .ensures)))
-    (λ c. rw (c .before .before .before .c6 .given .1) (rw (c .before .deassign .ensures) at (c .plain6 .ensures)))
-    (λ c. rw (c .before .before .before .c7 .given .1) (rw (c .before .grant .ensures) at (c .plain7 .ensures)))
-    (λ c. rw (c .before .before .before .c8 .given .1) (rw (c .before .revoke .ensures) at (c .plain8 .ensures)))
-    (λ c. rw (c .before .before .before .c9 .given .1) (rw (c .before .inherit .ensures) at (c .plain9 .ensures)))
-    (λ c. rw (c .before .before .before .c10 .given .1) (rw (c .before .disinherit .ensures) at (c .plain10 .ensures)))
-    (λ c. rw (c .before .before .before .c11 .given .1) (rw (c .before .make-set .ensures) at (c .plain11 .ensures)))
-    (λ c. rw (c .before .before .before .c12 .given .1) (rw (c .before .drop-set .ensures) at (c .plain12 .ensures)))
-    (λ c. rw (c .before .before .before .c13 .given .1) (rw (c .before .add-member .ensures) at (c .plain13 .ensures)))
-    (λ c. rw (c .before .before .before .c14 .given .1) (rw (c .before .drop-member .ensures) at (c .plain14 .ensures)))
-    (λ c. rw (c .before .before .before .c15 .given .1) (rw (c .before .set-cardinality .ensures) at (c .plain15 .ensures)))
-    (λ c. rw (c .before .before .before .c16 .given .1, c .opening .ensures) (opened-steps _ (c .before .session .result) (c .before .session .ensures)))
-    (λ c. rw (c .before .before .before .c17 .given .1) (rw (c .before .activate .ensures) at (c .plain16 .ensures)))
-    (λ c. rw (c .before .before .before .c18 .given .1) (rw (c .before .drop .ensures) at (c .plain17 .ensures)))
-    (λ c. rw (c .before .before .before .c19 .given .1) (rw (c .before .end .ensures) at (c .plain18 .ensures))))
+    (λ c. rw (c .before .before .before .before .c .given .1, c .plain .ensures) (plain-steps _ _ _ (c .before .user .ensures)))
+    (λ c. rw (c .before .before .before .before .c2 .given .1, c .plain2 .ensures) (plain-steps _ _ _ (c .before .role .ensures)))
+    (λ c. rw (c .before .before .before .before .c3 .given .1, c .plain3 .ensures) (plain-steps _ _ _ (c .before .nouser .ensures)))
+    (λ c. rw (c .before .before .before .before .c4 .given .1, c .plain4 .ensures) (plain-steps _ _ _ (c .before .norole .ensures)))
+    (λ c. rw (c .before .before .before .before .c5 .given .1, c .plain5 .ensures) (plain-steps _ _ _ (c .before .assign .ensures)))
+    (λ c. rw (c .before .before .before .before .c6 .given .1, c .plain6 .ensures) (plain-steps _ _ _ (c .before .deassign .ensures)))
+    (λ c. rw (c .before .before .before .before .c7 .given .1, c .plain7 .ensures) (plain-steps _ _ _ (c .before .grant .ensures)))
+    (λ c. rw (c .before .before .before .before .c8 .given .1, c .plain8 .ensures) (plain-steps _ _ _ (c .before .revoke .ensures)))
+    (λ c. rw (c .before .before .before .before .c9 .given .1, c .plain9 .ensures) (plain-steps _ _ _ (c .before .inherit .ensures)))
+    (λ c. rw (c .before .before .before .before .c10 .given .1, c .plain10 .ensures) (plain-steps _ _ _ (c .before .disinherit .ensures)))
+    (λ c. rw (c .before .before .before .before .c11 .given .1, c .plain11 .ensures) (plain-steps _ _ _ (c .before .make-set .ensures)))
+    (λ c. rw (c .before .before .before .before .c12 .given .1, c .plain12 .ensures) (plain-steps _ _ _ (c .before .drop-set .ensures)))
+    (λ c. rw (c .before .before .before .before .c13 .given .1, c .plain13 .ensures) (plain-steps _ _ _ (c .before .add-member .ensures)))
+    (λ c. rw (c .before .before .before .before .c14 .given .1, c .plain14 .ensures) (plain-steps _ _ _ (c .before .drop-member .ensures)))
+    (λ c. rw (c .before .before .before .before .c15 .given .1, c .plain15 .ensures) (plain-steps _ _ _ (c .before .set-cardinality .ensures)))
+    (λ c. rw (c .before .before .before .before .c16 .given .1, c .opening .ensures) (opened-steps _ (c .before .session .result) _ (c .before .session .ensures)))
+    (λ c. rw (c .before .before .before .before .c17 .given .1, c .plain16 .ensures) (plain-steps _ _ _ (c .before .activate .ensures)))
+    (λ c. rw (c .before .before .before .before .c18 .given .1, c .plain17 .ensures) (plain-steps _ _ _ (c .before .drop .ensures)))
+    (λ c. rw (c .before .before .before .before .c19 .given .1, c .plain18 .ensures) (plain-steps _ _ _ (c .before .end .ensures))))
