@@ -1,9 +1,12 @@
 -- A review by one walk: the walk of the code is that of the model, and so is what the roles it reaches give. Assumes nothing.
-use mathlib.Core.Bool.{Bool}
+use mathlib.Core.Bool.{Bool, true}
 use mathlib.Core.List.{List}
 use mathlib.Core.Path.{_≡_, sym, ap, ap₂, _∙_}
-use Prim.Native.Nat.{ℕ}
+use Prim.Native.Nat.{ℕ, _≤_}
+use native.Mathlib.Omega.{arith}
+use lib.Dec.{leb}
 use lib.ListN.{length}
+use borrow.Author.Tests.{leb-true}
 use Rattle.roleset.specs.Bounded.{members}
 use Rattle.hierarchy.specs.Walks.{reach}
 use Rattle.hierarchy.specs.declared.Walk.{Walk}
@@ -14,6 +17,10 @@ use Rattle.reviews.specs.declared.Review.{Review}
 use Rattle.reviews.specs.Reviewing.{Reviewed, Lists, meets, meeting}
 use Rattle.reviews.proofs.Filling.{meeting-members}
 use Rattle.reviews.proofs.Settling.{told-review}
+
+-- a table of the state is no longer than a review lists
+pub table-fits : {n : ℕ} {f : ℕ → ℕ} {table : List ℕ} → Table n f table → leb n 4096 ≡ true → length table ≤ 4096
+table-fits {n} t h = omega (arith, t .long, leb-true n 4096 h)
 
 -- the walk from a set of roles that the code has found
 pub walked : (juniors : ℕ → ℕ) {from held : ℕ} {w : Walk} → held ≡ from → w ≡ reach juniors held → reach juniors from ≡ w

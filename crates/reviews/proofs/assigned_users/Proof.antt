@@ -1,5 +1,4 @@
 -- The users whose set has the role: it meets the role alone. Assumes nothing.
-use borrow.Author.Needs.{needs}
 use borrow.Author.Tests.{leb-false}
 use mathlib.Core.Bool.{not}
 use mathlib.Core.Path.{refl, sym, ap, ap₂, _∙_}
@@ -9,6 +8,7 @@ use Rattle.state.specs.View.{view}
 use Rattle.reviews.specs.Reviewing.{meets}
 use Rattle.reviews.proofs.Filling.{meeting-members, has-meets}
 use Rattle.reviews.proofs.Settling.{told-review}
+use Rattle.reviews.proofs.Walking.{table-fits}
 use Rattle.reviews.proofs.assigned_users.Statement.{statement}
 use Rattle.reviews.proofs.assigned_users.Tie as tie
 
@@ -27,10 +27,10 @@ pub assigned-users-spec : {M : Type 1} → statement M
 assigned-users-spec =
     tie.close
     (tie.spec
-    (λ c κs. search needs)
-    (λ c κs. search needs)
-    (λ c κs. search needs)
-    (λ c κs. search needs)
-    (λ c κs. search needs)
-    (λ c. search needs)
+    (λ c κs. tt)
+    (λ c κs. tt)
+    (λ c κs. tt)
+    (λ c κs. tt)
+    (λ c κs. table-fits (c .before .assigned .ensures) refl)
+    (λ c. c .before .before .review .kept .1 .1 .1 .1 .1 .0)
     returns)

@@ -1,5 +1,4 @@
 -- The roles that one walk from the user's roles reaches. Assumes nothing.
-use borrow.Author.Needs.{needs}
 use mathlib.Core.Bool.{not}
 use mathlib.Core.Path.{sym, ap}
 use Rattle.roleset.specs.Bounded.{members}
@@ -18,10 +17,10 @@ pub auth-roles-spec : {M : Type 1} → statement M
 auth-roles-spec =
     tie.close
     (tie.spec
-    (λ c κs. search needs)
-    (λ c κs. search needs)
-    (λ c κs. search needs)
-    (λ c κs. search needs)
-    (λ c κs. search needs)
-    (λ c. search needs)
+    (λ c κs. tt)
+    (λ c κs. tt)
+    (λ c κs. tt)
+    (λ c κs. tt)
+    (λ c κs. tt)
+    (λ c. c .before .before .review-roles .kept .1 .1 .1 .1 .0)
     returns)

@@ -1,7 +1,6 @@
 -- The users whose set meets the roles at or above the role, found by one walk. Assumes nothing.
-use borrow.Author.Needs.{needs}
 use mathlib.Core.Bool.{not}
-use mathlib.Core.Path.{_≡_, sym, ap, ap₂, _∙_}
+use mathlib.Core.Path.{_≡_, refl, sym, ap, ap₂, _∙_}
 use Prim.Native.Nat.{ℕ}
 use Rattle.hierarchy.specs.Walks.{atOrAbove}
 use Rattle.hierarchy.specs.declared.Walk.{Walk}
@@ -10,6 +9,7 @@ use Rattle.state.specs.View.{view}
 use Rattle.reviews.specs.Reviewing.{meets}
 use Rattle.reviews.proofs.Filling.{meeting-members, meets-turned}
 use Rattle.reviews.proofs.Settling.{told-review}
+use Rattle.reviews.proofs.Walking.{table-fits}
 use Rattle.reviews.proofs.auth_users.Statement.{statement}
 use Rattle.reviews.proofs.auth_users.Tie as tie
 
@@ -28,11 +28,11 @@ pub auth-users-spec : {M : Type 1} → statement M
 auth-users-spec =
     tie.close
     (tie.spec
-    (λ c κs. search needs)
-    (λ c κs. search needs)
-    (λ c κs. search needs)
-    (λ c κs. search needs)
-    (λ c κs. search needs)
-    (λ c κs. search needs)
-    (λ c. search needs)
+    (λ c κs. tt)
+    (λ c κs. tt)
+    (λ c κs. tt)
+    (λ c κs. tt)
+    (λ c κs. tt)
+    (λ c κs. table-fits (c .before .assigned .ensures) refl)
+    (λ c. c .before .before .review .kept .1 .1 .1 .1 .1 .0)
     returns)

@@ -1,10 +1,9 @@
 -- The permissions of the roles that one walk from the active roles reaches. Assumes nothing.
-use borrow.Author.Needs.{needs}
 use mathlib.Core.Bool.{not}
-use mathlib.Core.Path.{sym, ap}
+use mathlib.Core.Path.{refl, sym, ap}
 use Rattle.model.specs.Model.{Session}
 use Rattle.model.specs.Questions.{ask, sessionPerms}
-use Rattle.reviews.proofs.Walking.{walked, told-perms}
+use Rattle.reviews.proofs.Walking.{table-fits, walked, told-perms}
 use Rattle.reviews.proofs.session_perms.Statement.{statement}
 use Rattle.reviews.proofs.session_perms.Tie as tie
 
@@ -18,10 +17,10 @@ pub session-perms-spec : {M : Type 1} → statement M
 session-perms-spec =
     tie.close
     (tie.spec
-    (λ c κs. search needs)
-    (λ c κs. search needs)
-    (λ c κs. search needs)
-    (λ c κs. search needs)
-    (λ c κs. search needs)
-    (λ c. search needs)
+    (λ c κs. tt)
+    (λ c κs. tt)
+    (λ c κs. tt)
+    (λ c κs. tt)
+    (λ c κs. table-fits (c .before .holders .ensures) refl)
+    (λ c. c .before .before .review .kept .1 .1 .1 .1 .1 .0)
     returns)

@@ -1,5 +1,4 @@
 -- The active roles of the session. Assumes nothing.
-use borrow.Author.Needs.{needs}
 use mathlib.Core.Bool.{not}
 use mathlib.Core.Path.{refl, sym, ap}
 use Rattle.roleset.specs.Bounded.{members}
@@ -20,8 +19,8 @@ pub session-roles-spec : {M : Type 1} → statement M
 session-roles-spec =
     tie.close
     (tie.spec
-    (λ c κs. search needs)
-    (λ c κs. search needs)
-    (λ c κs. search needs)
-    (λ c. search needs)
+    (λ c κs. tt)
+    (λ c κs. tt)
+    (λ c κs. tt)
+    (λ c. c .before .before .review-roles .kept .1 .1 .1 .1 .0)
     returns)

@@ -20,9 +20,9 @@ pub set-count-spec : {M : Type 1} → statement M
 set-count-spec =
     tie.close
     (tie.spec
-    (λ c κs. search needs)
-    (λ c κs. search needs)
+    (λ c κs. tt)
+    (λ c κs. tt)
     (λ c. search needs)
-    (λ c κs. search needs)
-    (λ c. search needs)
+    (λ c κs. tt)
+    (λ c. c .before .before .review-one .kept .1 .1 .1 .1 .0)
     returns)

@@ -26,8 +26,8 @@ pub set-names-spec : {M : Type 1} → statement M
 set-names-spec =
     tie.close
     (tie.spec
-    (λ c κs. search needs)
+    (λ c κs. tt)
     (λ c. search needs)
     (λ c κs. search needs)
-    (λ c. search needs)
+    (λ c. c .before .before .review .kept .1 .1 .1 .1 .1 .0)
     returns)

@@ -1,5 +1,4 @@
 -- The operations on the object of the roles that one walk from the user's roles reaches. Assumes nothing.
-use borrow.Author.Needs.{needs}
 use mathlib.Core.Bool.{Bool, not, _||_}
 use mathlib.Core.Path.{sym, ap, _∙_}
 use lib.Dec.{leb}
@@ -22,11 +21,11 @@ pub user-ops-spec : {M : Type 1} → statement M
 user-ops-spec =
     tie.close
     (tie.spec
-    (λ c κs. search needs)
-    (λ c κs. search needs)
-    (λ c κs. search needs)
-    (λ c κs. search needs)
-    (λ c κs. search needs)
-    (λ c κs. search needs)
-    (λ c. search needs)
+    (λ c κs. tt)
+    (λ c κs. tt)
+    (λ c κs. tt)
+    (λ c κs. tt)
+    (λ c κs. tt)
+    (λ c κs. tt)
+    (λ c. c .before .before .review-ops .kept .1 .1 .1 .1 .1 .1 .0)
     returns)

@@ -1,9 +1,8 @@
 -- The permissions of the roles that one walk from the user's roles reaches. Assumes nothing.
-use borrow.Author.Needs.{needs}
 use mathlib.Core.Bool.{not}
-use mathlib.Core.Path.{sym, ap}
+use mathlib.Core.Path.{refl, sym, ap}
 use Rattle.model.specs.Questions.{ask, userPerms}
-use Rattle.reviews.proofs.Walking.{walked, told-perms}
+use Rattle.reviews.proofs.Walking.{table-fits, walked, told-perms}
 use Rattle.reviews.proofs.user_perms.Statement.{statement}
 use Rattle.reviews.proofs.user_perms.Tie as tie
 
@@ -16,11 +15,11 @@ pub user-perms-spec : {M : Type 1} → statement M
 user-perms-spec =
     tie.close
     (tie.spec
-    (λ c κs. search needs)
-    (λ c κs. search needs)
-    (λ c κs. search needs)
-    (λ c κs. search needs)
-    (λ c κs. search needs)
-    (λ c κs. search needs)
-    (λ c. search needs)
+    (λ c κs. tt)
+    (λ c κs. tt)
+    (λ c κs. tt)
+    (λ c κs. tt)
+    (λ c κs. tt)
+    (λ c κs. table-fits (c .before .holders .ensures) refl)
+    (λ c. c .before .before .review .kept .1 .1 .1 .1 .1 .0)
     returns)
