@@ -1,7 +1,7 @@
 -- The questions: who is in each list, and how each is refused. "Reviews give ascending lists with no repeats." Assumes nothing.
 use mathlib.Core.Bool.{Bool, false, not, _||_}
 use mathlib.Core.List.{List, [], _∷_}
-use Prim.Native.Nat.{ℕ}
+use Prim.Native.Nat.{ℕ, _%_}
 use lib.Dec.{leb, ltb}
 use lib.ListN.{length}
 use Rattle.roleset.specs.Bounded.{members}
@@ -67,9 +67,10 @@ setNames kind m = members 16 (λ n. setsOf kind m n .there)
 unfoldable pub setRoles : Kind → Model → ℕ → List ℕ
 setRoles kind m name = members 64 (has (setsOf kind m name .roles))
 
--- "`ssd-count name` (the cardinality)"
+-- "`ssd-count name` (the cardinality)". Results are sixteen-bit numbers, and so is a cardinality of the engine's own, which is 64 at most: there this is
+-- the cardinality itself (`set-count-cardinality` in reviews/proofs/Listed)
 unfoldable pub setCount : Kind → Model → ℕ → List ℕ
-setCount kind m name = setsOf kind m name .card ∷ []
+setCount kind m name = (setsOf kind m name .card % 65536) ∷ []
 
 -- ---- each question, with its refusals: 1, 2, 13, 15
 

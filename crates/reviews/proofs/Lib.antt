@@ -5,6 +5,5 @@ pub mod Promised
 mod Writing
 mod Settling
 mod Filling
-mod OfKind
 mod Walking
 mod Fitting

@@ -1,21 +1,25 @@
 -- Who is in the list of each review, exactly, and that every list is strictly ascending. Assumes nothing.
 use mathlib.Core.Bool.{Bool, true, false, _&&_}
 use mathlib.Core.List.{List, [], _∷_}
-use mathlib.Core.Path.{_≡_, refl}
-use Prim.Native.Nat.{ℕ}
+use mathlib.Core.Path.{_≡_, refl, ap}
+use Prim.Native.Nat.{ℕ, _<_}
+use native.Mathlib.Nat.{mod-eq-of-lt}
 use native.Mathlib.Omega.{arith}
 use lib.Dec.{eqb, leb, ltb}
 use borrow.Author.Tests.{le-leb}
 use Rattle.roleset.specs.Roles.{has, with, none}
 use Rattle.roleset.proofs.BoundedLaws.{and-both}
-use Rattle.model.specs.Model.{Model}
+use Rattle.roleset.proofs.Laws.{count-le}
+use Rattle.model.specs.Model.{Model, RoleSet}
 use Rattle.model.specs.Sheet.{Refusal, verdict, settle}
 use Rattle.model.specs.Lists.{rising, ascending, listed}
+use Rattle.model.specs.Sound.{Shape, SetShape}
 use Rattle.model.specs.Words.{reached, authorised, effective, permission}
 use Rattle.model.specs.Questions.{holds, authorisedBy, assignedUsers, assignedRoles, authUsers, authRoles, rolePerms, userPerms, sessionRoles, sessionPerms, roleOps, userOps, setNames, setRoles, setCount, ask}
 use Rattle.model.specs.commands.Sets.{setsOf}
 use Rattle.model.specs.commands.Sessions.{check}
 use Rattle.model.specs.declared.Kind.{Kind}
+use Rattle.model.specs.declared.Kind.the-variants.{Static, Dynamic}
 use Rattle.model.specs.declared.Question.{Question}
 use Rattle.model.specs.declared.Question.the-variants.{Check, AssignedUsers, AssignedRoles, AuthUsers, AuthRoles, RolePerms, UserPerms, SessionRoles, SessionPerms, RoleOps, UserOps, Sets, SetRoles, SetCount}
 use Rattle.reviews.proofs.ListLaws.{members-listed, members-ascending}
@@ -69,6 +73,25 @@ set-names-listed kind m n = members-listed 16 (λ k. setsOf kind m k .there) n
 pub set-roles-listed : (kind : Kind) (m : Model) (name r : ℕ) → listed (setRoles kind m name) r ≡ (ltb r 64 && has (setsOf kind m name .roles) r)
 unfolding setRoles
 set-roles-listed kind m name r = members-listed 64 (has (setsOf kind m name .roles)) r
+
+-- ---- "`ssd-count name` (the cardinality)"
+
+-- the one result is the cardinality itself where that is a sixteen-bit number
+pub set-count-listed : (kind : Kind) (m : Model) (name : ℕ) → setsOf kind m name .card < 65536 → setCount kind m name ≡ setsOf kind m name .card ∷ []
+unfolding setCount
+set-count-listed kind m name h = ap (λ (n : ℕ). n ∷ []) (mod-eq-of-lt h)
+
+-- and in a sound policy it is: at most 64
+pub set-count-cardinality : (kind : Kind) (m : Model) → Shape m → (name : ℕ) → setCount kind m name ≡ setsOf kind m name .card ∷ []
+set-count-cardinality kind m shape name = set-count-listed kind m name (small (setsOf kind m name) (shape-of kind) (setsOf kind m name .there) refl)
+  where
+    shape-of : (kind : Kind) → SetShape m name (setsOf kind m name)
+    shape-of Static = shape .ssd name
+    shape-of Dynamic = shape .dsd name
+
+    small : (set : RoleSet) → SetShape m name set → (b : Bool) → set .there ≡ b → set .card < 65536
+    small set x true e = omega (arith, x .atMost e, count-le (set .roles))
+    small set x false e = rw (x .absent e) (omega arith)
 
 -- ---- "Reviews give ascending lists with no repeats"
 

@@ -1,34 +1,36 @@
 -- A review by one walk: the walk of the code is that of the model, and so is what the roles it reaches give. Assumes nothing.
-use mathlib.Core.Bool.{Bool}
+use mathlib.Core.Bool.{Bool, true}
 use mathlib.Core.List.{List}
-use mathlib.Core.Path.{_≡_, sym, ap, _∙_}
-use Prim.Native.Nat.{ℕ}
+use mathlib.Core.Path.{_≡_, sym, ap, ap₂, _∙_}
+use Prim.Native.Nat.{ℕ, _≤_}
+use native.Mathlib.Omega.{arith}
+use lib.Dec.{leb}
 use lib.ListN.{length}
+use borrow.Author.Tests.{leb-true}
 use Rattle.roleset.specs.Bounded.{members}
-use Rattle.hierarchy.specs.Lines.{tableOf}
 use Rattle.hierarchy.specs.Walks.{reach}
 use Rattle.hierarchy.specs.declared.Walk.{Walk}
-use Rattle.model.specs.Words.{reached}
+use Rattle.model.specs.Model.{Model}
 use Rattle.model.specs.Questions.{review, holds}
-use Rattle.policy.specs.Sized.{Sized}
-use Rattle.policy.specs.View.{view}
-use Rattle.policy.specs.declared.State.{State}
+use Rattle.state.specs.Stores.{Table}
 use Rattle.reviews.specs.declared.Review.{Review}
 use Rattle.reviews.specs.Reviewing.{Reviewed, Lists, meets, meeting}
 use Rattle.reviews.proofs.Filling.{meeting-members}
 use Rattle.reviews.proofs.Settling.{told-review}
 
--- the walk from a set of roles that the code has found
-pub walked : (s : State) {from held : ℕ} {w : Walk} → held ≡ from → w ≡ reach (tableOf (s .juniors)) held → reached (view s) from ≡ w
-unfolding view
-walked s e f = ap (reach (tableOf (s .juniors))) (sym e) ∙ sym f
+-- a table of the state is no longer than a review lists
+pub table-fits : {n : ℕ} {f : ℕ → ℕ} {table : List ℕ} → Table n f table → leb n 4096 ≡ true → length table ≤ 4096
+table-fits {n} t h = omega (arith, t .long, leb-true n 4096 h)
 
-module _ (s : State) {b b′ mi mi′ : Bool} {v w : Walk} {before after : List ℕ} {x : Review} (e : b ≡ b′) (f : mi ≡ mi′) (g : v ≡ w) where
+-- the walk from a set of roles that the code has found
+pub walked : (juniors : ℕ → ℕ) {from held : ℕ} {w : Walk} → held ≡ from → w ≡ reach juniors held → reach juniors from ≡ w
+walked juniors e f = ap (reach juniors) (sym e) ∙ sym f
+
+module _ (m : Model) {b b′ mi mi′ : Bool} {v w : Walk} {before after : List ℕ} {x : Review} (e : b ≡ b′) (f : mi ≡ mi′) (g : v ≡ w) where
   -- a list by the roles that are reached
-  pub told-walk : (list : ℕ → List ℕ) → Lists b′ mi′ (w .cut) (list (w .roles)) before after x → Reviewed (review (view s) (length before) b mi (v .cut) (list (v .roles))) before after x
-  told-walk list = told-review (view s) e f (ap (λ (w : Walk). w .cut) g) (λ h. ap (λ (w : Walk). list (w .roles)) g)
+  pub told-walk : (list : ℕ → List ℕ) → Lists b′ mi′ (w .cut) (list (w .roles)) before after x → Reviewed (review m (length before) b mi (v .cut) (list (v .roles))) before after x
+  told-walk list = told-review m e f (ap (λ (w : Walk). w .cut) g) (λ h. ap (λ (w : Walk). list (w .roles)) g)
 
   -- the permissions that these hold
-  pub told-perms : Sized s → Lists b′ mi′ (w .cut) (meeting (w .roles) (s .holders)) before after x → Reviewed (review (view s) (length before) b mi (v .cut) (members 4096 (holds (view s) (v .roles)))) before after x
-  unfolding view
-  told-perms long = told-review (view s) e f (ap (λ (w : Walk). w .cut) g) (λ h. meeting-members (w .roles) (s .holders) 4096 _ (long .holders) (λ k l. ap (λ (w : Walk). meets (w .roles) (tableOf (s .holders) k)) g))
+  pub told-perms : {table : List ℕ} → Table 4096 (m .holders) table → Lists b′ mi′ (w .cut) (meeting (w .roles) table) before after x → Reviewed (review m (length before) b mi (v .cut) (members 4096 (holds m (v .roles)))) before after x
+  told-perms {table} t = told-review m e f (ap (λ (w : Walk). w .cut) g) (λ h. meeting-members (w .roles) table 4096 _ (t .long) (λ k l. ap₂ (λ (w : Walk) (h : ℕ → ℕ). meets (w .roles) (h k)) g (sym (t .each))))

@@ -9,11 +9,9 @@ use Rattle.roleset.specs.Bounded.{members}
 use Rattle.roleset.specs.Roles.{both, isEmpty}
 use Rattle.hierarchy.specs.Lines.{tableOf}
 use Rattle.numbers.specs.Answers.{numberOf}
-use Rattle.model.specs.Model.{Model, RoleSet}
+use Rattle.model.specs.Model.{Model}
 use Rattle.model.specs.Sheet.{Told, Refusal, _when_, refused}
 use Rattle.model.specs.Questions.{review, ask}
-use Rattle.model.specs.declared.Kind.{Kind}
-use Rattle.model.specs.declared.Kind.the-variants.{Static, Dynamic}
 use Rattle.model.specs.declared.Question.{Question}
 use Rattle.reviews.specs.declared.Review.{Review}
 
@@ -58,8 +56,3 @@ touched roles table k = meets roles (tableOf table k)
 -- the places of a table that have one of the roles, in ascending order
 unfoldable pub meeting : ℕ → List ℕ → List ℕ
 meeting roles table = members (length table) (touched roles table)
-
--- of the static sets and the dynamic sets, those of the kind
-abbrev pub ofKind : Kind → List RoleSet → List RoleSet → List RoleSet
-ofKind Static ssd dsd = ssd
-ofKind Dynamic ssd dsd = dsd

@@ -1,7 +1,7 @@
 // The reviews: the questions whose answer is a list. Each finds the set of roles that it is about, by one walk at most, and lists by one shared pass.
 // The results stand at the front of the lent buffer. Its places past them are untouched, and so is all of it on a refusal; 1, 2, 13, 15.
 ghost use Rattle.model.specs.declared.Question.the-variants.{Check, AssignedUsers, AssignedRoles, AuthUsers, AuthRoles, RolePerms, UserPerms, SessionRoles, SessionPerms, RoleOps, UserOps, Sets, SetRoles, SetCount};
-ghost use Rattle.policy.specs.View.{view};
+ghost use Rattle.state.specs.View.{view};
 ghost use Rattle.reviews.specs.Reviewing.{Asked, AskedAny};
 use model::Kind;
 use model::Question;
@@ -10,11 +10,19 @@ use numbers::Role;
 use numbers::Session;
 use numbers::SetName;
 use numbers::User;
-use policy::State;
-use policy::naming::either;
-use policy::naming::has_user;
-use policy::naming::permission_beyond;
-use policy::naming::session_at;
+use state::PLACES;
+use state::naming::either;
+use state::naming::permission_beyond;
+use state::parts::assigned;
+use state::parts::holders;
+use state::parts::juniors_table;
+use state::reads::assigned_to;
+use state::reads::has_role;
+use state::reads::has_user;
+use state::reads::holders_of;
+use state::reads::session_at;
+use state::reads::set_named;
+use walking::reach;
 
 mod listing;
 
@@ -25,29 +33,28 @@ pub struct Review {
 }
 
 // The users that the role is assigned to.
-pub fn assigned_users(s: State, r: Role, out: &mut [u16]) -> Review
-    ensures { λ x. ⌜ Asked (view s) (AssignedUsers r) (now (out .entry)) (now (out .exit)) x ⌝ }
+pub fn assigned_users(state: &[u64; PLACES], r: Role, out: &mut [u16]) -> Review
+    ensures { λ x. ⌜ Asked (view (now (state .entry))) (AssignedUsers r) (now (out .entry)) (now (out .exit)) x ⌝ }
 {
     let role = roleset::with(0, r.number);
     listing::review(
         numbers::role_beyond(r),
-        !roleset::has(s.roles, r.number),
+        !has_role(state, r),
         false,
-        &s.assigned,
+        assigned(state),
         role,
         out,
     )
 }
 
 // The roles that are assigned to the user.
-pub fn assigned_roles(s: State, u: User, out: &mut [u16]) -> Review
-    ensures { λ x. ⌜ Asked (view s) (AssignedRoles u) (now (out .entry)) (now (out .exit)) x ⌝ }
+pub fn assigned_roles(state: &[u64; PLACES], u: User, out: &mut [u16]) -> Review
+    ensures { λ x. ⌜ Asked (view (now (state .entry))) (AssignedRoles u) (now (out .entry)) (now (out .exit)) x ⌝ }
 {
-    let users = s.users;
-    let held = listing::set_at(&s.assigned, u.number as usize);
+    let held = assigned_to(state, u);
     listing::review_roles(
         numbers::user_beyond(u),
-        !has_user(users, u),
+        !has_user(state, u),
         false,
         held,
         out,
@@ -55,31 +62,31 @@ pub fn assigned_roles(s: State, u: User, out: &mut [u16]) -> Review
 }
 
 // The users that are authorised for the role: assigned to it or to one that inherits it.
-pub fn auth_users(s: State, r: Role, out: &mut [u16]) -> Review
-    ensures { λ x. ⌜ Asked (view s) (AuthUsers r) (now (out .entry)) (now (out .exit)) x ⌝ }
+pub fn auth_users(state: &[u64; PLACES], r: Role, out: &mut [u16]) -> Review
+    ensures { λ x. ⌜ Asked (view (now (state .entry))) (AuthUsers r) (now (out .entry)) (now (out .exit)) x ⌝ }
 {
-    let above = hierarchy::at_or_above(&s.juniors, r.number);
+    let juniors = juniors_table(state);
+    let above = hierarchy::at_or_above(&juniors, r.number);
     listing::review(
         numbers::role_beyond(r),
-        !roleset::has(s.roles, r.number),
+        !has_role(state, r),
         above.cut,
-        &s.assigned,
+        assigned(state),
         above.roles,
         out,
     )
 }
 
 // The roles that the user is authorised for.
-pub fn auth_roles(s: State, u: User, out: &mut [u16]) -> Review
-    ensures { λ x. ⌜ Asked (view s) (AuthRoles u) (now (out .entry)) (now (out .exit)) x ⌝ }
+pub fn auth_roles(state: &[u64; PLACES], u: User, out: &mut [u16]) -> Review
+    ensures { λ x. ⌜ Asked (view (now (state .entry))) (AuthRoles u) (now (out .entry)) (now (out .exit)) x ⌝ }
 {
-    let users = s.users;
-    let held = listing::set_at(&s.assigned, u.number as usize);
-    let walk = hierarchy::reach(&s.juniors, held);
+    let held = assigned_to(state, u);
+    let walk = reach(state, held);
     let authorised = walk.roles;
     listing::review_roles(
         numbers::user_beyond(u),
-        !has_user(users, u),
+        !has_user(state, u),
         walk.cut,
         authorised,
         out,
@@ -87,43 +94,41 @@ pub fn auth_roles(s: State, u: User, out: &mut [u16]) -> Review
 }
 
 // The permissions of the role, with inherited ones.
-pub fn role_perms(s: State, r: Role, out: &mut [u16]) -> Review
-    ensures { λ x. ⌜ Asked (view s) (RolePerms r) (now (out .entry)) (now (out .exit)) x ⌝ }
+pub fn role_perms(state: &[u64; PLACES], r: Role, out: &mut [u16]) -> Review
+    ensures { λ x. ⌜ Asked (view (now (state .entry))) (RolePerms r) (now (out .entry)) (now (out .exit)) x ⌝ }
 {
-    let walk = hierarchy::reach(&s.juniors, roleset::with(0, r.number));
+    let walk = reach(state, roleset::with(0, r.number));
     listing::review(
         numbers::role_beyond(r),
-        !roleset::has(s.roles, r.number),
+        !has_role(state, r),
         walk.cut,
-        &s.holders,
+        holders(state),
         walk.roles,
         out,
     )
 }
 
 // The permissions of the user, with inherited ones.
-pub fn user_perms(s: State, u: User, out: &mut [u16]) -> Review
-    ensures { λ x. ⌜ Asked (view s) (UserPerms u) (now (out .entry)) (now (out .exit)) x ⌝ }
+pub fn user_perms(state: &[u64; PLACES], u: User, out: &mut [u16]) -> Review
+    ensures { λ x. ⌜ Asked (view (now (state .entry))) (UserPerms u) (now (out .entry)) (now (out .exit)) x ⌝ }
 {
-    let users = s.users;
-    let held = listing::set_at(&s.assigned, u.number as usize);
-    let walk = hierarchy::reach(&s.juniors, held);
+    let held = assigned_to(state, u);
+    let walk = reach(state, held);
     listing::review(
         numbers::user_beyond(u),
-        !has_user(users, u),
+        !has_user(state, u),
         walk.cut,
-        &s.holders,
+        holders(state),
         walk.roles,
         out,
     )
 }
 
 // The active roles of the session.
-pub fn session_roles(s: State, x: Session, out: &mut [u16]) -> Review
-    ensures { λ a. ⌜ Asked (view s) (SessionRoles x) (now (out .entry)) (now (out .exit)) a ⌝ }
+pub fn session_roles(state: &[u64; PLACES], x: Session, out: &mut [u16]) -> Review
+    ensures { λ a. ⌜ Asked (view (now (state .entry))) (SessionRoles x) (now (out .entry)) (now (out .exit)) a ⌝ }
 {
-    let sessions = s.sessions;
-    let session = session_at(sessions, x);
+    let session = session_at(state, x);
     listing::review_roles(
         numbers::session_beyond(x),
         !session.live,
@@ -134,32 +139,31 @@ pub fn session_roles(s: State, x: Session, out: &mut [u16]) -> Review
 }
 
 // The permissions of the session's effective roles.
-pub fn session_perms(s: State, x: Session, out: &mut [u16]) -> Review
-    ensures { λ a. ⌜ Asked (view s) (SessionPerms x) (now (out .entry)) (now (out .exit)) a ⌝ }
+pub fn session_perms(state: &[u64; PLACES], x: Session, out: &mut [u16]) -> Review
+    ensures { λ a. ⌜ Asked (view (now (state .entry))) (SessionPerms x) (now (out .entry)) (now (out .exit)) a ⌝ }
 {
-    let sessions = s.sessions;
-    let session = session_at(sessions, x);
-    let walk = hierarchy::reach(&s.juniors, session.active);
+    let session = session_at(state, x);
+    let walk = reach(state, session.active);
     listing::review(
         numbers::session_beyond(x),
         !session.live,
         walk.cut,
-        &s.holders,
+        holders(state),
         walk.roles,
         out,
     )
 }
 
 // The operations that the role may do on the object, by itself or by what it inherits.
-pub fn role_ops(s: State, r: Role, obj: u16, out: &mut [u16]) -> Review
-    ensures { λ x. ⌜ Asked (view s) (RoleOps r obj) (now (out .entry)) (now (out .exit)) x ⌝ }
+pub fn role_ops(state: &[u64; PLACES], r: Role, obj: u16, out: &mut [u16]) -> Review
+    ensures { λ x. ⌜ Asked (view (now (state .entry))) (RoleOps r obj) (now (out .entry)) (now (out .exit)) x ⌝ }
 {
-    let walk = hierarchy::reach(&s.juniors, roleset::with(0, r.number));
+    let walk = reach(state, roleset::with(0, r.number));
     listing::review_ops(
         either(numbers::role_beyond(r), 256 <= obj),
-        !roleset::has(s.roles, r.number),
+        !has_role(state, r),
         walk.cut,
-        &s.holders,
+        state,
         obj,
         walk.roles,
         out,
@@ -167,17 +171,16 @@ pub fn role_ops(s: State, r: Role, obj: u16, out: &mut [u16]) -> Review
 }
 
 // The operations that the user may do on the object.
-pub fn user_ops(s: State, u: User, obj: u16, out: &mut [u16]) -> Review
-    ensures { λ x. ⌜ Asked (view s) (UserOps u obj) (now (out .entry)) (now (out .exit)) x ⌝ }
+pub fn user_ops(state: &[u64; PLACES], u: User, obj: u16, out: &mut [u16]) -> Review
+    ensures { λ x. ⌜ Asked (view (now (state .entry))) (UserOps u obj) (now (out .entry)) (now (out .exit)) x ⌝ }
 {
-    let users = s.users;
-    let held = listing::set_at(&s.assigned, u.number as usize);
-    let walk = hierarchy::reach(&s.juniors, held);
+    let held = assigned_to(state, u);
+    let walk = reach(state, held);
     listing::review_ops(
         either(numbers::user_beyond(u), 256 <= obj),
-        !has_user(users, u),
+        !has_user(state, u),
         walk.cut,
-        &s.holders,
+        state,
         obj,
         walk.roles,
         out,
@@ -185,44 +188,42 @@ pub fn user_ops(s: State, u: User, obj: u16, out: &mut [u16]) -> Review
 }
 
 // The names of the sets of this kind that are there.
-pub fn set_names(s: State, kind: Kind, out: &mut [u16]) -> Review
-    ensures { λ x. ⌜ Asked (view s) (Sets kind) (now (out .entry)) (now (out .exit)) x ⌝ }
+pub fn set_names(state: &[u64; PLACES], kind: Kind, out: &mut [u16]) -> Review
+    ensures { λ x. ⌜ Asked (view (now (state .entry))) (Sets kind) (now (out .entry)) (now (out .exit)) x ⌝ }
 {
-    let ssd = s.ssd;
-    let dsd = s.dsd;
-    let sets = listing::sets_of(ssd, dsd, kind);
-    let table = listing::there(sets);
+    let table = listing::there(state, kind);
     listing::review(false, false, false, &table, 1, out)
 }
 
 // The roles of the set.
-pub fn set_roles(s: State, kind: Kind, name: SetName, out: &mut [u16]) -> Review
-    ensures { λ x. ⌜ Asked (view s) (SetRoles kind name) (now (out .entry)) (now (out .exit)) x ⌝ }
+pub fn set_roles(state: &[u64; PLACES], kind: Kind, name: SetName, out: &mut [u16]) -> Review
+    ensures { λ x. ⌜ Asked (view (now (state .entry))) (SetRoles kind name) (now (out .entry)) (now (out .exit)) x ⌝ }
 {
-    let ssd = s.ssd;
-    let dsd = s.dsd;
-    let set = listing::set_named(ssd, dsd, kind, name);
+    let set = set_named(state, kind, name);
     listing::review_roles(numbers::set_beyond(name), !set.there, false, set.roles, out)
 }
 
-// The cardinality of the set.
-pub fn set_count(s: State, kind: Kind, name: SetName, out: &mut [u16]) -> Review
-    ensures { λ x. ⌜ Asked (view s) (SetCount kind name) (now (out .entry)) (now (out .exit)) x ⌝ }
+// The cardinality of the set, in sixteen bits.
+pub fn set_count(state: &[u64; PLACES], kind: Kind, name: SetName, out: &mut [u16]) -> Review
+    ensures { λ x. ⌜ Asked (view (now (state .entry))) (SetCount kind name) (now (out .entry)) (now (out .exit)) x ⌝ }
 {
-    let ssd = s.ssd;
-    let dsd = s.dsd;
-    let set = listing::set_named(ssd, dsd, kind, name);
-    listing::review_one(numbers::set_beyond(name), !set.there, false, set.card, out)
+    let set = set_named(state, kind, name);
+    listing::review_one(
+        numbers::set_beyond(name),
+        !set.there,
+        false,
+        (set.card % 65536) as u16,
+        out,
+    )
 }
 
 // May the session do the operation on the object? The one result is 1 for yes or 0 for no.
-fn check(s: State, x: Session, op: u16, obj: u16, out: &mut [u16]) -> Review
-    ensures { λ a. ⌜ AskedAny (view s) (Check x op obj) (now (out .entry)) (now (out .exit)) a ⌝ }
+fn check(state: &[u64; PLACES], x: Session, op: u16, obj: u16, out: &mut [u16]) -> Review
+    ensures { λ a. ⌜ AskedAny (view (now (state .entry))) (Check x op obj) (now (out .entry)) (now (out .exit)) a ⌝ }
 {
-    let sessions = s.sessions;
-    let session = session_at(sessions, x);
-    let walk = hierarchy::reach(&s.juniors, session.active);
-    let held = listing::set_at(&s.holders, op as usize * 256 + obj as usize);
+    let session = session_at(state, x);
+    let walk = reach(state, session.active);
+    let held = holders_of(state, op as usize * 256 + obj as usize);
     listing::review_one(
         either(numbers::session_beyond(x), permission_beyond(op, obj)),
         !session.live,
@@ -233,23 +234,23 @@ fn check(s: State, x: Session, op: u16, obj: u16, out: &mut [u16]) -> Review
 }
 
 // Any question, with its results in the buffer. The answer of `check` is 15 too where the buffer has no place.
-pub fn ask(s: State, q: Question, out: &mut [u16]) -> Review
-    ensures { λ x. ⌜ AskedAny (view s) q (now (out .entry)) (now (out .exit)) x ⌝ }
+pub fn ask(state: &[u64; PLACES], q: Question, out: &mut [u16]) -> Review
+    ensures { λ x. ⌜ AskedAny (view (now (state .entry))) q (now (out .entry)) (now (out .exit)) x ⌝ }
 {
     match q {
-        Question::Check(x, op, obj) => check(s, x, op, obj, out),
-        Question::AssignedUsers(r) => assigned_users(s, r, out),
-        Question::AssignedRoles(u) => assigned_roles(s, u, out),
-        Question::AuthUsers(r) => auth_users(s, r, out),
-        Question::AuthRoles(u) => auth_roles(s, u, out),
-        Question::RolePerms(r) => role_perms(s, r, out),
-        Question::UserPerms(u) => user_perms(s, u, out),
-        Question::SessionRoles(x) => session_roles(s, x, out),
-        Question::SessionPerms(x) => session_perms(s, x, out),
-        Question::RoleOps(r, obj) => role_ops(s, r, obj, out),
-        Question::UserOps(u, obj) => user_ops(s, u, obj, out),
-        Question::Sets(kind) => set_names(s, kind, out),
-        Question::SetRoles(kind, name) => set_roles(s, kind, name, out),
-        Question::SetCount(kind, name) => set_count(s, kind, name, out),
+        Question::Check(x, op, obj) => check(state, x, op, obj, out),
+        Question::AssignedUsers(r) => assigned_users(state, r, out),
+        Question::AssignedRoles(u) => assigned_roles(state, u, out),
+        Question::AuthUsers(r) => auth_users(state, r, out),
+        Question::AuthRoles(u) => auth_roles(state, u, out),
+        Question::RolePerms(r) => role_perms(state, r, out),
+        Question::UserPerms(u) => user_perms(state, u, out),
+        Question::SessionRoles(x) => session_roles(state, x, out),
+        Question::SessionPerms(x) => session_perms(state, x, out),
+        Question::RoleOps(r, obj) => role_ops(state, r, obj, out),
+        Question::UserOps(u, obj) => user_ops(state, u, obj, out),
+        Question::Sets(kind) => set_names(state, kind, out),
+        Question::SetRoles(kind, name) => set_roles(state, kind, name, out),
+        Question::SetCount(kind, name) => set_count(state, kind, name, out),
     }
 }

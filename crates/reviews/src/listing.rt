@@ -9,13 +9,17 @@ ghost use Rattle.hierarchy.specs.Lines.{tableOf};
 ghost use Rattle.numbers.specs.Answers.{numberOf};
 ghost use Rattle.model.specs.Sheet.{verdict};
 ghost use Rattle.model.specs.Words.{permission};
-ghost use Rattle.separation.specs.Tables.{setsIn};
-ghost use Rattle.reviews.specs.Reviewing.{Lists, refusals, meets, meeting, ofKind};
+ghost use Rattle.model.specs.Questions.{holds};
+ghost use Rattle.model.specs.commands.Sets.{setsOf};
+ghost use Rattle.state.specs.View.{view};
+ghost use Rattle.reviews.specs.Reviewing.{Lists, refusals, meets, meeting};
 use crate::Review;
 use model::Kind;
-use model::RoleSet;
 use numbers::Answer;
 use numbers::SetName;
+use state::PLACES;
+use state::reads::holders_of;
+use state::reads::set_named;
 
 // Is some role in both sets?
 pub(crate) fn meet(roles: u64, set: u64) -> bool
@@ -147,21 +151,14 @@ pub(crate) fn review_roles(
     review(beyond, missing, cut, &table, roles, out)
 }
 
-// The set at a place of a table; no roles past its end.
-pub(crate) fn set_at(table: &[u64], k: usize) -> u64
-    ensures { λ x. ⌜ x ≡ tableOf (now (table .entry)) k ⌝ }
-{
-    if k < table.len() { table[k] } else { 0 }
-}
-
 // For each operation the roles that hold it on the object.
-fn holders_on(holders: &[u64], obj: u16) -> [u64; 16]
-    ensures { λ t. ⌜ ((op : ℕ) → op < 16 → tableOf t op ≡ tableOf (now (holders .entry)) (permission op obj)) ⌝ }
+fn holders_on(state: &[u64; PLACES], obj: u16) -> [u64; 16]
+    ensures { λ t. ⌜ ((op : ℕ) → op < 16 → tableOf t op ≡ view (now (state .entry)) .holders (permission op obj)) ⌝ }
 {
     let mut t = [0u64; 16];
     let mut op: usize = 0;
     while op < 16 {
-        t[op] = set_at(holders, op * 256 + obj as usize);
+        t[op] = holders_of(state, op * 256 + obj as usize);
         op += 1;
     }
     t
@@ -172,58 +169,26 @@ pub(crate) fn review_ops(
     beyond: bool,
     missing: bool,
     cut: bool,
-    holders: &[u64],
+    state: &[u64; PLACES],
     obj: u16,
     roles: u64,
     out: &mut [u16],
 ) -> Review
-    ensures { λ x. ⌜ Lists beyond missing cut (members 16 (λ op. meets roles (tableOf (now (holders .entry)) (permission op obj)))) (now (out .entry)) (now (out .exit)) x ⌝ }
+    ensures { λ x. ⌜ Lists beyond missing cut (members 16 (λ op. holds (view (now (state .entry))) roles (permission op obj))) (now (out .entry)) (now (out .exit)) x ⌝ }
 {
-    let table = holders_on(holders, obj);
+    let table = holders_on(state, obj);
     review(beyond, missing, cut, &table, roles, out)
 }
 
-// The sets of this kind.
-pub(crate) fn sets_of(ssd: [RoleSet; 16], dsd: [RoleSet; 16], kind: Kind) -> [RoleSet; 16]
-    ensures { λ x. ⌜ x ≡ ofKind kind ssd dsd ⌝ }
-{
-    match kind {
-        Kind::Static => ssd,
-        Kind::Dynamic => dsd,
-    }
-}
-
-// The set of this kind by this name. One beyond its range is not there.
-pub(crate) fn set_named(
-    ssd: [RoleSet; 16],
-    dsd: [RoleSet; 16],
-    kind: Kind,
-    name: SetName,
-) -> RoleSet
-    ensures { λ x. ⌜ x ≡ setsIn (ofKind kind ssd dsd) (name .number) ⌝ }
-{
-    let sets = sets_of(ssd, dsd, kind);
-    let at = name.number as usize;
-    if at < 16 {
-        sets[at]
-    } else {
-        RoleSet {
-            there: false,
-            card: 0,
-            roles: 0,
-        }
-    }
-}
-
-// Role 0 in the place of each set that is there, and no role in the other places.
-pub(crate) fn there(sets: [RoleSet; 16]) -> [u64; 16]
-    ensures { λ t. ⌜ ((n : ℕ) → n < 16 → tableOf t n ≡ bit (setsIn sets n .there)) ⌝ }
+// Role 0 in the place of each set of this kind that is there, and no role in the other places.
+pub(crate) fn there(state: &[u64; PLACES], kind: Kind) -> [u64; 16]
+    ensures { λ t. ⌜ ((n : ℕ) → n < 16 → tableOf t n ≡ bit (setsOf kind (view (now (state .entry))) n .there)) ⌝ }
 {
     let mut t = [0u64; 16];
-    let mut n: usize = 0;
+    let mut n: u16 = 0;
     while n < 16 {
-        let set = sets[n];
-        t[n] = set.there as u64;
+        let set = set_named(state, kind, SetName { number: n });
+        t[n as usize] = set.there as u64;
         n += 1;
     }
     t

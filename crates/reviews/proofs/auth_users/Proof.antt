@@ -1,35 +1,38 @@
 -- The users whose set meets the roles at or above the role, found by one walk. Assumes nothing.
-use borrow.Author.Needs.{needs}
 use mathlib.Core.Bool.{not}
-use mathlib.Core.Path.{sym, ap, _∙_}
-use Rattle.hierarchy.specs.Lines.{tableOf}
+use mathlib.Core.Path.{_≡_, refl, sym, ap, ap₂, _∙_}
+use Prim.Native.Nat.{ℕ}
+use Rattle.hierarchy.specs.Walks.{atOrAbove}
 use Rattle.hierarchy.specs.declared.Walk.{Walk}
 use Rattle.model.specs.Questions.{ask, authUsers}
-use Rattle.policy.specs.View.{view}
+use Rattle.state.specs.View.{view}
 use Rattle.reviews.specs.Reviewing.{meets}
 use Rattle.reviews.proofs.Filling.{meeting-members, meets-turned}
 use Rattle.reviews.proofs.Settling.{told-review}
-use Rattle.policy.proofs.Values.{sized}
+use Rattle.reviews.proofs.Walking.{table-fits}
 use Rattle.reviews.proofs.auth_users.Statement.{statement}
 use Rattle.reviews.proofs.auth_users.Tie as tie
 
 returns : tie.Need-returns
-unfolding ask view authUsers
+unfolding ask authUsers
 returns c =
-    let walk = c .before .before .before .before .before .before .before .before .before .at-or-above in
-    let start = c .before .before .before .before .before .before .before .before .before .before .before .before .before in
-    let s = start .args .t1 in
-    told-review _ (sym (c .before .before .before .before .before .before .before .before .role-beyond .ensures)) (ap not (sym (c .before .before .before .before .before .before .before .has .ensures))) (ap (λ (w : Walk). w .cut) (sym (walk .ensures)))
-    (λ e. meeting-members (walk .result .roles) (s .assigned) 256 _ (sized s _ (start .good .0) .assigned) (λ u h. ap (λ (w : Walk). meets (tableOf (s .assigned) u) (w .roles)) (sym (walk .ensures)) ∙ meets-turned (tableOf (s .assigned) u) (walk .result .roles)))
+    let a = c .before .before .before .before .before .before .before .before .before .before .before .args in
+    let walk = c .before .before .before .before .before .before .before .at-or-above in
+    let table = c .before .before .before .before .assigned in
+    let above : atOrAbove (view (a .state .now) .juniors) (a .r .number) ≡ walk .result = ap (λ (t : ℕ → ℕ). atOrAbove t (a .r .number)) (sym (c .before .before .before .before .before .before .before .before .before .juniors-table .ensures .each)) ∙ sym (walk .ensures) in
+    told-review _ (sym (c .before .before .before .before .before .before .role-beyond .ensures)) (ap not (sym (c .before .before .before .before .before .has-role .ensures))) (ap (λ (w : Walk). w .cut) above)
+    (λ e. meeting-members (walk .result .roles) (table .result .now) 256 _ (table .ensures .long) (λ u h. meets-turned (view (a .state .now) .assigned u) _ ∙ ap₂ (λ (w : Walk) (t : ℕ → ℕ). meets (w .roles) (t u)) above (sym (table .ensures .each))))
     (c .before .before .review .ensures)
 
 pub auth-users-spec : {M : Type 1} → statement M
 auth-users-spec =
     tie.close
     (tie.spec
-    (λ c κs. search needs)
-    (λ c κs. search needs)
-    (λ c κs. search needs)
-    (λ c κs. search needs)
-    (λ c. search needs)
+    (λ c κs. tt)
+    (λ c κs. tt)
+    (λ c κs. tt)
+    (λ c κs. tt)
+    (λ c κs. tt)
+    (λ c κs. table-fits (c .before .assigned .ensures) refl)
+    (λ c. c .before .before .review .kept .1 .1 .1 .1 .1 .0)
     returns)

@@ -4,15 +4,11 @@ use mathlib.Core.Bool.{Bool, not, _||_}
 use mathlib.Core.List.{[], _∷_}
 use mathlib.Core.Path.{sym, ap, ap₂, _∙_}
 use Prim.Native.Nat.{ℕ}
-use lib.ListN.{length}
 use Rattle.roleset.specs.Bounded.{bit}
 use Rattle.hierarchy.specs.declared.Walk.{Walk}
 use Rattle.model.specs.Model.{Session}
-use Rattle.model.specs.Words.{reached, permission}
 use Rattle.model.specs.Questions.{ask}
-use Rattle.model.specs.commands.Naming.{noSession, noPermission, sessionMissing}
 use Rattle.model.specs.commands.Sessions.{check, permitted}
-use Rattle.policy.specs.View.{view}
 use Rattle.reviews.specs.Reviewing.{meets}
 use Rattle.reviews.proofs.Settling.{told-review}
 use Rattle.reviews.proofs.Fitting.{fitted-review}
@@ -21,32 +17,29 @@ use Rattle.reviews.proofs.check.Statement.{statement}
 use Rattle.reviews.proofs.check.Tie as tie
 
 returns : tie.Need-returns
-unfolding ask view check permitted
+unfolding ask check permitted
 returns c =
-    let walk = c .before .before .before .before .before .before .before .before .before .before .before .before .before in
-    let found = walk .before .before .before in
-    let a = found .before .before .before .args in
-    let s = a .t1 in
-    let reaches = walked s (ap (λ (x : Session). x .active) (found .session-at .ensures)) (walk .reach .ensures) in
-    rw (fitted-review (view s) (length (a .out .now)) (noSession (a .x .number) || noPermission (a .op) (a .obj)) (sessionMissing (view s) (a .x .number)) (reached (view s) (view s .sessions (a .x .number) .active) .cut) (bit (permitted (view s) (a .x .number) (permission (a .op) (a .obj))) ∷ []))
-    (told-review (view s) (ap₂ (λ (a b : Bool). a || b) (sym (c .before .before .before .before .before .before .before .before .session-beyond .ensures)) (sym (c .before .before .before .before .before .before .before .permission-beyond .ensures)) ∙ sym (c .before .before .before .before .before .before .either .ensures)) (ap (λ (x : Session). not (x .live)) (sym (found .session-at .ensures))) (ap (λ (w : Walk). w .cut) reaches)
-    (λ e. ap (λ (b : Bool). bit b ∷ []) (ap₂ (λ (w : Walk) (h : ℕ). meets (w .roles) h) reaches (sym (c .before .before .before .before .before .before .before .before .before .set-at .ensures)) ∙ sym (c .before .before .before .before .meet .ensures)))
+    let found = c .before .before .before .before .before .before .before .before .before .before .before .session-at .ensures in
+    let reaches = walked _ (ap (λ (x : Session). x .active) found) (c .before .before .before .before .before .before .before .before .before .before .reach .ensures) in
+    rw fitted-review
+    (told-review _ (ap₂ (λ (a b : Bool). a || b) (sym (c .before .before .before .before .before .before .before .before .session-beyond .ensures)) (sym (c .before .before .before .before .before .before .before .permission-beyond .ensures)) ∙ sym (c .before .before .before .before .before .before .either .ensures)) (ap (λ (x : Session). not (x .live)) (sym found)) (ap (λ (w : Walk). w .cut) reaches)
+    (λ e. ap (λ (b : Bool). bit b ∷ []) (ap₂ (λ (w : Walk) (h : ℕ). meets (w .roles) h) reaches (sym (c .before .before .before .before .before .before .before .before .before .holders-of .ensures)) ∙ sym (c .before .before .before .before .meet .ensures)))
     (c .before .before .review-one .ensures))
 
 pub check-spec : {M : Type 1} → statement M
 check-spec =
     tie.close
     (tie.spec
-    (λ c κs. search needs)
-    (λ c κs. search needs)
+    (λ c κs. tt)
+    (λ c κs. tt)
     (λ c. search needs)
     (λ c. search needs)
-    (λ c κs. search needs)
-    (λ c κs. search needs)
-    (λ c κs. search needs)
-    (λ c κs. search needs)
-    (λ c κs. search needs)
+    (λ c κs. tt)
+    (λ c κs. tt)
+    (λ c κs. tt)
+    (λ c κs. tt)
+    (λ c κs. tt)
     (λ c. search needs)
-    (λ c κs. search needs)
-    (λ c. search needs)
+    (λ c κs. tt)
+    (λ c. c .before .before .review-one .kept .1 .1 .1 .1 .0)
     returns)

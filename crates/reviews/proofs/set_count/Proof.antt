@@ -2,23 +2,27 @@
 use borrow.Author.Needs.{needs}
 use mathlib.Core.Bool.{not}
 use mathlib.Core.List.{[], _∷_}
-use mathlib.Core.Path.{refl, sym, ap, _∙_}
+use mathlib.Core.Path.{refl, sym, ap}
+use Prim.Native.Nat.{_%_}
 use Rattle.model.specs.Model.{RoleSet}
 use Rattle.model.specs.Questions.{ask, setCount}
-use Rattle.policy.specs.View.{view}
 use Rattle.reviews.proofs.Settling.{told-review}
-use Rattle.reviews.proofs.OfKind.{kind-named}
 use Rattle.reviews.proofs.set_count.Statement.{statement}
 use Rattle.reviews.proofs.set_count.Tie as tie
 
 returns : tie.Need-returns
-unfolding ask view setCount
+unfolding ask setCount
 returns c =
-    let a = c .before .before .before .before .before .before .before .before .before .before .args in
-    let found = kind-named (a .kind) (a .s) (a .name .number) ∙ sym (c .before .before .before .before .before .before .set-named .ensures) in
-    told-review _ (sym (c .before .before .before .before .before .set-beyond .ensures)) (ap (λ (x : RoleSet). not (x .there)) found) refl (λ e. ap (λ (x : RoleSet). x .card ∷ []) found) (c .before .before .review-one .ensures)
+    let found = sym (c .before .before .before .before .before .before .before .set-named .ensures) in
+    told-review _ (sym (c .before .before .before .before .before .before .set-beyond .ensures)) (ap (λ (x : RoleSet). not (x .there)) found) refl (λ e. ap (λ (x : RoleSet). (x .card % 65536) ∷ []) found) (c .before .before .review-one .ensures)
 
 pub set-count-spec : {M : Type 1} → statement M
 set-count-spec =
     tie.close
-    (tie.spec (λ c κs. search needs) (λ c κs. search needs) (λ c κs. search needs) (λ c. search needs) returns)
+    (tie.spec
+    (λ c κs. tt)
+    (λ c κs. tt)
+    (λ c. search needs)
+    (λ c κs. tt)
+    (λ c. c .before .before .review-one .kept .1 .1 .1 .1 .0)
+    returns)

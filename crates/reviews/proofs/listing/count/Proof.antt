@@ -52,7 +52,7 @@ count-spec =
     loop-holds
     (λ c. search needs)
     (λ c. search needs)
-    (λ c κs. search needs)
+    (λ c κs. tt)
     add-n
     (λ c. search needs)
     (λ c. search needs)

@@ -1,5 +1,4 @@
 -- Counted, refused or written: the answer settles which. Assumes nothing.
-use borrow.Author.Needs.{needs}
 use mathlib.Core.Path.{_≡_, refl, sym, ap, _∙_}
 use Prim.Native.Nat.{ℕ}
 use lib.ListN.{length}
@@ -34,10 +33,10 @@ pub review-spec : {M : Type 1} → statement M
 review-spec =
     tie.close
     (tie.spec
-    (λ c κs. search needs)
-    (λ c κs. search needs)
-    (λ c κs. search needs)
+    (λ c κs. c .before .before .pre)
+    (λ c κs. tt)
+    (λ c κs. tt)
     write-requires
-    (λ c. search needs)
+    (λ c. c .before .before .write .kept .1 .1 .0)
     returns
     returns-2)

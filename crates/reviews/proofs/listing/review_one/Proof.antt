@@ -27,4 +27,4 @@ returns-2 c = lists-refused (c .before .before .before .before .args .beyond) (c
 pub review-one-spec : {M : Type 1} → statement M
 review-one-spec =
     tie.close
-    (tie.spec (λ c κs. search needs) (λ c κs. search needs) slice-write-out (λ c. search needs) returns returns-2)
+    (tie.spec (λ c κs. tt) (λ c κs. tt) slice-write-out (λ c. search needs) returns returns-2)

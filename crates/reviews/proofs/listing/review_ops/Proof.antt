@@ -11,13 +11,19 @@ use Rattle.reviews.proofs.listing.review_ops.Tie as tie
 
 returns : tie.Need-returns
 returns c m =
-    let table = c .before .before .before .before .before .holders-on .result in
-    let whole : length table ≡ 16 = omega arith in
+    let roles = c .before .before .before .before .before .before .before .args .roles in
+    let table = c .before .before .before .before .before .holders-on in
+    let whole : length (table .result) ≡ 16 = omega arith in
     told-review m refl refl refl
-    (λ e. meeting-members (c .before .before .before .before .before .before .before .before .args .roles) table 16 _ whole (λ op h. ap (meets (c .before .before .before .before .before .before .before .before .args .roles)) (sym (c .before .before .before .before .before .holders-on .ensures op h))))
+    (λ e. meeting-members roles (table .result) 16 _ whole (λ op h. ap (meets roles) (sym (table .ensures op h))))
     (c .before .before .review .ensures)
 
 pub review-ops-spec : {M : Type 1} → statement M
 review-ops-spec =
     tie.close
-    (tie.spec (λ c κs. search needs) (λ c. search needs) (λ c κs. search needs) (λ c. search needs) returns)
+    (tie.spec
+    (λ c κs. tt)
+    (λ c. search needs)
+    (λ c κs. search needs)
+    (λ c. c .before .before .review .kept .1 .1 .1 .1 .1 .0)
+    returns)

@@ -22,4 +22,9 @@ returns c m =
 pub review-roles-spec : {M : Type 1} → statement M
 review-roles-spec =
     tie.close
-    (tie.spec (λ c κs. search needs) (λ c. search needs) (λ c κs. search needs) (λ c. search needs) returns)
+    (tie.spec
+    (λ c κs. tt)
+    (λ c. search needs)
+    (λ c κs. search needs)
+    (λ c. c .before .before .review .kept .1 .1 .1 .1 .1 .0)
+    returns)
