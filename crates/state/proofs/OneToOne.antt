@@ -18,14 +18,14 @@ use Rattle.state.specs.View.{Numbers, part, bits, view}
 use Rattle.state.proofs.Slots.{part-at, part-none}
 
 -- a session's owner and whether it is live, or a set's cardinality and whether it is there, give the number that says both
-one-more : (a b : ℕ) → not (eqb a 0) ≡ not (eqb b 0) → a - 1 ≡ b - 1 → a ≡ b
+pub one-more : (a b : ℕ) → not (eqb a 0) ≡ not (eqb b 0) → a - 1 ≡ b - 1 → a ≡ b
 one-more zero zero p q = refl
 one-more zero (suc b) p q = clash (not (eqb (suc b) 0)) (ap not (ne-eqb (suc b) 0 (λ e. omega arith))) (sym p)
 one-more (suc a) zero p q = clash (not (eqb (suc a) 0)) (ap not (ne-eqb (suc a) 0 (λ e. omega arith))) p
 one-more (suc a) (suc b) p q = omega arith
 
 -- words are fixed by their bits
-words-one : (a b : ℕ → ℕ) → ((k : ℕ) → a k < 2 ^ 64) → ((k : ℕ) → b k < 2 ^ 64) → _≡_ {A = ℕ → Bool} (bits a) (bits b) → (k : ℕ) → a k ≡ b k
+pub words-one : (a b : ℕ → ℕ) → ((k : ℕ) → a k < 2 ^ 64) → ((k : ℕ) → b k < 2 ^ 64) → _≡_ {A = ℕ → Bool} (bits a) (bits b) → (k : ℕ) → a k ≡ b k
 words-one a b p q e k = ext (a k) (b k) (p k) (q k) (λ j h. go j (omega arith) (omega arith))
   where
     go : (j : ℕ) → (k * 64 + j) / 64 ≡ k → (k * 64 + j) % 64 ≡ j → has (a k) j ≡ has (b k) j
@@ -39,7 +39,7 @@ piece l r o n i p q e = rw (back) at (sym (part-at l o n (i - o) (omega arith)) 
     back = omega arith
 
 -- what stands in a part is a word
-part-small : (l : List ℕ) → Numbers l → (o n k : ℕ) → part l o n k < 2 ^ 64
+pub part-small : (l : List ℕ) → Numbers l → (o n k : ℕ) → part l o n k < 2 ^ 64
 part-small l w o n k = go (decLt k n)
   where
     go : Dec (k < n) → part l o n k < 2 ^ 64
