@@ -1,6 +1,6 @@
 -- What gathering all entries of a table, in ascending order, makes of an empty one: the table. Assumes nothing.
 use mathlib.Core.Bool.{Bool, true, false, _&&_, _||_}
-use mathlib.Core.List.{List, foldl, foldl-append}
+use mathlib.Core.List.{foldl, foldl-append}
 use mathlib.Core.Logic.{_⊎_, inl, inr}
 use mathlib.Core.Path.{_≡_, refl, sym, ap, ap₂, _∙_, fun-ext}
 use Prim.Native.Nat.{ℕ, zero, suc, _+_, _≤_, _<_, _^_}

@@ -12,7 +12,7 @@ use Rattle.roleset.specs.Roles.{has}
 use Rattle.roleset.proofs.BoundedLaws.{never}
 use Rattle.roleset.proofs.Laws.{ext, has-none, member-small}
 use Rattle.hierarchy.specs.Lines.{tableOf}
-use Rattle.model.specs.Model.{Model, RoleSet, Session, empty, put, standing, withUsers, withRoles, withLines, withAssignments, withGrants, withSsd, withDsd, withSessions}
+use Rattle.model.specs.Model.{Model, Session, empty, put, standing, withUsers, withRoles, withLines, withAssignments, withGrants, withSsd, withDsd}
 use Rattle.model.specs.Sound.{Counted}
 use Rattle.model.specs.Words.{assignments, grants, linesStanding}
 use Rattle.model.specs.declared.Kind.the-variants.{Static, Dynamic}
@@ -25,8 +25,8 @@ use Rattle.policyform.specs.Encode.{roleList, usersPart, linesPart, assignedPar
 use Rattle.policyform.specs.Form.{Formed, FileOf}
 use Rattle.policyform.proofs.Size.{few-lines, few-assigned, few-grants}
 use Rattle.policyread.specs.declared.Pairs.the-variants.{Lines, Assignments}
-use Rattle.policyread.specs.Steps.{readUser, readRoles, readPair, readGrant, readSet, readSession}
-use Rattle.policyread.specs.Gathered.{usersRead, rolesRead, pairsRead, linesRead, assignedRead, grantsRead, ssdRead, dsdRead, sessionsRead, counted, gathered}
+use Rattle.policyread.specs.Steps.{readUser, readRoles, readGrant, readSet, readSession}
+use Rattle.policyread.specs.Gathered.{usersRead, rolesAfter, rolesRead, pairsRead, linesRead, assignedRead, grantsRead, ssdRead, dsdRead, sessionsRead, counted, gathered}
 use Rattle.policyread.proofs.Back.{users-read, roles-read, lines-read, assignments-read, grants-read, sets-read, sessions-read}
 
 -- ---- what a file may hold has nothing beyond its ranges
@@ -53,6 +53,10 @@ module _ (m : Model) (f : Formed m) where
       go false e = let z : m .sessions s .owner ≡ 0 = ap (λ (x : Session). x .owner) (f .sessions s .closed e) in omega arith
 
 -- ---- the file of a model
+
+-- the roles, past what was read before
+roles-after : (bytes : List ℕ) (p : ℕ × Model) {at next r : ℕ} {m : Model} → p ≡ (at, m) → readRoles bytes at ≡ (next, r) → rolesAfter bytes p ≡ (next, withRoles m r)
+roles-after bytes p {m = m} e g = ap (rolesAfter bytes) e ∙ ap (λ (q : ℕ × ℕ). (q .0, withRoles m (q .1))) g
 
 -- Where the bytes are the file of a model, this model is gathered.
 pub gathered-file : (bytes : List ℕ) (m : Model) → FileOf m bytes → gathered bytes ≡ m
@@ -82,7 +86,7 @@ gathered-file bytes m file =
     let s7 = stands-right (setsPart (m .ssd)) from7 s6 in
     let s8 = stands-right (setsPart (m .dsd)) from8 s7 in
     let e1 : usersRead bytes ≡ _ = users-read bytes empty (m .users) (f .users) 0 _ (stands-left (usersPart (m .users)) from2 s1) in
-    let e2 : rolesRead bytes ≡ _ = ap (λ (q : ℕ × Model). (readRoles bytes (q .0) .0, withRoles (q .1) (readRoles bytes (q .0) .1))) e1 ∙ ap (λ (q : ℕ × ℕ). (q .0, withRoles m1 (q .1))) (roles-read bytes (m .roles) _ _ (f .roles) (stands-left (roleList (m .roles)) from3 s2)) in
+    let e2 : rolesRead bytes ≡ _ = roles-after bytes _ e1 (roles-read bytes (m .roles) _ _ (f .roles) (stands-left (roleList (m .roles)) from3 s2)) in
     let e3 : linesRead bytes ≡ _ = ap (pairsRead Lines bytes) e2 ∙ lines-read bytes (m .juniors) (λ i. f .juniors i .small) (no-juniors m f) (few-lines m (f .limits)) m2 _ _ (stands-left (linesPart (m .juniors)) from4 s3) in
     let e4 : assignedRead bytes ≡ _ = ap (pairsRead Assignments bytes) e3 ∙ assignments-read bytes (m .assigned) (λ i. f .assigned i .small) (no-assigned m f) (few-assigned m (f .limits)) m3 _ _ (stands-left (assignedPart (m .assigned)) from5 s4) in
     let e5 : grantsRead bytes ≡ _ = ap (λ (q : ℕ × Model). readSection bytes 2048 (readGrant bytes) (q .0) (q .1)) e4 ∙ grants-read bytes (m .holders) (λ i. f .holders i .small) (no-holders m f) (few-grants m (f .limits)) m4 _ _ (stands-left (grantsPart (m .holders)) from6 s5) in
@@ -152,7 +156,7 @@ pub gathered-state : (bytes : List ℕ) (m0 m1 m2 m3 m4 m5 m6 m7 m8 m9 : Model) 
 unfolding gathered usersRead rolesRead linesRead assignedRead grantsRead ssdRead dsdRead sessionsRead
 gathered-state bytes m0 m1 m2 m3 m4 m5 m6 m7 m8 m9 p1 p2 p3 p4 p5 p6 p7 p8 roles g0 g1 g2 e2 g3 g4 g5 g6 g7 g8 e9 =
     let r1 : (p1, m1) ≡ usersRead bytes = g1 ∙ ap (λ (x : Model). readSection bytes 256 (readUser bytes) 0 x) g0 in
-    let r2 : (p2, m2) ≡ rolesRead bytes = ap (λ (x : Model). (p2, x)) e2 ∙ ap (λ (q : ℕ × ℕ). (q .0, withRoles m1 (q .1))) g2 ∙ ap (λ (q : ℕ × Model). (readRoles bytes (q .0) .0, withRoles (q .1) (readRoles bytes (q .0) .1))) r1 in
+    let r2 : (p2, m2) ≡ rolesRead bytes = ap (λ (x : Model). (p2, x)) e2 ∙ ap (λ (q : ℕ × ℕ). (q .0, withRoles m1 (q .1))) g2 ∙ ap (rolesAfter bytes) r1 in
     let r3 : (p3, m3) ≡ linesRead bytes = g3 ∙ ap (pairsRead Lines bytes) r2 in
     let r4 : (p4, m4) ≡ assignedRead bytes = g4 ∙ ap (pairsRead Assignments bytes) r3 in
     let r5 : (p5, m5) ≡ grantsRead bytes = g5 ∙ ap (λ (q : ℕ × Model). readSection bytes 2048 (readGrant bytes) (q .0) (q .1)) r4 in

@@ -13,8 +13,11 @@ use Rattle.policyread.specs.Steps.{readUser, readRoles, pairsMost, readP
 unfoldable pub usersRead : List ℕ → ℕ × Model
 usersRead bytes = readSection bytes 256 (readUser bytes) 0 empty
 
+abbrev pub rolesAfter : List ℕ → ℕ × Model → ℕ × Model
+rolesAfter bytes p = (readRoles bytes (p .0) .0, withRoles (p .1) (readRoles bytes (p .0) .1))
+
 unfoldable pub rolesRead : List ℕ → ℕ × Model
-rolesRead bytes = (readRoles bytes (usersRead bytes .0) .0, withRoles (usersRead bytes .1) (readRoles bytes (usersRead bytes .0) .1))
+rolesRead bytes = rolesAfter bytes (usersRead bytes)
 
 -- the lines, or the assignments, past what was read before
 abbrev pub pairsRead : Pairs → List ℕ → ℕ × Model → ℕ × Model

@@ -1,6 +1,6 @@
 -- A line or an assignment is added to those that stand. Assumes nothing.
 use borrow.Author.Needs.{needs}
-use mathlib.Core.Path.{_≡_, _∙_}
+use mathlib.Core.Path.{_∙_}
 use Rattle.policyread.proofs.add_pair.Statement.{statement}
 use Rattle.policyread.proofs.add_pair.Tie as tie
 

@@ -1,7 +1,6 @@
 -- The grants that the section names are added. Assumes nothing.
 use borrow.Author.Needs.{needs}
-use mathlib.Core.Path.{_≡_, ap, _∙_}
-use Prim.Native.Nat.{ℕ}
+use mathlib.Core.Path.{_∙_}
 use native.Mathlib.Omega.{arith}
 use Rattle.roleset.specs.Roles.{with}
 use Rattle.state.specs.View.{view}

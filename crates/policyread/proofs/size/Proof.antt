@@ -1,7 +1,6 @@
 -- How many roles are in the set; 0 has none. Assumes nothing.
 use borrow.Author.Needs.{needs}
 use mathlib.Core.Path.{_≡_, sym, ap, _∙_}
-use Prim.Native.Nat.{ℕ}
 use native.Mathlib.Omega.{arith}
 use Rattle.roleset.specs.Roles.{count}
 use Rattle.roleset.proofs.Laws.{count-none}
