@@ -1,34 +1,10 @@
 -- From what the tests find to the form of a policy file, and back. Assumes nothing.
-use mathlib.Core.Bool.{Bool, true, false}
-use mathlib.Core.List.{List}
-use mathlib.Core.Path.{_≡_, refl, sym, ap, _∙_}
-use Prim.Native.Nat.{ℕ, _+_, _≤_, _<_, _^_}
-use native.Mathlib.Decide.{decLt}
+use Prim.Native.Nat.{ℕ}
 use native.Mathlib.Omega.{arith}
-use lib.Dec.{leb}
-use lib.ListN.{length, getD, List·getD-eq-default}
-use borrow.Author.Tests.{leb-true, leb-false}
-use Rattle.roleset.specs.Bounded.{total}
-use Rattle.roleset.specs.Roles.{has, count}
-use Rattle.roleset.proofs.BoundedLaws.{clash}
-use Rattle.roleset.proofs.Laws.{has-none}
-use Rattle.hierarchy.specs.Lines.{tableOf}
-use Rattle.model.specs.Model.{Model, RoleSet, Session, noSet, noSession}
-use Rattle.model.specs.Sound.{Existing, SessionShape, Limits}
-use Rattle.separation.specs.Tables.{setsIn}
-use Rattle.policy.specs.Sized.{Sized}
-use Rattle.policy.specs.declared.State.{State}
-use Rattle.policy.specs.View.{flags, sessionsIn, view}
+use Rattle.model.specs.Model.{Model, RoleSet, Session}
+use Rattle.model.specs.Sound.{Existing, SessionShape, Counted}
 use Rattle.policyform.specs.Form.{SetForm, Formed}
-use Rattle.policycheck.specs.Tests.{Inside, SetFine, SessionFine, TablesFine}
-
--- what stands in an array stands before its end
-inside-array : {A : Type 0} (l : List A) (d : A) (k n : ℕ) (test : A → Bool) → length l ≡ n → test d ≡ false → test (getD l k d) ≡ true → k < n
-inside-array l d k n test long none e = go (decLt k n)
-  where
-    go : Dec (k < n) → k < n
-    go (yes p) = p
-    go (no p) = clash (test (getD l k d)) e (ap test (List·getD-eq-default l d {n = k} (omega arith)) ∙ none)
+use Rattle.policycheck.specs.Tests.{Inside, SetFine, SessionFine, Fits}
 
 existing : (m : Model) (set : ℕ) → Inside (m .roles) set → Existing m set
 existing m set x = record { small = x .small; exist = x .each }
@@ -36,36 +12,37 @@ existing m set x = record { small = x .small; exist = x .each }
 inside : (m : Model) (set : ℕ) → Existing m set → Inside (m .roles) set
 inside m set x = record { small = x .small; each = x .exist }
 
-pub tables-of : (m : Model) → Formed m → TablesFine m
-tables-of m f = record { seniors = f .seniors; juniors = λ s. inside m (m .juniors s) (f .juniors s); assignees = f .assignees; assigned = λ u. inside m (m .assigned u) (f .assigned u); holders = λ p. inside m (m .holders p) (f .holders p) }
-
-pub set-of : (m : Model) (n : ℕ) (x : RoleSet) → SetForm m n x → SetFine (m .roles) x
+set-of : (m : Model) (n : ℕ) (x : RoleSet) → SetForm m n x → SetFine (m .roles) x
 set-of m n x f = record { absent = f .absent; small = f .small; members = inside m (x .roles) (f .members) }
 
-pub session-of : (m : Model) (n : ℕ) (x : Session) → SessionShape m n x → SessionFine (m .users) (m .roles) x
+session-of : (m : Model) (n : ℕ) (x : Session) → SessionShape m n x → SessionFine (m .users) (m .roles) x
 session-of m n x f = record { closed = f .closed; owned = f .owned; active = inside m (x .active) (f .active) }
 
-pub formed-view : (s : State) → Sized s → s .roles < 2 ^ 64 → TablesFine (view s) → Limits (view s) → ((n : ℕ) → SetFine (s .roles) (setsIn (s .ssd) n)) → ((n : ℕ) → SetFine (s .roles) (setsIn (s .dsd) n)) → ((n : ℕ) → SessionFine (flags (s .users)) (s .roles) (sessionsIn (s .sessions) n)) → Formed (view s)
-unfolding view
-formed-view s long roles t limits a b x = record {
-  users = λ u e. inside-array (s .users) false u 256 (λ y. y) (long .users) refl e;
-  roles = roles;
-  seniors = t .seniors;
-  juniors = λ k. existing (view s) (tableOf (s .juniors) k) (t .juniors k);
-  assignees = t .assignees;
-  assigned = λ k. existing (view s) (tableOf (s .assigned) k) (t .assigned k);
-  permissions = λ p r e. inside-array (s .holders) 0 p 4096 (λ y. has y r) (long .holders) (has-none r) e;
-  holders = λ k. existing (view s) (tableOf (s .holders) k) (t .holders k);
-  ssd = λ n. record { absent = a n .absent; named = λ e. inside-array (s .ssd) noSet n 16 (λ y. y .there) (long .ssd) refl e; small = a n .small; members = existing (view s) (setsIn (s .ssd) n .roles) (a n .members) };
-  dsd = λ n. record { absent = b n .absent; named = λ e. inside-array (s .dsd) noSet n 16 (λ y. y .there) (long .dsd) refl e; small = b n .small; members = existing (view s) (setsIn (s .dsd) n .roles) (b n .members) };
-  sessions = λ n. record { closed = x n .closed; numbered = λ e. inside-array (s .sessions) noSession n 64 (λ y. y .live) (long .sessions) refl e; owned = x n .owned; active = existing (view s) (sessionsIn (s .sessions) n .active) (x n .active) };
-  limits = limits;
+-- Where the kept counts are the tables' own, what the tests find is what a policy file may hold,
+pub fits-formed : (m : Model) → Fits m → Counted m → Formed m
+fits-formed m x c = record {
+  users = x .ranged .users;
+  roles = x .tables .roles;
+  seniors = x .tables .seniors;
+  juniors = λ s. existing m (m .juniors s) (x .tables .juniors s);
+  assignees = x .tables .assignees;
+  assigned = λ u. existing m (m .assigned u) (x .tables .assigned u);
+  permissions = x .ranged .permissions;
+  holders = λ p. existing m (m .holders p) (x .tables .holders p);
+  ssd = λ n. record { absent = x .ssd n .absent; named = x .ranged .ssd n; small = x .ssd n .small; members = existing m (m .ssd n .roles) (x .ssd n .members) };
+  dsd = λ n. record { absent = x .dsd n .absent; named = x .ranged .dsd n; small = x .dsd n .small; members = existing m (m .dsd n .roles) (x .dsd n .members) };
+  sessions = λ s. record { closed = x .sessions s .closed; numbered = x .ranged .sessions s; owned = x .sessions s .owned; active = existing m (m .sessions s .active) (x .sessions s .active) };
+  limits = record { assigned = omega (arith, x .few .assignments, c .assigned); granted = omega (arith, x .few .grants, c .granted); lined = omega (arith, x .few .lines, c .lined) };
+  counted = c;
 }
 
--- a table that has one member more than the limit, or not
-module _ (l : List ℕ) (n most : ℕ) {b : Bool} (long : length l ≡ n) (e : b ≡ leb (most + 1) (total (length l) (λ k. count (tableOf l k)))) where
-  pub within-limit : b ≡ false → total n (λ k. count (tableOf l k)) ≤ most
-  within-limit h = rw (← long) (let x = leb-false (most + 1) (total (length l) (λ k. count (tableOf l k))) (sym e ∙ h) in omega arith)
-
-  pub past-limit : b ≡ true → total n (λ k. count (tableOf l k)) ≤ most → ⊥
-  past-limit h few = let x = leb-true (most + 1) (total (length l) (λ k. count (tableOf l k))) (sym e ∙ h) in let y = rw (← long) at few in omega arith
+-- and what a policy file may hold passes them.
+pub formed-fits : (m : Model) → Formed m → Fits m
+formed-fits m f = record {
+  ranged = record { users = f .users; permissions = f .permissions; ssd = λ n. f .ssd n .named; dsd = λ n. f .dsd n .named; sessions = λ s. f .sessions s .numbered };
+  few = record { lines = omega (arith, f .limits .lined, f .counted .lined); assignments = omega (arith, f .limits .assigned, f .counted .assigned); grants = omega (arith, f .limits .granted, f .counted .granted) };
+  tables = record { roles = f .roles; seniors = f .seniors; juniors = λ s. inside m (m .juniors s) (f .juniors s); assignees = f .assignees; assigned = λ u. inside m (m .assigned u) (f .assigned u); holders = λ p. inside m (m .holders p) (f .holders p) };
+  ssd = λ n. set-of m n (m .ssd n) (f .ssd n);
+  dsd = λ n. set-of m n (m .dsd n) (f .dsd n);
+  sessions = λ s. session-of m s (m .sessions s) (f .sessions s);
+}

@@ -1,2 +1,4 @@
+-- The laws that the proofs share; crates above cite `Forming`.
 mod Passing
-mod Forming
+mod Ranges
+pub mod Forming

@@ -1,19 +1,22 @@
--- What the tests share: one after another, place by place over an array, and over a table whose places must be there. Assumes nothing.
-use mathlib.Core.Bool.{Bool, true, false, not}
+-- What the tests share: one after another, place by place until one fails, and place by place until one is found. Assumes nothing.
+use mathlib.Core.Bool.{Bool, true, false, not, _&&_}
 use mathlib.Core.List.{List}
-use mathlib.Core.Path.{_≡_, refl, ap, _∙_}
+use mathlib.Core.Path.{_≡_, refl, sym, ap, subst, _∙_}
 use Prim.Native.Nat.{ℕ, _+_, _≤_, _<_}
 use native.Mathlib.Decide.{decLt}
 use native.Mathlib.Omega.{arith}
 use borrow.Author.Count.{below-more}
 use borrow.Author.Tests.{not-true, not-false}
-use lib.ListN.{length, List·getD-eq-default}
-use Rattle.roleset.specs.Roles.{has, isEmpty}
-use Rattle.roleset.proofs.BoundedLaws.{clash}
-use Rattle.roleset.proofs.Laws.{has-none, isEmpty-false}
+use Rattle.roleset.specs.Bounded.{some}
+use Rattle.roleset.specs.Roles.{has}
+use Rattle.roleset.proofs.BoundedLaws.{clash, some-start, some-more, some-intro}
+use Rattle.roleset.proofs.Laws.{has-none}
 use Rattle.hierarchy.specs.Lines.{tableOf}
 use Rattle.model.specs.Model.{noSet, noSession}
-use Rattle.policycheck.specs.Tests.{Tells, Inside, SetFine, SessionFine}
+use Rattle.state.specs.Stores.{Table}
+use Rattle.sweeps.specs.Sweeps.{Asks}
+use Rattle.sweeps.specs.declared.Asked.{Asked}
+use Rattle.policycheck.specs.Tests.{Tells, Inside, Backed, SetFine, SessionFine}
 
 -- ---- a test that is passed on
 
@@ -26,6 +29,10 @@ refuted {b} t e h = tells-no (λ q. clash b (t .says (h q)) (not-true b e))
 
 pub passes : {b : Bool} {P : Type 0} → Tells b P → not b ≡ false → P
 passes {b = b} t e = t .holds (not-false b e)
+
+-- a test of a table that was lent, and of roles that were read
+pub of-table : {b : Bool} {n roles was : ℕ} {table : ℕ → ℕ} {x : List ℕ} → Table n table x → roles ≡ was → Tells b ((k : ℕ) → Inside roles (tableOf x k)) → Tells b ((k : ℕ) → Inside was (table k))
+of-table {b} {was = was} {x = x} t e h = subst (λ (f : ℕ → ℕ). Tells b ((k : ℕ) → Inside was (f k))) (t .each) (subst (λ (r : ℕ). Tells b ((k : ℕ) → Inside r (tableOf x k))) e h)
 
 -- ---- a loop that tests place by place
 
@@ -53,19 +60,35 @@ module _ {P : ℕ → Type 0} {n : ℕ} where
 pub stopped : {P : ℕ → Type 0} {b : Bool} (k : ℕ) → (P k → b ≡ true) → b ≡ false → Tells false ((j : ℕ) → P j)
 stopped {b = b} k says e = tells-no (λ p. clash b (says (p k)) e)
 
--- ---- a table whose places with a role must be there
+-- where a rule that was asked is not broken, whether a walk was cut off is told
+pub unbroken-cut : {isBroken isCut : Bool} {x : Asked} → Asks isBroken isCut x → x .broken ≡ false → x .cut ≡ isCut
+unbroken-cut {isBroken} {isCut} a e = a .cut ∙ ap (λ (b : Bool). not b && isCut) (sym (a .broken) ∙ e)
 
-module _ (table : List ℕ) (there : ℕ → Bool) where
-  abbrev pub Backed : ℕ → Type 0
-  Backed k = (r : ℕ) → has (tableOf table k) r ≡ true → there k ≡ true
+-- ---- a loop that looks for a place that passes a test
 
-  pub backed-past : (n : ℕ) → length table ≡ n → (k : ℕ) → n ≤ k → Backed k
-  backed-past n long k h r e = clash _ e (ap (λ (x : ℕ). has x r) (List·getD-eq-default table 0 {n = k} (omega arith)) ∙ has-none r)
+-- k places are passed, and none of them passes the test
+pub record Unmet (f : ℕ → Bool) (n k : ℕ) : Type 0 where
+  pub few : k ≤ n
+  pub none : some k f ≡ false
 
-  pub unbacked : (k : ℕ) → isEmpty (tableOf table k) ≡ false → there k ≡ false → Tells false ((k : ℕ) → Backed k)
-  unbacked k e gone = let some-role = isEmpty-false (tableOf table k) e in tells-no (λ p. clash (there k) (p k (some-role .0) (some-role .2)) gone)
+module _ {f : ℕ → Bool} {n : ℕ} where
+  pub unmet-start : Unmet f n 0
+  unmet-start = record { few = omega arith; none = some-start f }
+
+  pub unmet-more : {k : ℕ} {b : Bool} → k < n → b ≡ f k → b ≡ false → Unmet f n k → Unmet f n (k + 1)
+  unmet-more {k} h e left u = record { few = omega arith; none = some-more k f (u .none) (sym e ∙ left) }
+
+  pub unmet-end : {k : ℕ} → n ≤ k → Unmet f n k → false ≡ some n f
+  unmet-end {k} h u = let whole : k ≡ n = omega (arith, u .few) in sym (rw whole at (u .none))
+
+-- a place that passes it
+pub met : (f : ℕ → Bool) {n k : ℕ} {b : Bool} → k < n → b ≡ f k → b ≡ true → true ≡ some n f
+met f {n} {k} h e taken = sym (some-intro n f k h (sym e ∙ taken))
 
 -- ---- what is all zero is fine
+
+pub backed-none : (there : Bool) → Backed there 0
+backed-none there r e = clash (has 0 r) e (has-none r)
 
 pub inside-none : (roles : ℕ) → Inside roles 0
 inside-none roles = record { small = omega arith; each = λ r e. clash (has 0 r) e (has-none r) }

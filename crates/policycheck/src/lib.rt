@@ -1,24 +1,42 @@
-// Asks a gathered state whether it is of the form of the policy file, and which rule it breaks.
-ghost use mathlib.Core.Bool.{true, not};
+// Asks a state whether it is of the form of the policy file, and which rule it breaks.
+ghost use mathlib.Core.Bool.{true, not, _&&_};
 ghost use mathlib.Core.Path.{_≡_};
-ghost use Prim.Native.Nat.{ℕ, _<_};
-ghost use lib.ListN.{length};
+ghost use Prim.Native.Nat.{ℕ};
 ghost use Rattle.roleset.specs.Bounded.{some};
 ghost use Rattle.roleset.specs.Roles.{has, subset};
 ghost use Rattle.hierarchy.specs.Lines.{tableOf};
-ghost use Rattle.separation.specs.Tables.{setsIn};
 ghost use Rattle.numbers.specs.Answers.{numberOf};
 ghost use Rattle.model.specs.Sheet.{verdict};
-ghost use Rattle.model.specs.commands.Sets.{badCardinality};
-ghost use Rattle.policy.specs.View.{view, flags, sessionsIn};
-ghost use Rattle.policyform.specs.Form.{Formed};
-ghost use Rattle.policyform.specs.Rules.{badSet, rulesBroken};
-ghost use Rattle.policycheck.specs.Tests.{Tells, Inside, SetFine, SessionFine, TablesFine};
+ghost use Rattle.model.specs.Words.{authorised, dynamicBroken};
+ghost use Rattle.model.specs.commands.Sets.{setsOf, badCardinality};
+ghost use Rattle.state.specs.View.{view};
+ghost use Rattle.policyform.specs.Rules.{badSet, unauthorised, rulesBroken};
+ghost use Rattle.policycheck.specs.Tests.{Tells, Inside, Backed, SetFine, SessionFine, TablesFine, Few, Fits};
+use model::Kind;
 use model::RoleSet;
 use model::SessionRecord;
 use numbers::Answer;
-use policy::State;
-use policy::naming::either;
+use numbers::Role;
+use numbers::Session;
+use numbers::SetName;
+use numbers::User;
+use separation::breaks_some;
+use state::PLACES;
+use state::naming::either;
+use state::parts::assigned;
+use state::parts::holders;
+use state::parts::juniors;
+use state::parts::juniors_table;
+use state::reads::assigned_to;
+use state::reads::assignment_count;
+use state::reads::directly_below;
+use state::reads::grant_count;
+use state::reads::has_role;
+use state::reads::has_user;
+use state::reads::line_count;
+use state::reads::roles;
+use state::reads::session_at;
+use state::reads::set_named;
 
 // Is every role that the table names one of the roles?
 fn within(table: &[u64], roles: u64) -> bool
@@ -35,64 +53,21 @@ fn within(table: &[u64], roles: u64) -> bool
     true
 }
 
+// Is what has roles there?
+fn backed(there: bool, set: u64) -> bool
+    ensures { λ b. ⌜ Tells b (Backed there set) ⌝ }
+{
+    if there { true } else { roleset::is_empty(set) }
+}
+
 // Is every senior one of the roles?
-fn seniors(juniors: &[u64], roles: u64) -> bool
-    requires { ⌜ length (now juniors) ≡ 64 ⌝ }
-    ensures { λ b. ⌜ Tells b ((s j : ℕ) → has (tableOf (now (juniors .entry)) s) j ≡ true → has roles s ≡ true) ⌝ }
+fn seniors(state: &[u64; PLACES]) -> bool
+    ensures { λ b. ⌜ Tells b ((s : ℕ) → Backed (has (view (now (state .entry)) .roles) s) (view (now (state .entry)) .juniors s)) ⌝ }
 {
     let mut k: u16 = 0;
     while k < 64 {
-        let s = k;
-        k += 1;
-        if roleset::has(roles, s) {
-            continue;
-        }
-        if roleset::is_empty(juniors[s as usize]) {
-            continue;
-        }
-        return false;
-    }
-    true
-}
-
-// Does every user with a role exist?
-fn assignees(assigned: &[u64], users: [bool; 256]) -> bool
-    requires { ⌜ length (now assigned) ≡ 256 ⌝ }
-    ensures { λ b. ⌜ Tells b ((u r : ℕ) → has (tableOf (now (assigned .entry)) u) r ≡ true → flags users u ≡ true) ⌝ }
-{
-    let mut k: usize = 0;
-    while k < 256 {
-        let u = k;
-        k += 1;
-        if users[u] {
-            continue;
-        }
-        if roleset::is_empty(assigned[u]) {
-            continue;
-        }
-        return false;
-    }
-    true
-}
-
-// Is the set all zero where it is not there, and are its roles among the roles?
-fn set_fine(set: RoleSet, roles: u64) -> bool
-    ensures { λ b. ⌜ Tells b (SetFine roles set) ⌝ }
-{
-    if set.there {
-        return roleset::subset(set.roles, roles);
-    }
-    if set.card == 0 { set.roles == 0 } else { false }
-}
-
-// Is every set of one kind so?
-fn sets_fine(sets: [RoleSet; 16], roles: u64) -> bool
-    ensures { λ b. ⌜ Tells b ((n : ℕ) → SetFine roles (setsIn sets n)) ⌝ }
-{
-    let mut k: usize = 0;
-    while k < 16 {
-        let set = sets[k];
-        if set_fine(set, roles) {
+        let s = Role { number: k };
+        if backed(has_role(state, s), directly_below(state, s)) {
             k += 1;
         } else {
             return false;
@@ -101,14 +76,88 @@ fn sets_fine(sets: [RoleSet; 16], roles: u64) -> bool
     true
 }
 
+// Does every user with a role exist?
+fn assignees(state: &[u64; PLACES]) -> bool
+    ensures { λ b. ⌜ Tells b ((u : ℕ) → Backed (view (now (state .entry)) .users u) (view (now (state .entry)) .assigned u)) ⌝ }
+{
+    let mut k: u16 = 0;
+    while k < 256 {
+        let u = User { number: k };
+        if backed(has_user(state, u), assigned_to(state, u)) {
+            k += 1;
+        } else {
+            return false;
+        }
+    }
+    true
+}
+
+// Does every user and role that a line, an assignment or a grant names exist?
+fn tables_fine(state: &[u64; PLACES]) -> bool
+    ensures { λ b. ⌜ Tells b (TablesFine (view (now (state .entry)))) ⌝ }
+{
+    if !seniors(state) {
+        return false;
+    }
+    if !within(juniors(state), roles(state)) {
+        return false;
+    }
+    if !assignees(state) {
+        return false;
+    }
+    if !within(assigned(state), roles(state)) {
+        return false;
+    }
+    within(holders(state), roles(state))
+}
+
+// Is the set all zero where it is not there, is its cardinality a number of the file, and are its roles among the roles?
+fn set_fine(set: RoleSet, roles: u64) -> bool
+    ensures { λ b. ⌜ Tells b (SetFine roles set) ⌝ }
+{
+    if set.there {
+        if set.card < 65536 {
+            return roleset::subset(set.roles, roles);
+        }
+        return false;
+    }
+    if set.card == 0 { set.roles == 0 } else { false }
+}
+
+// Is every set of one kind so?
+fn sets_fine(state: &[u64; PLACES], kind: Kind) -> bool
+    ensures { λ b. ⌜ Tells b ((n : ℕ) → SetFine (view (now (state .entry)) .roles) (setsOf kind (view (now (state .entry))) n)) ⌝ }
+{
+    let mut k: u16 = 0;
+    while k < 16 {
+        let set = set_named(state, kind, SetName { number: k });
+        if set_fine(set, roles(state)) {
+            k += 1;
+        } else {
+            return false;
+        }
+    }
+    true
+}
+
+// Does a user of this number, however large, exist?
+fn is_user(state: &[u64; PLACES], u: u64) -> bool
+    ensures { λ b. ⌜ b ≡ view (now (state .entry)) .users u ⌝ }
+{
+    if u < 256 {
+        has_user(state, User { number: u as u16 })
+    } else {
+        false
+    }
+}
+
 // Is the session all zero where it is not live, and do its user and its roles exist?
-fn session_fine(session: SessionRecord, users: [bool; 256], roles: u64) -> bool
-    ensures { λ b. ⌜ Tells b (SessionFine (flags users) roles session) ⌝ }
+fn session_fine(state: &[u64; PLACES], session: SessionRecord) -> bool
+    ensures { λ b. ⌜ Tells b (SessionFine (view (now (state .entry)) .users) (view (now (state .entry)) .roles) session) ⌝ }
 {
     if session.live {
-        let owner = session.owner as usize;
-        if users[owner] {
-            return roleset::subset(session.active, roles);
+        if is_user(state, session.owner) {
+            return roleset::subset(session.active, roles(state));
         }
         return false;
     }
@@ -120,13 +169,13 @@ fn session_fine(session: SessionRecord, users: [bool; 256], roles: u64) -> bool
 }
 
 // Is every session so?
-fn sessions_fine(sessions: [SessionRecord; 64], users: [bool; 256], roles: u64) -> bool
-    ensures { λ b. ⌜ Tells b ((s : ℕ) → SessionFine (flags users) roles (sessionsIn sessions s)) ⌝ }
+fn sessions_fine(state: &[u64; PLACES]) -> bool
+    ensures { λ b. ⌜ Tells b ((s : ℕ) → SessionFine (view (now (state .entry)) .users) (view (now (state .entry)) .roles) (view (now (state .entry)) .sessions s)) ⌝ }
 {
-    let mut k: usize = 0;
+    let mut k: u16 = 0;
     while k < 64 {
-        let session = sessions[k];
-        if session_fine(session, users, roles) {
+        let session = session_at(state, Session { number: k });
+        if session_fine(state, session) {
             k += 1;
         } else {
             return false;
@@ -135,111 +184,138 @@ fn sessions_fine(sessions: [SessionRecord; 64], users: [bool; 256], roles: u64) 
     true
 }
 
-// Is a cardinality of some set below 2, or above the number of the set's roles?
-fn bad_set(sets: [RoleSet; 16]) -> bool
-    ensures { λ b. ⌜ b ≡ badSet (setsIn sets) ⌝ }
+// Do no more lines, assignments and grants stand than may, by what is kept of them?
+fn few(state: &[u64; PLACES]) -> bool
+    ensures { λ b. ⌜ Tells b (Few (view (now (state .entry)))) ⌝ }
 {
-    let mut k: usize = 0;
-    while k < 16 {
-        let set = sets[k];
-        k += 1;
-        if set.there {
-            if set.card < 2 {
-                return true;
-            }
-            if roleset::count(set.roles) < set.card {
-                return true;
-            }
-        }
+    if 512 < line_count(state) {
+        return false;
     }
-    false
+    if 2048 < assignment_count(state) {
+        return false;
+    }
+    grant_count(state) <= 2048
 }
 
-// Has some session a role active that its owner does not hold?
-fn unauthorised(sessions: [SessionRecord; 64], held: &[u64]) -> bool
-    requires { ⌜ length (now held) ≡ 256 ⌝ }
-    ensures { λ b. ⌜ ((f : ℕ → ℕ) → ((u : ℕ) → u < 256 → tableOf (now (held .entry)) u ≡ f u) → b ≡ some 64 (λ s. not (subset (sessionsIn sessions s .active) (f (sessionsIn sessions s .owner))))) ⌝ }
+// Is the state one that a policy file may hold? How many lines, assignments and grants stand is not counted again.
+pub fn formed(state: &[u64; PLACES]) -> bool
+    ensures { λ b. ⌜ Tells b (Fits (view (now (state .entry)))) ⌝ }
 {
-    let mut k: usize = 0;
-    while k < 64 {
-        let session = sessions[k];
-        let roles = held[session.owner as usize];
-        if roleset::subset(session.active, roles) {
-            k += 1;
-        } else {
+    if !few(state) {
+        return false;
+    }
+    if !tables_fine(state) {
+        return false;
+    }
+    if !sets_fine(state, Kind::Static) {
+        return false;
+    }
+    if !sets_fine(state, Kind::Dynamic) {
+        return false;
+    }
+    sessions_fine(state)
+}
+
+// Is the cardinality of a set that is there below 2, or above the number of its roles?
+fn bad_cardinality(set: RoleSet) -> bool
+    ensures { λ b. ⌜ b ≡ (set .there && badCardinality (set .card) (set .roles)) ⌝ }
+{
+    if set.there {
+        either(set.card < 2, (roleset::count(set.roles) as u64) < set.card)
+    } else {
+        false
+    }
+}
+
+// Is the cardinality of some set of the kind so?
+fn bad_set(state: &[u64; PLACES], kind: Kind) -> bool
+    ensures { λ b. ⌜ b ≡ badSet (setsOf kind (view (now (state .entry)))) ⌝ }
+{
+    let mut k: u16 = 0;
+    while k < 16 {
+        let set = set_named(state, kind, SetName { number: k });
+        if bad_cardinality(set) {
             return true;
         }
+        k += 1;
     }
     false
 }
 
-// Does every user and role that a line, an assignment or a grant names exist?
-fn tables_fine(s: State) -> bool
-    ensures { λ b. ⌜ Tells b (TablesFine (view s)) ⌝ }
+// The roles assigned to a user of this number, however large.
+fn held_by(state: &[u64; PLACES], u: u64) -> u64
+    ensures { λ x. ⌜ x ≡ view (now (state .entry)) .assigned u ⌝ }
 {
-    if !seniors(&s.juniors, s.roles) {
-        return false;
+    if u < 256 {
+        assigned_to(state, User { number: u as u16 })
+    } else {
+        0
     }
-    if !within(&s.juniors, s.roles) {
-        return false;
-    }
-    if !assignees(&s.assigned, s.users) {
-        return false;
-    }
-    if !within(&s.assigned, s.roles) {
-        return false;
-    }
-    within(&s.holders, s.roles)
 }
 
-// Is the state one that a policy file may hold?
-pub fn formed(s: State) -> bool
-    ensures { λ b. ⌜ Tells b (Formed (view s)) ⌝ }
+// Has the session a role active that its owner is not authorised for? With no role active it has not.
+fn beyond(state: &[u64; PLACES], session: SessionRecord) -> bool
+    ensures { λ b. ⌜ b ≡ not (subset (session .active) (authorised (view (now (state .entry))) (session .owner))) ⌝ }
 {
-    if !tables_fine(s) {
+    if roleset::is_empty(session.active) {
         return false;
     }
-    if policy::full(&s.juniors, 513) {
-        return false;
+    let walk = walking::reach(state, held_by(state, session.owner));
+    !roleset::subset(session.active, walk.roles)
+}
+
+// Has some session such a role active?
+fn unauthorised(state: &[u64; PLACES]) -> bool
+    ensures { λ b. ⌜ b ≡ unauthorised (view (now (state .entry))) ⌝ }
+{
+    let mut k: u16 = 0;
+    while k < 64 {
+        let session = session_at(state, Session { number: k });
+        if beyond(state, session) {
+            return true;
+        }
+        k += 1;
     }
-    if policy::full(&s.assigned, 2049) {
-        return false;
+    false
+}
+
+// Is the dynamic rule broken in some session?
+fn breaks_dynamic(state: &[u64; PLACES]) -> bool
+    ensures { λ b. ⌜ b ≡ some 64 (dynamicBroken (view (now (state .entry)))) ⌝ }
+{
+    let mut k: u16 = 0;
+    while k < 64 {
+        let session = session_at(state, Session { number: k });
+        if breaks_some(state, Kind::Dynamic, session.active) {
+            return true;
+        }
+        k += 1;
     }
-    if policy::full(&s.holders, 2049) {
-        return false;
-    }
-    if !sets_fine(s.ssd, s.roles) {
-        return false;
-    }
-    if !sets_fine(s.dsd, s.roles) {
-        return false;
-    }
-    sessions_fine(s.sessions, s.users, s.roles)
+    false
 }
 
 // The lowest rule that the state breaks, or that it breaks none.
-pub fn broken(s: State) -> Answer
-    ensures { λ a. ⌜ numberOf a ≡ verdict (rulesBroken (view s)) ⌝ }
+pub fn broken(state: &[u64; PLACES]) -> Answer
+    ensures { λ a. ⌜ numberOf a ≡ verdict (rulesBroken (view (now (state .entry)))) ⌝ }
 {
-    if hierarchy::circular(&s.juniors) {
+    let lines = juniors_table(state);
+    if hierarchy::circular(&lines) {
         return Answer::InheritsItself;
     }
-    if either(bad_set(s.ssd), bad_set(s.dsd)) {
+    if either(bad_set(state, Kind::Static), bad_set(state, Kind::Dynamic)) {
         return Answer::BadCardinality;
     }
-    let held = sweeps::authorised_all(&s.juniors, &s.assigned);
-    let roles = held.roles;
-    if unauthorised(s.sessions, &roles) {
+    if unauthorised(state) {
         return Answer::NotAuthorised;
     }
-    if separation::some_breaks_some(s.ssd, &roles) {
+    let asked = sweeps::ask_static(state, &lines);
+    if asked.broken {
         return Answer::BreaksStatic;
     }
-    let active = sweeps::active_roles(s.sessions);
-    if separation::some_breaks_some(s.dsd, &active) {
+    if breaks_dynamic(state) {
         return Answer::BreaksDynamic;
     }
-    if held.cut {
+    if asked.cut {
         return Answer::ChainTooLong;
     }
     Answer::Done

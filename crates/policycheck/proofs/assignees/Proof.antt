@@ -1,34 +1,36 @@
--- Every user with a role exists: the places that have no role, or whose user is there, pass. Assumes nothing.
+-- The users are asked one by one; past the last there are no assignments. Assumes nothing.
 use borrow.Author.Needs.{needs}
-use mathlib.Core.Path.{sym, _∙_}
 use Prim.Native.Nat.{_-_}
 use native.Mathlib.Omega.{arith}
-use Rattle.policy.specs.View.{flags}
-use Rattle.roleset.proofs.BoundedLaws.{clash}
-use Rattle.policycheck.proofs.Passing.{Passed, passed-none, passed-more, passed-all, Backed, backed-past, unbacked}
+use Rattle.roleset.specs.Roles.{has}
+use Rattle.state.specs.View.{view}
+use Rattle.policycheck.specs.Tests.{Tells, Backed}
+use Rattle.policycheck.proofs.Passing.{Passed, passed-none, passed-more, passed-all, stopped, backed-none}
+use Rattle.policycheck.proofs.Ranges.{no-assigned}
 use Rattle.policycheck.proofs.assignees.Statement.{statement}
 use Rattle.policycheck.proofs.assignees.Tie as tie
 
 abbrev Inv-loop : tie.InvT-loop
-Inv-loop assigned users k₀ k = Passed (Backed assigned (flags users)) 256 k
+Inv-loop state k₀ k = Passed (λ s. Backed (view state .users s) (view state .assigned s)) 256 k
 
 abbrev μ-loop : tie.MeasureT-loop
-μ-loop assigned users k₀ k = 256 - k
+μ-loop state k₀ k = 256 - k
+
+-- the test, in the words of the policy
+asked : (c : tie.After-backed Inv-loop μ-loop) → Tells (c .backed .result) (Backed (view (c .before .before .before .before .before .args .state .now) .users (c .before .before .before .before .loop .k)) (view (c .before .before .before .before .before .args .state .now) .assigned (c .before .before .before .before .loop .k)))
+asked c = rw (c .before .before .has-user .ensures, c .before .assigned-to .ensures) at (c .backed .ensures)
 
 loop-holds : tie.Need-loop-holds Inv-loop μ-loop
 loop-holds c = passed-none
 
 loop-again : tie.Need-loop-again Inv-loop μ-loop
-loop-again c = passed-more (omega arith) (c .before .before .loop .inv) (λ r e. c .if1 .taken)
-
-loop-again-2 : tie.Need-loop-again-2 Inv-loop μ-loop
-loop-again-2 c = passed-more (omega arith) (c .before .before .before .before .before .loop .inv) (λ r e. clash _ e (c .before .is-empty .ensures .yes-means (c .if2 .taken) r))
+loop-again c = passed-more (omega arith) (c .before .before .before .before .before .loop .inv) (asked (c .before) .holds (c .if1 .taken))
 
 returns : tie.Need-returns Inv-loop μ-loop
-returns c = unbacked (c .before .before .before .before .before .before .before .args .assigned .now) (flags (c .before .before .before .before .before .before .before .args .t2)) (c .before .before .before .before .before .loop .k) (sym (c .before .is-empty .ensures .is) ∙ c .if2 .left) (c .before .before .before .if1 .left)
+returns c = stopped (c .before .before .before .before .before .loop .k) (asked (c .before) .says) (c .if1 .left)
 
 returns-2 : tie.Need-returns-2 Inv-loop μ-loop
-returns-2 c = passed-all (omega arith) (c .before .loop .inv) (backed-past (c .before .before .before .args .assigned .now) _ 256 (c .before .before .before .pre))
+returns-2 c = passed-all (omega arith) (c .before .loop .inv) (λ k h. rw (no-assigned (c .before .before .args .state .now) k h) (backed-none _))
 
 pub assignees-spec : {M : Type 1} → statement M
 assignees-spec =
@@ -37,14 +39,11 @@ assignees-spec =
     Inv-loop
     μ-loop
     loop-holds
-    (λ c. search needs)
+    (λ c κs. search needs)
+    (λ c κs. search needs)
+    (λ c κs. search needs)
     (λ c. search needs)
     (λ c. search needs)
     loop-again
-    (λ c. search needs)
-    (λ c. search needs)
-    (λ c κs. search needs)
-    (λ c. search needs)
-    loop-again-2
     returns
     returns-2)

@@ -1,38 +1,40 @@
--- The sessions are asked one by one, with what their owners hold. Assumes nothing.
+-- The sessions are asked one by one. Assumes nothing.
 use borrow.Author.Needs.{needs}
-use mathlib.Core.Bool.{Bool, false, not}
-use mathlib.Core.Path.{_≡_, sym}
-use Prim.Native.Nat.{ℕ, _≤_, _<_, _-_}
+use mathlib.Core.Path.{_≡_}
+use Prim.Native.Nat.{_-_}
 use native.Mathlib.Omega.{arith}
-use Rattle.roleset.specs.Bounded.{some}
+use mathlib.Core.Bool.{not}
 use Rattle.roleset.specs.Roles.{subset}
-use Rattle.roleset.proofs.BoundedLaws.{some-start, some-more, some-intro}
-use Rattle.hierarchy.specs.Lines.{tableOf}
-use Rattle.model.specs.Model.{Session}
-use Rattle.policy.specs.View.{sessionsIn}
+use Rattle.model.specs.Words.{authorised}
+use Rattle.state.specs.View.{view}
+use Rattle.policyform.specs.Rules.{unauthorised}
+use Rattle.policycheck.proofs.Passing.{Unmet, unmet-start, unmet-more, met, unmet-end}
 use Rattle.policycheck.proofs.unauthorised.Statement.{statement}
 use Rattle.policycheck.proofs.unauthorised.Tie as tie
 
-abbrev beyond : (ℕ → Session) → (ℕ → ℕ) → ℕ → Bool
-beyond sessions held s = not (subset (sessions s .active) (held (sessions s .owner)))
-
 abbrev Inv-loop : tie.InvT-loop
-Inv-loop held sessions k₀ k = (k ≤ 64) × ((f : ℕ → ℕ) → ((u : ℕ) → u < 256 → tableOf held u ≡ f u) → some k (beyond (sessionsIn sessions) f) ≡ false)
+Inv-loop state k₀ k = Unmet (λ s. not (subset (view state .sessions s .active) (authorised (view state) (view state .sessions s .owner)))) 64 k
 
 abbrev μ-loop : tie.MeasureT-loop
-μ-loop held sessions k₀ k = 64 - k
+μ-loop state k₀ k = 64 - k
+
+-- the test, in the words of the policy
+asked : (c : tie.After-beyond Inv-loop μ-loop) → c .beyond .result ≡ not (subset (view (c .before .before .before .before .args .state .now) .sessions (c .before .before .before .loop .k) .active) (authorised (view (c .before .before .before .before .args .state .now)) (view (c .before .before .before .before .args .state .now) .sessions (c .before .before .before .loop .k) .owner)))
+asked c = rw (c .before .session-at .ensures) at (c .beyond .ensures)
 
 loop-holds : tie.Need-loop-holds Inv-loop μ-loop
-loop-holds c = (omega arith, λ f h. some-start _)
-
-loop-again : tie.Need-loop-again Inv-loop μ-loop
-loop-again c = (omega arith, λ f h. some-more (c .before .before .before .before .before .before .loop .k) (beyond (sessionsIn (c .before .before .before .before .before .before .before .before .args .t1)) f) (c .before .before .before .before .before .before .loop .inv .1 f h) (rw (← h (sessionsIn (c .before .before .before .before .before .before .before .before .args .t1) (c .before .before .before .before .before .before .loop .k) .owner) (search needs), ← c .before .subset .ensures .is, c .if1 .taken)))
+loop-holds c = unmet-start
 
 returns : tie.Need-returns Inv-loop μ-loop
-returns c f h = sym (some-intro 64 (beyond (sessionsIn (c .before .before .before .before .before .before .before .before .args .t1)) f) (c .before .before .before .before .before .before .loop .k) (omega arith) (rw (← h (sessionsIn (c .before .before .before .before .before .before .before .before .args .t1) (c .before .before .before .before .before .before .loop .k) .owner) (search needs), ← c .before .subset .ensures .is, c .if1 .left)))
+unfolding unauthorised
+returns c = met (λ s. not (subset (view (c .before .before .before .before .before .args .state .now) .sessions s .active) (authorised (view (c .before .before .before .before .before .args .state .now)) (view (c .before .before .before .before .before .args .state .now) .sessions s .owner)))) (omega arith) (asked (c .before)) (c .if1 .taken)
+
+loop-again : tie.Need-loop-again Inv-loop μ-loop
+loop-again c = unmet-more (omega arith) (asked (c .before)) (c .if1 .left) (c .before .before .before .before .loop .inv)
 
 returns-2 : tie.Need-returns-2 Inv-loop μ-loop
-returns-2 c f h = let whole : c .before .loop .k ≡ 64 = omega arith in sym (rw whole at (c .before .loop .inv .1 f h))
+unfolding unauthorised
+returns-2 c = unmet-end (c .loop-test .left) (c .before .loop .inv)
 
 pub unauthorised-spec : {M : Type 1} → statement M
 unauthorised-spec =
@@ -41,14 +43,10 @@ unauthorised-spec =
     Inv-loop
     μ-loop
     loop-holds
-    (λ c. search needs)
-    (λ c. search needs)
-    (λ c. search needs)
-    (λ c. search needs)
-    (λ c. search needs)
     (λ c κs. search needs)
+    (λ c κs. search needs)
+    returns
     (λ c. search needs)
     (λ c. search needs)
     loop-again
-    returns
     returns-2)

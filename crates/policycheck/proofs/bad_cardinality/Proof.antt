@@ -1,0 +1,17 @@
+-- A cardinality below 2 or above the number of roles is bad. Assumes nothing.
+use borrow.Author.Needs.{needs}
+use Rattle.policycheck.proofs.bad_cardinality.Statement.{statement}
+use Rattle.policycheck.proofs.bad_cardinality.Tie as tie
+
+returns : tie.Need-returns
+returns c = rw (c .before .before .before .before .if1 .taken, ← c .before .before .count .ensures .0) (c .either .ensures)
+
+pub bad-cardinality-spec : {M : Type 1} → statement M
+bad-cardinality-spec =
+    tie.close
+    (tie.spec
+    (λ c κs. search needs)
+    (λ c. search needs)
+    (λ c κs. search needs)
+    returns
+    (λ c. search needs))
