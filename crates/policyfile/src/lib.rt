@@ -3,13 +3,13 @@ ghost use mathlib.Core.Path.{_≡_};
 ghost use Prim.Native.Nat.{ℕ, _≤_, _<_};
 ghost use lib.ListN.{length, getD};
 ghost use Rattle.numbers.specs.Answers.{numberOf};
-ghost use Rattle.policy.specs.View.{view, seen};
+ghost use Rattle.state.specs.View.{view, told};
 ghost use Rattle.policyform.specs.Encode.{encode};
 ghost use Rattle.policyform.specs.Promises.{Saves, Loads};
 ghost use Rattle.policycheck.specs.Tests.{Tells};
 use numbers::Answer;
-use policy::Outcome;
-use policy::State;
+use state::PLACES;
+use state::stores::put_all;
 
 // What saving hands back: its answer, and the length of the file where it was saved.
 pub struct Saved {
@@ -18,11 +18,11 @@ pub struct Saved {
 }
 
 // Saves the state: it is written into a buffer of our own, since one that is too short is not touched. A policy of ours fits there.
-pub fn save(s: State, out: &mut [u8]) -> Saved
-    ensures { λ x. ⌜ Saves (view s) (now (out .entry)) (now (out .exit)) (numberOf (x .answer)) (x .length) ⌝ }
+pub fn save(state: &[u64; PLACES], out: &mut [u8]) -> Saved
+    ensures { λ x. ⌜ Saves (view (now (state .entry))) (now (out .entry)) (now (out .exit)) (numberOf (x .answer)) (x .length) ⌝ }
 {
     let mut file = [0u8; 36048];
-    let length = policywrite::write(s, &mut file);
+    let length = policywrite::write(state, &mut file);
     if out.len() < length {
         return Saved {
             answer: Answer::BufferShort,
@@ -32,7 +32,7 @@ pub fn save(s: State, out: &mut [u8]) -> Saved
     if length <= 36048 {
         decimal::put_text(out, 0, &file[..length]);
     } else {
-        policywrite::write(s, out);
+        policywrite::write(state, out);
     }
     Saved {
         answer: Answer::Done,
@@ -57,12 +57,12 @@ fn begins(bytes: &[u8], buffer: &[u8]) -> bool
 }
 
 // Are the bytes the file of the state? It is written again and compared.
-fn is_file(s: State, bytes: &[u8]) -> bool
+fn is_file(state: &[u64; PLACES], bytes: &[u8]) -> bool
     requires { ⌜ length (now bytes) ≤ 36048 ⌝ }
-    ensures { λ b. ⌜ Tells b (encode (view s) ≡ now (bytes .entry)) ⌝ }
+    ensures { λ b. ⌜ Tells b (encode (view (now (state .entry))) ≡ now (bytes .entry)) ⌝ }
 {
     let mut buffer = [0u8; 36048];
-    let length = policywrite::write(s, &mut buffer);
+    let length = policywrite::write(state, &mut buffer);
     if length == bytes.len() {
         begins(bytes, &buffer)
     } else {
@@ -70,31 +70,24 @@ fn is_file(s: State, bytes: &[u8]) -> bool
     }
 }
 
-// Loads a file: the bytes are gathered without a test, the state is tested, and it is written again and compared with the bytes.
-pub fn load(s: State, bytes: &[u8]) -> Outcome
-    ensures { λ o. ⌜ Loads (view s) (now (bytes .entry)) (seen o) ⌝ }
+// Loads a file: the bytes are gathered into an array of our own without a test, this state is tested, and it is written again and compared with the bytes. It is stored where it is accepted.
+pub fn load(state: &mut [u64; PLACES], bytes: &[u8]) -> Answer
+    ensures { λ a. ⌜ Loads (view (now (state .entry))) (now (bytes .entry)) (told a (now (state .exit))) ⌝ }
 {
     if 36048 < bytes.len() {
-        return Outcome {
-            answer: Answer::NotOfForm,
-            state: s,
-        };
+        return Answer::NotOfForm;
     }
-    let read = policyread::gather(bytes);
-    if policycheck::formed(read) {
-        if is_file(read, bytes) {
-            let answer = policycheck::broken(read);
-            if numbers::is_done(answer) {
-                return Outcome {
-                    answer: Answer::Done,
-                    state: read,
-                };
-            }
-            return Outcome { answer, state: s };
-        }
+    let mut read = [0u64; PLACES];
+    policyread::gather(bytes, &mut read);
+    if !policycheck::formed(&read) {
+        return Answer::NotOfForm;
     }
-    Outcome {
-        answer: Answer::NotOfForm,
-        state: s,
+    if !is_file(&read, bytes) {
+        return Answer::NotOfForm;
     }
+    let answer = policycheck::broken(&read);
+    if numbers::is_done(answer) {
+        put_all(state, &read);
+    }
+    answer
 }

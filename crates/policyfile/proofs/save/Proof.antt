@@ -5,12 +5,10 @@ use mathlib.Core.Logic.{inl, inr}
 use mathlib.Core.Path.{_≡_, refl, sym, ap, ap₂, _∙_}
 use Prim.Native.Nat.{ℕ, _+_, _≤_}
 use native.Mathlib.Omega.{arith}
-use lib.ListN.{length, take, replicate, length-replicate}
+use lib.ListN.{length, take, length-replicate}
 use lib.Seq.{sets, sets-eq, length-take-le, take-append-seam}
-use Rattle.policy.specs.View.{view}
 use Rattle.text.specs.Places.{Wrote}
 use Rattle.text.proofs.Writing.{wrote-length}
-use Rattle.policyform.specs.Encode.{encode}
 use Rattle.policyfile.proofs.save.Statement.{statement}
 use Rattle.policyfile.proofs.save.Tie as tie
 
