@@ -16,7 +16,7 @@ use Rattle.model.specs.Step.{step}
 use Rattle.model.specs.commands.Users.{user, role, nouser, norole}
 use Rattle.model.specs.commands.Assigning.{assign, deassign, grant, revoke}
 use Rattle.model.specs.commands.Inheriting.{inherit, disinherit}
-use Rattle.model.specs.commands.Sets.{setsOf, makeSet, dropSet, addMember, dropMember, setCardinality}
+use Rattle.model.specs.commands.Sets.{makeSet, dropSet, addMember, dropMember, setCardinality}
 use Rattle.model.specs.commands.Sessions.{session, activate, drop, end, check}
 use Rattle.model.specs.declared.Command.{Command}
 use Rattle.model.specs.declared.Command.the-variants.{AddUser, AddRole, NoUser, NoRole, Assign, Deassign, Grant, Revoke, Inherit, Disinherit, MakeSet, DropSet, AddMember, DropMember, SetCardinality, OpenSession, Activate, DropActive, EndSession}
@@ -82,7 +82,7 @@ question-never m (RoleOps r obj) e = review-never m _ _ _ (roleOps m (r .number)
 question-never m (UserOps u obj) e = review-never m _ _ _ (userOps m (u .number) obj) (few 16 _ (omega arith)) e
 question-never m (Sets kind) e = review-never m _ _ _ (setNames kind m) (few 16 _ (omega arith)) e
 question-never m (SetRoles kind name) e = review-never m _ _ _ (setRoles kind m (name .number)) (few 64 _ (omega arith)) e
-question-never m (SetCount kind name) e = review-never m _ _ _ (setsOf kind m (name .number) .card ∷ []) (omega arith) e
+question-never m (SetCount kind name) e = review-never m _ _ _ (setCount kind m (name .number)) (omega arith) e
 
 pub never-short : NeverShort
 never-short = record { commands = command-never; questions = question-never }

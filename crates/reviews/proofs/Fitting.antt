@@ -10,11 +10,12 @@ use borrow.Author.Tests.{le-ltb}
 use Rattle.model.specs.Model.{Model}
 use Rattle.model.specs.Sheet.{Told, _when_, verdict, settle}
 use Rattle.model.specs.Questions.{review}
+use Rattle.model.specs.declared.Question.{Question}
 use Rattle.reviews.specs.declared.Review.{Review}
-use Rattle.reviews.specs.Reviewing.{Reviewed, fitted}
+use Rattle.reviews.specs.Reviewing.{Reviewed, Asked, fitted, AskedAny}
 
 -- results that stand in the buffer fit
-pub fits-already : (told : Told) (before after : List ℕ) (x : Review) → length after ≡ length before → Reviewed told before after x → Reviewed (fitted (length before) told) before after x
+fits-already : (told : Told) (before after : List ℕ) (x : Review) → length after ≡ length before → Reviewed told before after x → Reviewed (fitted (length before) told) before after x
 unfolding fitted
 fits-already told before after x e r = rw same r
   where
@@ -35,3 +36,7 @@ fitted-review m room false false false list = go (ltb room (length list)) refl
     go : (b : Bool) → ltb room (length list) ≡ b → fitted room (settle (1 when false ∷ 2 when false ∷ 13 when false ∷ []) m list m) ≡ review m room false false false list
     go true e = rw (e, fitted)
     go false e = rw (e, fitted)
+
+-- an arm of `ask`: what its own function tells of the question that was asked
+pub asked-arm : (m : Model) {q r : Question} (before after : List ℕ) (x : Review) → q ≡ r → length after ≡ length before → Asked m r before after x → AskedAny m q before after x
+asked-arm m before after x e same told = rw e (fits-already _ before after x same told)
