@@ -1,9 +1,10 @@
 -- The line that was read is obeyed or asked; a text that is no line is answered 14. Assumes nothing.
 use borrow.Author.Needs.{needs}
-use mathlib.Core.Path.{_≡_}
+use mathlib.Core.Path.{_≡_, refl, sym}
 use Prim.Native.Nat.{_≤_, _-_}
 use native.Mathlib.Omega.{arith}
 use lib.ListN.{take, drop}
+use Rattle.model.proofs.Asking.{asked-same}
 use Rattle.state.specs.View.{view}
 use Rattle.script.specs.Script.{obey, doing}
 use Rattle.script.proofs.Reading.{Reads, read-right, read-wrong, enough, room, obeys}
@@ -21,26 +22,26 @@ start : (c : tie.After-before-list) → c .before-list .result ≤ c .before .be
 start c = omega (arith, c .before-list .ensures, enough _ _ (reads (c .before)))
 
 sub-obey-command : tie.Need-sub-obey-command
-sub-obey-command c = start (c .before .before .before .before)
+sub-obey-command c = start (c .before .before .before .before .before)
 
 part-obey-command-start : tie.Need-part-obey-command-start
-part-obey-command-start c = start (c .before .before .before .before .before)
+part-obey-command-start c = start (c .before .before .before .before .before .before)
 
 part-obey-command-end : tie.Need-part-obey-command-end
-part-obey-command-end c = room _ _ (reads (c .before .before .before .before .before .before))
+part-obey-command-end c = room _ _ (reads (c .before .before .before .before .before .before .before))
 
 returns : tie.Need-returns
-returns c = rw (tells (c .before .before .before .before .before .before .before .before .before), c .before .before .before .before .before .before .before .c .given .1) (c .before .before .obey-command .ensures)
+returns c = rw (tells (c .before .before .before .before .before .before .before .before .before .before), c .before .before .before .before .before .before .before .before .c .given .1) (c .before .before .obey-command .ensures)
 
 returns-2 : tie.Need-returns-2
-returns-2 c = rw (tells (c .before .before .before .before .before .before .before), c .before .before .before .before .before .q .given .1) (c .before .before .ask-question .ensures)
+returns-2 c = rw (tells (c .before .before .before .before .before .before .before .before), c .before .before .before .before .before .before .q .given .1) (record { puts = c .before .before .ask-question .ensures; state = sym (asked-same _ _ _) })
 
 returns-3 : tie.Need-returns-3
-returns-3 c = rw (tells (c .before .before .before .before .before .before), c .before .before .before .before .enum-told .given .1) (c .before .before .answer-no-line .ensures)
+returns-3 c = rw (tells (c .before .before .before .before .before .before), c .before .before .before .before .enum-told .given .1) (record { puts = c .before .before .answer-no-line .ensures _; state = refl })
 
 returns-4 : tie.Need-returns-4
 unfolding obey
-returns-4 c = rw (read-wrong _ _ (c .before .before .before .before .before .before .read-line .ensures) (c .before .before .before .before .if1 .left)) (c .before .before .answer-no-line2 .ensures)
+returns-4 c = rw (read-wrong _ _ (c .before .before .before .before .before .before .read-line .ensures) (c .before .before .before .before .if1 .left)) (record { puts = c .before .before .answer-no-line2 .ensures _; state = refl })
 
 pub answer-line-spec : {M : Type 1} → statement M
 answer-line-spec =

@@ -8,7 +8,6 @@ use lib.Dec.{eqb}
 use lib.ListN.{length, take, drop, replicate, length-replicate, length-append}
 use lib.Seq.{length-take-le, take-append-seam}
 use Rattle.model.specs.Questions.{ask}
-use Rattle.model.proofs.Asking.{asked-same}
 use Rattle.state.specs.View.{view}
 use Rattle.reviews.specs.Reviewing.{Reviewed}
 use Rattle.reviews.proofs.Promised.{asked-with-room, results-fit}
@@ -41,7 +40,6 @@ returns c =
     record {
       text = rw (← (c .before .before .before .before .before .before .number-of .ensures ∙ reviewed (c .before .before .before .before .before .before .before .before) .answer), ← front (c .before .before .before .before .before .before .before .before)) (c .before .before .answer-text .ensures);
       ok = c .before .before .before .before .before .is-done .ensures ∙ ap (λ (n : ℕ). eqb n 0) (reviewed (c .before .before .before .before .before .before .before .before) .answer);
-      state = sym (asked-same (view (c .before .before .before .before .before .before .before .before .before .before .before .args .state .now)) 4096 (c .before .before .before .before .before .before .before .before .before .before .before .args .q));
     }
 
 pub ask-question-spec : {M : Type 1} → statement M
