@@ -720,7 +720,7 @@ static int of_sessions(struct engine *e, unsigned m, unsigned depth, unsigned b)
     case 64: return open_session(e, b + 1, list, 1, &number);
     case 65: return end_session(e, b + 1, b);
     case 66: return activate(e, b, b, lead);
-    case 67: return drop(e, b, b, lead ? lead - 1 : 0);
+    case 67: return drop(e, b, b, b * 4 + 2);
     case 68:
         pair_of(1, b, pair);
         return open_session(e, b, pair, 2, &number);

@@ -1,4 +1,5 @@
 // Single moves, by number: each is one command with arguments that change from round to round, done or refused as said in the school's policy. A move with no number here is none, and costs what choosing a move costs.
+use crate::school::pair_of;
 use crate::school::top;
 use model::Kind;
 use numbers::Answer;
@@ -8,39 +9,41 @@ use numbers::SetName;
 use numbers::User;
 use state::PLACES;
 
-fn user(u: u64) -> User {
-    User {
-        number: (u % 65536) as u16,
-    }
+fn user(u: u16) -> User {
+    User { number: u }
 }
 
-fn role(r: u64) -> Role {
+fn role(r: u16) -> Role {
+    Role { number: r }
+}
+
+// The bench's roles: capture (0), review (1), release (2) or lead (3).
+fn of_bench(b: u16, kind: u16) -> Role {
     Role {
-        number: (r % 65536) as u16,
+        number: b % 16 * 4 + kind % 4,
     }
-}
-
-// The bench of round i: an even one, so that at every depth its user may take the spare role.
-fn bench(i: u64) -> u64 {
-    i % 8 * 2
 }
 
 // The spare role of the bench's user: the review of another bench, or the role in the middle of a chain.
-fn spare(depth: u16, b: u64) -> u64 {
-    if depth < 3 { (b + 2) % 16 * 4 + 1 } else { 17 }
-}
-
-// The senior of a line that may be drawn: the bench's lead, or the top of the first chain.
-fn senior(depth: u16, b: u64) -> u64 {
+fn spare(depth: u16, b: u16) -> Role {
     if depth < 3 {
-        b * 4 + 3
+        of_bench(b % 16 + 2, 1)
     } else {
-        depth as u64 - 1
+        role(17)
     }
 }
 
-// `user` and `nouser`, `role` and `norole`.
-fn of_users(state: &mut [u64; PLACES], m: u64, b: u64) -> Answer {
+// The senior of a line that may be drawn: the bench's lead, or the top of the first chain.
+fn senior(depth: u16, b: u16) -> Role {
+    if depth < 3 {
+        of_bench(b, 3)
+    } else {
+        role(depth - 1)
+    }
+}
+
+// `user` and `nouser`, `role` and `norole`: done, refused with 4 and 8.
+fn of_users(state: &mut [u64; PLACES], m: u64, b: u16) -> Answer {
     match m {
         0 => users::user(state, user(255)),
         1 => users::nouser(state, user(255)),
@@ -48,96 +51,66 @@ fn of_users(state: &mut [u64; PLACES], m: u64, b: u64) -> Answer {
         3 => users::norole(state, role(63)),
         4 => users::role(state, role(63)),
         5 => users::role(state, role(b)),
-        6 => users::norole(state, role(b * 4)),
+        6 => users::norole(state, of_bench(b, 0)),
         _ => Answer::Done,
     }
 }
 
 // `assign` and `deassign`: done, refused with 4, 10, 2 and 5.
-fn of_assignments(state: &mut [u64; PLACES], m: u64, depth: u16, b: u64) -> Answer {
+fn of_assignments(state: &mut [u64; PLACES], m: u64, depth: u16, b: u16) -> Answer {
     let r = spare(depth, b);
     match m {
-        10 => assigning::assign(state, user(b), role(r)),
-        11 => assigning::deassign(state, user(b), role(r)),
-        12 => assigning::assign(
-            state,
-            user(b),
-            Role {
-                number: top(depth, (b % 65536) as u16),
-            },
-        ),
-        13 => assigning::assign(state, user(b), role(b * 4 + 2)),
-        14 => assigning::assign(state, user(255), role(r)),
-        15 => assigning::deassign(state, user(b), role(r)),
+        10 => assigning::assign(state, user(b), r),
+        11 => assigning::deassign(state, user(b), r),
+        12 => assigning::assign(state, user(b), role(top(depth, b))),
+        13 => assigning::assign(state, user(b), of_bench(b, 2)),
+        14 => assigning::assign(state, user(255), r),
+        15 => assigning::deassign(state, user(b), r),
         _ => Answer::Done,
     }
 }
 
 // `grant` and `revoke`: done, refused with 4 and 5.
-fn of_grants(state: &mut [u64; PLACES], m: u64, i: u64, b: u64) -> Answer {
+fn of_grants(state: &mut [u64; PLACES], m: u64, i: u64, b: u16) -> Answer {
     let obj = (i % 256) as u16;
     match m {
         20 => assigning::grant(state, 5, obj, role(b)),
         21 => assigning::revoke(state, 5, obj, role(b)),
-        22 => assigning::grant(state, 0, (b * 16 % 65536) as u16, role(b * 4)),
+        22 => assigning::grant(state, 0, b % 16 * 16, of_bench(b, 0)),
         23 => assigning::revoke(state, 6, obj, role(b)),
         _ => Answer::Done,
     }
 }
 
 // `inherit` and `disinherit`: done, refused with 4, 6, 10 and 5.
-fn of_lines(state: &mut [u64; PLACES], m: u64, depth: u16, b: u64) -> Answer {
+fn of_lines(state: &mut [u64; PLACES], m: u64, depth: u16, b: u16) -> Answer {
     let r = spare(depth, b);
     let s = senior(depth, b);
     match m {
-        30 => inheriting::inherit(state, role(s), role(r)),
-        31 => inheriting::disinherit(state, role(s), role(r)),
-        32 => inheriting::inherit(state, role(b * 4 + 3), role(b * 4)),
-        33 => inheriting::inherit(state, role(b * 4), role(b * 4 + 3)),
-        34 => inheriting::inherit(state, role(b * 4 + 3), role(b * 4 + 2)),
-        35 => inheriting::disinherit(state, role(s), role(r)),
+        30 => inheriting::inherit(state, s, r),
+        31 => inheriting::disinherit(state, s, r),
+        32 => inheriting::inherit(state, of_bench(b, 3), of_bench(b, 0)),
+        33 => inheriting::inherit(state, of_bench(b, 0), of_bench(b, 3)),
+        34 => inheriting::inherit(state, of_bench(b, 3), of_bench(b, 2)),
+        35 => inheriting::disinherit(state, s, r),
         _ => Answer::Done,
     }
 }
 
-// The commands of sets, of either kind: done, refused with 4, 10, 5 and 7.
-fn of_sets(state: &mut [u64; PLACES], m: u64, kind: Kind, b: u64) -> Answer {
-    let name = SetName {
-        number: (b % 65536) as u16,
-    };
-    let pair = crate::school::pair_of(kind, (b % 16) as u16);
+// The commands of sets, of either kind: done, refused with 10, 5 and 7.
+fn of_sets(state: &mut [u64; PLACES], m: u64, kind: Kind, b: u16) -> Answer {
+    let name = SetName { number: b };
+    let pair = pair_of(kind, b);
+    let other = of_bench(b % 16 + 5, 0);
     match m {
         0 => sets::drop_set(state, kind, name),
         1 => sets::make_set(state, kind, name, 2, &pair),
-        2 => sets::add_member(state, kind, name, role((b + 5) % 16 * 4)),
-        3 => sets::drop_member(state, kind, name, role((b + 5) % 16 * 4)),
+        2 => sets::add_member(state, kind, name, other),
+        3 => sets::drop_member(state, kind, name, other),
         4 => sets::set_cardinality(state, kind, name, 2),
-        5 => sets::add_member(state, kind, name, role(b * 4 + 3)),
-        6 => sets::drop_member(state, kind, name, role((b + 5) % 16 * 4)),
+        5 => sets::add_member(state, kind, name, of_bench(b, 3)),
+        6 => sets::drop_member(state, kind, name, other),
         7 => sets::set_cardinality(state, kind, name, 3),
-        _ => Answer::Done,
-    }
-}
-
-// `session` and `end`, `activate` and `drop`: done, refused with 9, 11, 3, 4 and 5. Sixteen sessions are open, so that the next is session 16.
-fn of_sessions(state: &mut [u64; PLACES], m: u64, depth: u16, b: u64) -> Answer {
-    let lead = top(depth, (b % 65536) as u16);
-    let lower = if lead == 0 { 0 } else { lead - 1 };
-    let list = [lead];
-    let sixteen = Session { number: 16 };
-    let own = Session {
-        number: (b % 65536) as u16,
-    };
-    match m {
-        60 => opened(state, user(b), &list),
-        61 => sessions::end(state, user(b), sixteen),
-        62 => sessions::activate(state, user(b), own, role(b * 4)),
-        63 => sessions::drop(state, user(b), own, role(b * 4)),
-        64 => opened(state, user(b + 1), &list),
-        65 => sessions::end(state, user(b + 1), own),
-        66 => sessions::activate(state, user(b), own, Role { number: lead }),
-        67 => sessions::drop(state, user(b), own, Role { number: lower }),
-        68 => opened_two(state, b),
         _ => Answer::Done,
     }
 }
@@ -148,15 +121,29 @@ fn opened(state: &mut [u64; PLACES], u: User, list: &[u16]) -> Answer {
     o.answer
 }
 
-// `session` with the review of the bench and the release of the next, which a dynamic set holds apart.
-fn opened_two(state: &mut [u64; PLACES], b: u64) -> Answer {
-    let pair = crate::school::pair_of(Kind::Dynamic, (b % 16) as u16);
-    opened(state, user(b), &pair)
+// `session` and `end`, `activate` and `drop`: done, refused with 9, 3, 4, 5 and 11. Sixteen sessions are open, so that the next is session 16. The two roles of move 68 are those that a dynamic set holds apart.
+fn of_sessions(state: &mut [u64; PLACES], m: u64, depth: u16, b: u16) -> Answer {
+    let lead = top(depth, b);
+    let list = [lead];
+    let pair = pair_of(Kind::Dynamic, b);
+    let own = Session { number: b };
+    match m {
+        60 => opened(state, user(b), &list),
+        61 => sessions::end(state, user(b), Session { number: 16 }),
+        62 => sessions::activate(state, user(b), own, of_bench(b, 0)),
+        63 => sessions::drop(state, user(b), own, of_bench(b, 0)),
+        64 => opened(state, user(b % 16 + 1), &list),
+        65 => sessions::end(state, user(b % 16 + 1), own),
+        66 => sessions::activate(state, user(b), own, role(lead)),
+        67 => sessions::drop(state, user(b), own, of_bench(b, 2)),
+        68 => opened(state, user(b), &pair),
+        _ => Answer::Done,
+    }
 }
 
-// Move m of round i.
+// Move m of round i. The bench is an even one, so that at every depth its user may take the spare role.
 pub(crate) fn moved(state: &mut [u64; PLACES], m: u64, depth: u16, i: u64) -> Answer {
-    let b = bench(i);
+    let b = (i % 8 * 2) as u16;
     match m / 10 {
         0 => of_users(state, m, b),
         1 => of_assignments(state, m, depth, b),

@@ -6,10 +6,10 @@ use Rattle.bench.proofs.run.Statement.{statement}
 use Rattle.bench.proofs.run.Tie as tie
 
 abbrev Inv-loop : tie.InvT-loop
-Inv-loop script p₀ p = p .at ≤ length script
+Inv-loop script state₀ p₀ state p = p .at ≤ length script
 
 abbrev μ-loop : tie.MeasureT-loop
-μ-loop script p₀ p = length script - p .at
+μ-loop script state₀ p₀ state p = length script - p .at
 
 pub run-spec : {M : Type 1} → statement M
 run-spec =

@@ -11,7 +11,7 @@ use Rattle.script.specs.Script.{lineFeed}
 use Rattle.bench.proofs.write_line.Statement.{statement}
 use Rattle.bench.proofs.write_line.Tie as tie
 
-within : (c : tie.After-turn) → c .turn .result .len ≤ length (c .turn .last .1 .1 .0)
+within : (c : tie.After-turn) → c .turn .result .len ≤ length (c .turn .last .1 .1 .1 .0)
 within c = omega (arith, put-within (c .turn .ensures .text) (omega arith), put-length (c .turn .ensures .text))
 
 array-share-prefix-buf : tie.Need-array-share-prefix-buf
@@ -22,7 +22,7 @@ slice-aggregate-write-all c = sym (length-take-le _ _ (within (c .before .before
 
 returns : tie.Need-returns
 returns c = (
-  omega (arith, c .before .before .before .before .turn .ensures .place, past-more lineFeed (c .before .before .before .before .before .before .before .args .script .now) (c .before .before .before .before .before .before .before .args .p .at) (c .before .before .before .before .before .before .before .pre)),
+  omega (arith, c .before .before .before .before .turn .ensures .place, past-more lineFeed (c .before .before .before .before .before .before .before .before .args .script .now) (c .before .before .before .before .before .before .before .before .args .p .at) (c .before .before .before .before .before .before .before .before .pre)),
   omega (arith, c .before .before .before .before .turn .ensures .place),
 )
 
