@@ -9,7 +9,7 @@ use lib.Dec.{eqb}
 use lib.ListN.{getD}
 use Rattle.model.specs.Model.{Model, RoleSet, Session}
 use Rattle.demands.proofs.Demand1.{demand1}
-use Rattle.state.specs.Places.{holdersAt, assignedAt, juniorsAt, ssdCardsAt, ssdRolesAt, dsdCardsAt, dsdRolesAt, ownersAt, activeAt, usersAt, rolesAt}
+use Rattle.state.specs.Places.{holdersAt, assignedAt, juniorsAt, ssdCardsAt, ssdRolesAt, dsdCardsAt, dsdRolesAt, ownersAt, activeAt, usersAt, rolesAt, assignmentCountAt, grantCountAt, lineCountAt}
 use Rattle.state.specs.View.{part, paired, setOf, sessionOf, bits, view}
 use Rattle.state.proofs.Slots.{part-at}
 use Rattle.state.proofs.OneToOne.{one-more, words-one, part-small}
@@ -52,11 +52,11 @@ in-users before after sb sa e k h =
     ∙ words-one (part after usersAt 4) (part before usersAt 4) (part-small after (numbers-of after sa) usersAt 4) (part-small before (numbers-of before sb) usersAt 4) e k
     ∙ part-at before usersAt 4 k h
 
-in-roles : (before after : List ℕ) → view after .roles ≡ view before .roles → Same rolesAt 1 before after
-unfolding view
-in-roles before after e k h =
+-- one number
+number : (o : ℕ) (before after : List ℕ) → part after o 1 0 ≡ part before o 1 0 → Same o 1 before after
+number o before after e k h =
     let first : k ≡ 0 = omega arith in
-    rw first (sym (part-at after rolesAt 1 0 (omega arith)) ∙ e ∙ part-at before rolesAt 1 0 (omega arith))
+    rw first (sym (part-at after o 1 0 (omega arith)) ∙ e ∙ part-at before o 1 0 (omega arith))
 
 pub frame : Frame
 unfolding view
@@ -72,5 +72,8 @@ frame =
       dsd = λ before after e. pairs setOf dsdCardsAt 16 before after set-apart e;
       sessions = λ before after e. pairs sessionOf ownersAt 64 before after session-apart e;
       users = in-users;
-      roles = in-roles;
+      roles = λ before after e. number rolesAt before after e;
+      assignmentCount = λ before after e. number assignmentCountAt before after e;
+      grantCount = λ before after e. number grantCountAt before after e;
+      lineCount = λ before after e. number lineCountAt before after e;
     }

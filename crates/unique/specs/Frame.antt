@@ -9,7 +9,7 @@ use Rattle.model.specs.Sheet.{Told}
 use Rattle.model.specs.Step.{step}
 use Rattle.model.specs.declared.Command.{Command}
 use Rattle.policyform.specs.Promises.{Loads}
-use Rattle.state.specs.Places.{holdersAt, assignedAt, juniorsAt, ssdCardsAt, dsdCardsAt, ownersAt, usersAt, rolesAt}
+use Rattle.state.specs.Places.{holdersAt, assignedAt, juniorsAt, ssdCardsAt, dsdCardsAt, ownersAt, usersAt, rolesAt, assignmentCountAt, grantCountAt, lineCountAt}
 use Rattle.state.specs.View.{view}
 use Rattle.unique.specs.Unique.{State}
 
@@ -33,3 +33,6 @@ pub record Frame : Type 0 where
   pub sessions : (before after : List ℕ) → view after .sessions ≡ view before .sessions → Same ownersAt 128 before after
   pub users : (before after : List ℕ) → State before → State after → view after .users ≡ view before .users → Same usersAt 4 before after
   pub roles : (before after : List ℕ) → view after .roles ≡ view before .roles → Same rolesAt 1 before after
+  pub assignmentCount : (before after : List ℕ) → view after .assignmentCount ≡ view before .assignmentCount → Same assignmentCountAt 1 before after
+  pub grantCount : (before after : List ℕ) → view after .grantCount ≡ view before .grantCount → Same grantCountAt 1 before after
+  pub lineCount : (before after : List ℕ) → view after .lineCount ≡ view before .lineCount → Same lineCountAt 1 before after
