@@ -3,7 +3,7 @@
 use borrow.Author.Tests.{leb-false}
 use mathlib.Core.Bool.{false, _||_}
 use mathlib.Core.List.{List}
-use mathlib.Core.Path.{_≡_, refl, sym, ap, ap₂, _∙_}
+use mathlib.Core.Path.{_≡_, refl, ap, ap₂, _∙_}
 use Prim.Native.Nat.{ℕ, _<_}
 use native.Mathlib.Omega.{arith}
 use lib.Dec.{leb}
@@ -14,17 +14,14 @@ use Rattle.hierarchy.specs.Lines.{tableOf}
 use Rattle.model.specs.Model.{Model, put, withAssignments, withGrants, withSessions}
 use Rattle.model.specs.Words.{permission, shed, shedCut}
 use Rattle.model.specs.commands.Assigning.{deassigned}
-use Rattle.model.specs.commands.Naming.{noUser, noRole, noPermission}
+use Rattle.model.specs.commands.Naming.{noRole, noPermission}
 use Rattle.state.specs.Stores.{inRange, withActive, Table}
 use Rattle.state.specs.View.{part, view}
-use Rattle.state.proofs.Stored.{in-range}
+use Rattle.state.proofs.Stored.{placed}
 use Rattle.sweeps.specs.Sweeps.{ShedsAll}
 use Rattle.sweeps.specs.declared.Kept.{Kept}
 use Rattle.sweeps.proofs.Changing.{as-part, table-put}
-use Rattle.sweeps.proofs.Shedding.{sheds-same, shed-cut, shed-after, view-past}
-
-pub user-within : (u r : ℕ) → (noUser u || noRole r) ≡ false → u < 256
-user-within u r h = leb-false 256 u (or-clear (noUser u) (noRole r) h .0)
+use Rattle.sweeps.proofs.Shedding.{sheds-same, shed-cut, shed-stored, view-past}
 
 pub permission-within : (op obj r : ℕ) → (noPermission op obj || noRole r) ≡ false → permission op obj < 4096
 permission-within op obj r h =
@@ -34,10 +31,10 @@ permission-within op obj r h =
 -- the roles stored at one place of a table, and the count, are these
 module _ (m after : Model) (k roles new standing count : ℕ) (is : roles ≡ new) (counted : standing ≡ count) where
   pub assigned-stored : k < 256 → after ≡ inRange 256 k m (withAssignments m (put (m .assigned) k roles) standing) → after ≡ withAssignments m (put (m .assigned) k new) count
-  assigned-stored h e = e ∙ in-range 256 k m _ h ∙ ap₂ (λ (x n : ℕ). withAssignments m (put (m .assigned) k x) n) is counted
+  assigned-stored h e = placed 256 k m _ after h e ∙ ap₂ (λ (x n : ℕ). withAssignments m (put (m .assigned) k x) n) is counted
 
   pub holders-stored : k < 4096 → after ≡ inRange 4096 k m (withGrants m (put (m .holders) k roles) standing) → after ≡ withGrants m (put (m .holders) k new) count
-  holders-stored h e = e ∙ in-range 4096 k m _ h ∙ ap₂ (λ (x n : ℕ). withGrants m (put (m .holders) k x) n) is counted
+  holders-stored h e = placed 4096 k m _ after h e ∙ ap₂ (λ (x n : ℕ). withGrants m (put (m .holders) k x) n) is counted
 
 -- the sweep goes over the lines as they are and the assignments as they will be
 module _ (l juniors assigned : List ℕ) (u r new : ℕ) (kept : Kept) (h : u < 256) (is : new ≡ without (view l .assigned u) r) (lines : Table 64 (view l .juniors) juniors) (holds : Table 256 (view l .assigned) assigned) (sheds : ShedsAll (tableOf juniors) (part (set assigned u new) 0 256) (view l .sessions) kept) where
@@ -50,4 +47,4 @@ module _ (l juniors assigned : List ℕ) (u r new : ℕ) (kept : Kept) (h : u < 
 
   pub deassigned-shed : (between after : Model) → between ≡ deassigned (view l) u r → after ≡ withSessions between (withActive (between .sessions) (part (kept .active) 0 64)) → after ≡ shed (deassigned (view l) u r)
   unfolding deassigned
-  deassigned-shed between after stored e = e ∙ ap (λ (x : Model). withSessions x (withActive (x .sessions) (part (kept .active) 0 64))) stored ∙ sym (shed-after (deassigned (view l) u r) kept swept (view-past l))
+  deassigned-shed = shed-stored (deassigned (view l) u r) kept swept (view-past l)

@@ -1,30 +1,23 @@
--- What `inherit` and `disinherit` share: the roles that they name, and the lines after a change, before and after they are stored. Assumes nothing.
-use borrow.Author.Tests.{leb-false}
-use mathlib.Core.Bool.{Bool, false, not, _&&_, _||_}
+-- What `inherit` and `disinherit` share: the lines after a change, before and after they are stored. Assumes nothing.
+use mathlib.Core.Bool.{Bool, false, not, _&&_}
 use mathlib.Core.List.{List}
 use mathlib.Core.Path.{_≡_, refl, sym, ap, ap₂, _∙_, subst}
 use Prim.Native.Nat.{ℕ, _+_, _-_, _≤_, _<_}
 use lib.ListN.{set}
 use Rattle.roleset.specs.Bounded.{some}
 use Rattle.roleset.specs.Roles.{with, without}
-use Rattle.roleset.proofs.BoundedLaws.{or-clear}
 use Rattle.hierarchy.specs.Lines.{tableOf}
 use Rattle.model.specs.Model.{Model, noSession, put, withLines, withSessions}
 use Rattle.model.specs.Words.{staticBroken, shed, shedCut}
 use Rattle.model.specs.commands.Inheriting.{lined, unlined, usersCut}
-use Rattle.model.specs.commands.Naming.{noRole}
 use Rattle.state.specs.Stores.{Table, inRange, withActive}
 use Rattle.state.specs.View.{part}
-use Rattle.state.proofs.Stored.{in-range}
+use Rattle.state.proofs.Stored.{placed}
 use Rattle.sweeps.specs.Sweeps.{Asks, AsksStatic, ShedsAll}
 use Rattle.sweeps.specs.declared.Asked.{Asked}
 use Rattle.sweeps.specs.declared.Kept.{Kept}
 use Rattle.sweeps.proofs.Changing.{as-part, table-put}
-use Rattle.sweeps.proofs.Shedding.{sheds-same, shed-cut, shed-after}
-
--- past refusal 1 the senior is a place of the table of lines
-pub senior-within : (senior junior : ℕ) → (noRole senior || noRole junior) ≡ false → senior < 64
-senior-within senior junior h = leb-false 64 senior (or-clear (noRole senior) (noRole junior) h .0)
+use Rattle.sweeps.proofs.Shedding.{sheds-same, shed-cut, shed-stored}
 
 -- where a rule is not broken, the flag says whether a walk was cut off
 pub asked-cut : {isBroken isCut : Bool} {a : Asked} → Asks isBroken isCut a → a .broken ≡ false → isCut ≡ a .cut
@@ -39,7 +32,7 @@ module _ (m : Model) (senior junior : ℕ) (h : senior < 64) where
 
     pub lined-stored : (after : Model) (standing : ℕ) → standing ≡ m .lineCount → after ≡ inRange 64 senior m (withLines m (put (m .juniors) senior new) (standing + 1)) → after ≡ lined m senior junior
     unfolding lined
-    lined-stored after standing n s = s ∙ in-range 64 senior m _ h ∙ ap₂ (λ (roles count : ℕ). withLines m (put (m .juniors) senior roles) (count + 1)) e n
+    lined-stored after standing n s = placed 64 senior m _ after h s ∙ ap₂ (λ (roles count : ℕ). withLines m (put (m .juniors) senior roles) (count + 1)) e n
 
   -- without the line: what a sweep that sheds finds, and the lines and the active roles stored
   module _ (new : ℕ) (e : new ≡ without (m .juniors senior) junior) (x y : List ℕ) (kept : Kept) (lines : Table 64 (m .juniors) x) (holds : Table 256 (m .assigned) y) (sheds : ShedsAll (tableOf (set x senior new)) (part y 0 256) (m .sessions) kept) where
@@ -52,7 +45,4 @@ module _ (m : Model) (senior junior : ℕ) (h : senior < 64) where
 
     pub unlined-stored : ((k : ℕ) → 64 ≤ k → m .sessions k ≡ noSession) → (between after : Model) (standing : ℕ) → standing ≡ m .lineCount - 1 → between ≡ inRange 64 senior m (withLines m (put (m .juniors) senior new) standing) → after ≡ withSessions between (withActive (between .sessions) (part (kept .active) 0 64)) → after ≡ shed (unlined m senior junior)
     unfolding unlined
-    unlined-stored past between after standing n s t =
-        t
-        ∙ ap (λ (x : Model). withSessions x (withActive (x .sessions) (part (kept .active) 0 64))) (s ∙ in-range 64 senior m _ h ∙ ap₂ (λ (roles count : ℕ). withLines m (put (m .juniors) senior roles) count) e n)
-        ∙ sym (shed-after (unlined m senior junior) kept fewer past)
+    unlined-stored past between after standing n s t = shed-stored (unlined m senior junior) kept fewer past between after (placed 64 senior m _ between h s ∙ ap₂ (λ (roles count : ℕ). withLines m (put (m .juniors) senior roles) count) e n) t

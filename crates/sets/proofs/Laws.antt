@@ -1,5 +1,5 @@
 -- Laws of the set commands. Assumes nothing.
-use borrow.Author.Tests.{leb-false, not-true, not-false}
+use borrow.Author.Tests.{not-true, not-false}
 use mathlib.Core.Bool.{Bool, true, false, not, _||_}
 use mathlib.Core.List.{List, []}
 use mathlib.Core.Path.{_≡_, sym, ap, _∙_}
@@ -14,20 +14,12 @@ use Rattle.model.specs.commands.Naming.{noSet}
 use Rattle.model.specs.commands.Sets.{setsOf, setMissing, aSet}
 use Rattle.model.specs.declared.Kind.{Kind}
 use Rattle.state.specs.Stores.{inRange, setStored, withMembers}
-use Rattle.state.proofs.Stored.{in-range}
-
--- past refusal 1 the name is a place of its table
-pub name-within : (name : ℕ) (rest : Bool) → (noSet name || rest) ≡ false → name < 16
-name-within name rest h = leb-false 16 name (or-clear (noSet name) rest h .0)
-
--- what is stored at a place of the table is stored
-pub placed : (name : ℕ) (m x after : Model) → name < 16 → after ≡ inRange 16 name m x → after ≡ x
-placed name m x after h e = e ∙ in-range 16 name m x h
+use Rattle.state.proofs.Stored.{placed}
 
 -- a set that is there takes these members: it stays there, with its cardinality
 pub members-placed : (kind : Kind) (name : ℕ) (m after : Model) (roles : ℕ) (rest : Bool) → name < 16 → (setMissing kind m name || rest) ≡ false → after ≡ inRange 16 name m (setStored kind m name (withMembers (setsOf kind m name) roles)) → after ≡ setStored kind m name (aSet (setsOf kind m name .card) roles)
 members-placed kind name m after roles rest h there e =
-    placed name m _ after h e
+    placed 16 name m _ after h e
     ∙ ap (λ (t : Bool). setStored kind m name (record { there = t; card = setsOf kind m name .card; roles = roles })) (not-false (setsOf kind m name .there) (or-clear (setMissing kind m name) rest there .0))
 
 -- the refusals that are asked last decide

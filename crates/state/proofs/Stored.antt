@@ -1,13 +1,14 @@
 -- The view of a state after a store: what changes, and that all else stays. Assumes nothing.
-use mathlib.Core.Bool.{Bool, true, false, or-true, or-false, and-true, and-false}
+use mathlib.Core.Bool.{Bool, true, false, _||_, or-true, or-false, and-true, and-false}
 use mathlib.Core.List.{List}
 use mathlib.Core.Path.{_≡_, refl, sym, ap, ap₂, _∙_, fun-ext}
 use Prim.Native.Nat.{ℕ, _+_, _-_, _/_, _%_, _<_, _≤_}
 use native.Mathlib.Omega.{arith}
-use lib.Dec.{eqb}
-use borrow.Author.Tests.{eqb-true, eqb-false, lt-ltb, le-ltb, eq-eqb, ne-eqb}
+use lib.Dec.{eqb, leb}
+use borrow.Author.Tests.{eqb-true, eqb-false, leb-false, lt-ltb, le-ltb, eq-eqb, ne-eqb}
 use lib.ListN.{getD, length, set}
 use Rattle.roleset.specs.Roles.{has}
+use Rattle.roleset.proofs.BoundedLaws.{or-clear}
 use Rattle.roleset.proofs.Laws.{has-none, has-with, has-without}
 use Rattle.model.specs.Model.{Model, empty, RoleSet, Session, put, withUsers, withRoles, withLines, withAssignments, withGrants, withSsd, withDsd, withSessions}
 use Rattle.model.proofs.Puts.{put-same, put-other}
@@ -29,6 +30,14 @@ in-range n k before after h = rw (inRange, lt-ltb k n h)
 pub beyond : (n k : ℕ) (before after : Model) → n ≤ k → inRange n k before after ≡ before
 unfolding inRange
 beyond n k before after h = rw (inRange, le-ltb k n h)
+
+-- past refusal 1 a number is a place of its table, whatever else was asked with it
+pub within : (n k : ℕ) (rest : Bool) → (leb n k || rest) ≡ false → k < n
+within n k rest h = leb-false n k (or-clear (leb n k) rest h .0)
+
+-- and what is stored there is stored
+pub placed : (n k : ℕ) (before x after : Model) → k < n → after ≡ inRange n k before x → after ≡ x
+placed n k before x after h e = e ∙ in-range n k before x h
 
 -- ---- the view of a state that differs within one part
 

@@ -56,3 +56,7 @@ module _ (m : Model) (kept : Kept) (sheds : ShedsAll (m .juniors) (m .assigned) 
       go : (k : ℕ) → Dec (k < 64) → shedded (m .juniors) (m .assigned) (m .sessions k) ≡ withActive (m .sessions) (part (kept .active) 0 64) k
       go k (yes p) = shedded-active (m .juniors) (m .assigned) (m .sessions k) ∙ ap (λ (x : ℕ). record { live = m .sessions k .live; owner = m .sessions k .owner; active = x }) (sym (getD-take 64 (kept .active) k 0 p ∙ sheds .each k p))
       go k (no p) = let z : 64 ≤ k = omega arith in rw (past k z, part-none (kept .active) 0 64 k z) (shedded-none (m .juniors) (m .assigned))
+
+  -- a state that holds the model, and then stores what each session keeps, holds the model after shedding
+  pub shed-stored : ((k : ℕ) → 64 ≤ k → m .sessions k ≡ noSession) → (between after : Model) → between ≡ m → after ≡ withSessions between (withActive (between .sessions) (part (kept .active) 0 64)) → after ≡ shed m
+  shed-stored past between after stored e = e ∙ ap (λ (x : Model). withSessions x (withActive (x .sessions) (part (kept .active) 0 64))) stored ∙ sym (shed-after past)

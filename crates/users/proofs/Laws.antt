@@ -12,19 +12,19 @@ use Rattle.model.specs.Words.{shed, shedCut}
 use Rattle.model.specs.commands.Users.{withoutUser, withoutRole, allEnded, linesWith}
 use Rattle.state.specs.Stores.{inRange, withActive, Table}
 use Rattle.state.specs.View.{part, view}
-use Rattle.state.proofs.Stored.{in-range}
+use Rattle.state.proofs.Stored.{placed}
 use Rattle.sweeps.specs.Sweeps.{ShedsAll, Strips}
 use Rattle.sweeps.specs.declared.Kept.{Kept}
 use Rattle.sweeps.proofs.Changing.{as-part, table-put, table-stripped, table-had}
-use Rattle.sweeps.proofs.Shedding.{sheds-same, shed-cut, shed-after, view-past}
+use Rattle.sweeps.proofs.Shedding.{sheds-same, shed-cut, shed-stored, view-past}
 use Rattle.users.specs.Leaving.{leaving}
 
 -- the sessions have ended, the assignments are none and are counted, and the user is gone
 pub user-gone : (m ended between after : Model) (u standing : ℕ) → u < 256 → standing ≡ m .assignmentCount - count (m .assigned u) → ended ≡ allEnded m u → between ≡ inRange 256 u ended (withAssignments ended (put (ended .assigned) u 0) standing) → after ≡ inRange 256 u between (withUsers between (put (between .users) u false)) → after ≡ withoutUser m u
 unfolding withoutUser allEnded
 user-gone m ended between after u standing h counted e₁ e₂ e₃ =
-    e₃ ∙ in-range 256 u between _ h ∙ ap (λ (x : Model). withUsers x (put (x .users) u false))
-    (e₂ ∙ in-range 256 u ended _ h ∙ ap₂ (λ (x : Model) (n : ℕ). withAssignments x (put (x .assigned) u 0) n) e₁ counted)
+    placed 256 u between _ after h e₃ ∙ ap (λ (x : Model). withUsers x (put (x .users) u false))
+    (placed 256 u ended _ between h e₂ ∙ ap₂ (λ (x : Model) (n : ℕ). withAssignments x (put (x .assigned) u 0) n) e₁ counted)
 
 -- no more sets had the role than there are
 pub few : {n : ℕ} {f : ℕ → ℕ} (x after : List ℕ) (r gone : ℕ) → Table n f x → Strips x after r gone → gone ≤ n
@@ -51,9 +51,9 @@ module _ (l juniors assigned lines-left holds-left : List ℕ) (r above held : �
   pub role-gone : (between after : Model) (below : ℕ) → below ≡ count (getD lines-left r 0) → between ≡ leaving (view l) r (part (set lines-left r 0) 0 64) (above + below) (part holds-left 0 256) held → after ≡ withSessions between (withActive (between .sessions) (part (kept .active) 0 64)) → after ≡ shed (withoutRole (view l) r)
   unfolding withoutRole
   role-gone between after below counted stored e =
-      e ∙ ap (λ (x : Model). withSessions x (withActive (x .sessions) (part (kept .active) 0 64)))
+      shed-stored (withoutRole (view l) r) kept swept (view-past l) between after
       (stored ∙ ap₂ (λ (f : ℕ → ℕ) (n : ℕ). leaving (view l) r f n (part holds-left 0 256) held) (as-part (set lines-left r 0) lines-after) gone ∙ ap₂ (λ (f : ℕ → ℕ) (n : ℕ). leaving (view l) r (put (λ s. without (view l .juniors s) r) r 0) (linesWith (view l) r) f n) (as-part holds-left holds-after) (table-had assigned holds-left r held holds no-user))
-      ∙ sym (shed-after (withoutRole (view l) r) kept swept (view-past l))
+      e
     where
       gone : above + below ≡ linesWith (view l) r
       gone = ap₂ (λ (x y : ℕ). x + y) (table-had juniors lines-left r above lines no-line) (counted ∙ ap (λ (f : ℕ → ℕ). count (f r)) (stripped .each))

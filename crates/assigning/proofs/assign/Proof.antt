@@ -16,7 +16,8 @@ use Rattle.model.specs.commands.Assigning.{assign, assigned}
 use Rattle.model.specs.commands.Naming.{noUser, noRole, userMissing, roleMissing}
 use Rattle.model.proofs.Puts.{assigned-static}
 use Rattle.state.specs.View.{view, told}
-use Rattle.assigning.proofs.Laws.{user-within, assigned-stored}
+use Rattle.state.proofs.Stored.{within}
+use Rattle.assigning.proofs.Laws.{assigned-stored}
 use Rattle.assigning.proofs.assign.Statement.{statement}
 use Rattle.assigning.proofs.assign.Tie as tie
 
@@ -140,7 +141,7 @@ returns-7 c =
     (assigned-stored (m s) _ (user s) _ _ _ _
     (new (c4 .before .before .before .before .before))
     (ap (λ (n : ℕ). n + 1) (c5 .before .assignment-count .ensures))
-    (user-within (user s) (role s) (clear-1 (to-1 c2)))
+    (within 256 (user s) (noRole (role s)) (clear-1 (to-1 c2)))
     (c .put-assigned .ensures)))
 
 pub assign-spec : {M : Type 1} → statement M

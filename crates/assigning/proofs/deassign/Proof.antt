@@ -11,7 +11,8 @@ use Rattle.model.specs.Words.{shed, shedCut}
 use Rattle.model.specs.commands.Assigning.{deassign, deassigned}
 use Rattle.model.specs.commands.Naming.{noUser, noRole, userMissing, roleMissing}
 use Rattle.state.specs.View.{view, told}
-use Rattle.assigning.proofs.Laws.{user-within, assigned-stored, deassigned-cut, deassigned-shed}
+use Rattle.state.proofs.Stored.{within}
+use Rattle.assigning.proofs.Laws.{assigned-stored, deassigned-cut, deassigned-shed}
 use Rattle.assigning.proofs.deassign.Statement.{statement}
 use Rattle.assigning.proofs.deassign.Tie as tie
 
@@ -45,8 +46,8 @@ found-1 c = rw (← c .before .before .user-beyond .ensures, ← c .before .role
 clear-1 : (c : tie.Else1) → (noUser (user (to-start c)) || noRole (role (to-start c))) ≡ false
 clear-1 c = found-1 (c .before) ∙ c .if1 .left
 
-within : (c : tie.Else1) → user (to-start c) < 256
-within c = user-within (user (to-start c)) (role (to-start c)) (clear-1 c)
+within-range : (c : tie.Else1) → user (to-start c) < 256
+within-range c = within 256 (user (to-start c)) (noRole (role (to-start c))) (clear-1 c)
 
 found-2 : (c : tie.After-either2) → let s = to-start (c .before .before .before .before .before) in (userMissing (m s) (user s) || roleMissing (m s) (role s)) ≡ c .either2 .result
 found-2 c = rw (← c .before .before .before .has-user .ensures, ← c .before .has-role .ensures) (sym (c .either2 .ensures))
@@ -67,7 +68,7 @@ found-4 c =
     let w = t .before .before .before .before in
     let c1 = to-1 (to-2 (to-3 c)) in
     let s = to-start c1 in
-    deassigned-cut (s .args .state .now) (t .before .before .juniors-table .result) (t .assigned-table .result) (user s) (role s) (w .without .result) (c .shed .result) (within c1) (left w) (t .before .before .juniors-table .ensures) (t .assigned-table .ensures) (c .shed .ensures)
+    deassigned-cut (s .args .state .now) (t .before .before .juniors-table .result) (t .assigned-table .result) (user s) (role s) (w .without .result) (c .shed .result) (within-range c1) (left w) (t .before .before .juniors-table .ensures) (t .assigned-table .ensures) (c .shed .ensures)
 
 -- the two stores: what is left to the user and how many assignments stand, and then what is left to the sessions
 stored : (c : tie.After-put-all-active) → let s = to-start (to-1 (to-2 (to-3 (c .before .before .before .before .before .before .before .before .before .before)))) in view (c .put-all-active .last .0) ≡ shed (deassigned (m s) (user s) (role s))
@@ -79,8 +80,8 @@ stored c =
     let w = t .before .before .before .before in
     let c1 = to-1 (to-2 (to-3 swept)) in
     let s = to-start c1 in
-    deassigned-shed (s .args .state .now) (t .before .before .juniors-table .result) (t .assigned-table .result) (user s) (role s) (w .without .result) (swept .shed .result) (within c1) (left w) (t .before .before .juniors-table .ensures) (t .assigned-table .ensures) (swept .shed .ensures) _ _
-    (assigned-stored (m s) _ (user s) _ _ _ _ (left w) (counted .less .ensures ∙ ap (λ (n : ℕ). n - 1) (counted .before .assignment-count .ensures)) (within c1) (c .before .before .before .before .put-assigned .ensures))
+    deassigned-shed (s .args .state .now) (t .before .before .juniors-table .result) (t .assigned-table .result) (user s) (role s) (w .without .result) (swept .shed .result) (within-range c1) (left w) (t .before .before .juniors-table .ensures) (t .assigned-table .ensures) (swept .shed .ensures) _ _
+    (assigned-stored (m s) _ (user s) _ _ _ _ (left w) (counted .less .ensures ∙ ap (λ (n : ℕ). n - 1) (counted .before .assignment-count .ensures)) (within-range c1) (c .before .before .before .before .put-assigned .ensures))
     (c .put-all-active .ensures)
 
 returns : tie.Need-returns
@@ -114,7 +115,7 @@ returns-5 c =
     (ap (done []) (stored c))
 
 array-write-assigned : tie.Need-array-write-assigned
-array-write-assigned c = within (to-1 (to-2 (c .before .before .before .before .before .before)))
+array-write-assigned c = within-range (to-1 (to-2 (c .before .before .before .before .before .before)))
 
 pub deassign-spec : {M : Type 1} → statement M
 deassign-spec =

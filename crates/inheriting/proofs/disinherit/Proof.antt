@@ -12,7 +12,8 @@ use Rattle.model.specs.commands.Inheriting.{disinherit, unlined}
 use Rattle.model.specs.commands.Naming.{noRole, roleMissing}
 use Rattle.state.specs.View.{view, told}
 use Rattle.sweeps.proofs.Shedding.{view-past}
-use Rattle.inheriting.proofs.Laws.{senior-within, unlined-cut, unlined-stored}
+use Rattle.state.proofs.Stored.{within}
+use Rattle.inheriting.proofs.Laws.{unlined-cut, unlined-stored}
 use Rattle.inheriting.proofs.disinherit.Statement.{statement}
 use Rattle.inheriting.proofs.disinherit.Tie as tie
 
@@ -59,8 +60,8 @@ found-1 c = rw (← c .before .before .role-beyond .ensures, ← c .before .role
 clear-1 : (c : tie.Else1) → (noRole (senior (to-start c)) || noRole (junior (to-start c))) ≡ false
 clear-1 c = found-1 (c .before) ∙ c .if1 .left
 
-within : (c : tie.Else1) → senior (to-start c) < 64
-within c = senior-within (senior (to-start c)) (junior (to-start c)) (clear-1 c)
+within-range : (c : tie.Else1) → senior (to-start c) < 64
+within-range c = within 64 (senior (to-start c)) (noRole (junior (to-start c))) (clear-1 c)
 
 found-2 : (c : tie.After-either2) → let s = to-start (c .before .before .before .before .before) in (roleMissing (m s) (senior s) || roleMissing (m s) (junior s)) ≡ c .either2 .result
 found-2 c = rw (← c .before .before .before .has-role .ensures, ← c .before .has-role2 .ensures) (sym (c .either2 .ensures))
@@ -81,7 +82,7 @@ found-4 c =
     let c3 = to-3 c in
     let s = start-3 c3 in
     let holds = c .before .before .before .before in
-    unlined-cut (m s) (senior s) (junior s) (within (to-1 (to-2 c3))) (table .before .before .without .result) (new (table .before .before)) (table .juniors-table .result) (holds .assigned-table .result) (c .shed .result) (table .juniors-table .ensures) (holds .assigned-table .ensures) (c .shed .ensures)
+    unlined-cut (m s) (senior s) (junior s) (within-range (to-1 (to-2 c3))) (table .before .before .without .result) (new (table .before .before)) (table .juniors-table .result) (holds .assigned-table .result) (c .shed .result) (table .juniors-table .ensures) (holds .assigned-table .ensures) (c .shed .ensures)
 
 -- the two stores: the lines, and then what is left to the sessions
 stored : (c : tie.After-put-all-active) → let s = start-3 (to-3 (to-shed c)) in view (c .put-all-active .last .0) ≡ shed (unlined (m s) (senior s) (junior s))
@@ -93,7 +94,7 @@ stored c =
     let holds = swept .before .before .before .before in
     let put = c .before .before .before in
     let left = put .before .before .before in
-    unlined-stored (m s) (senior s) (junior s) (within (to-1 (to-2 c3))) (table .before .before .without .result) (new (table .before .before)) (table .juniors-table .result) (holds .assigned-table .result) (swept .shed .result) (table .juniors-table .ensures) (holds .assigned-table .ensures) (swept .shed .ensures)
+    unlined-stored (m s) (senior s) (junior s) (within-range (to-1 (to-2 c3))) (table .before .before .without .result) (new (table .before .before)) (table .juniors-table .result) (holds .assigned-table .result) (swept .shed .result) (table .juniors-table .ensures) (holds .assigned-table .ensures) (swept .shed .ensures)
     (view-past (s .args .state .now)) (view (put .put-juniors .last .0)) (view (c .put-all-active .last .0)) (left .less .result) (left .less .ensures ∙ ap (λ (n : ℕ). n - 1) (left .before .line-count .ensures)) (put .put-juniors .ensures) (c .put-all-active .ensures)
 
 returns : tie.Need-returns
@@ -111,7 +112,7 @@ returns-3 c =
     rw (clear-1 (to-1 c2), clear-2 c2, found-3 (c .before), c .if3 .taken)
 
 array-write-juniors : tie.Need-array-write-juniors
-array-write-juniors c = within (to-1 (to-2 (c .before .before .before .before)))
+array-write-juniors c = within-range (to-1 (to-2 (c .before .before .before .before)))
 
 returns-4 : tie.Need-returns-4
 unfolding told disinherit settle verdict

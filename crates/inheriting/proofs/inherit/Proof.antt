@@ -17,7 +17,8 @@ use Rattle.model.specs.commands.Inheriting.{inherit, lined, wouldCircle, usersC
 use Rattle.model.specs.commands.Naming.{noRole, roleMissing}
 use Rattle.state.specs.View.{view, told}
 use Rattle.sweeps.specs.Sweeps.{Asks}
-use Rattle.inheriting.proofs.Laws.{senior-within, asked-cut, asks-lined, lined-stored}
+use Rattle.state.proofs.Stored.{within}
+use Rattle.inheriting.proofs.Laws.{asked-cut, asks-lined, lined-stored}
 use Rattle.inheriting.proofs.inherit.Statement.{statement}
 use Rattle.inheriting.proofs.inherit.Tie as tie
 
@@ -67,8 +68,8 @@ found-1 c = rw (← c .before .before .role-beyond .ensures, ← c .before .role
 clear-1 : (c : tie.Else1) → (noRole (senior (to-start c)) || noRole (junior (to-start c))) ≡ false
 clear-1 c = found-1 (c .before) ∙ c .if1 .left
 
-within : (c : tie.Else1) → senior (to-start c) < 64
-within c = senior-within (senior (to-start c)) (junior (to-start c)) (clear-1 c)
+within-range : (c : tie.Else1) → senior (to-start c) < 64
+within-range c = within 64 (senior (to-start c)) (noRole (junior (to-start c))) (clear-1 c)
 
 found-2 : (c : tie.After-either2) → let s = to-start (c .before .before .before .before .before) in (roleMissing (m s) (senior s) || roleMissing (m s) (junior s)) ≡ c .either2 .result
 found-2 c = rw (← c .before .before .before .has-role .ensures, ← c .before .has-role2 .ensures) (sym (c .either2 .ensures))
@@ -101,7 +102,7 @@ asks c =
     let table = c .before .before .before .before in
     let c4 = to-4 c in
     let s = start-4 c4 in
-    asks-lined (m s) (senior s) (junior s) (within (to-1 (to-2 (to-3 c4)))) (table .before .before .with2 .result) (new (table .before .before)) (table .juniors-table .result) (c .ask-static .result) (table .juniors-table .ensures) (c .ask-static .ensures)
+    asks-lined (m s) (senior s) (junior s) (within-range (to-1 (to-2 (to-3 c4)))) (table .before .before .with2 .result) (new (table .before .before)) (table .juniors-table .result) (c .ask-static .result) (table .juniors-table .ensures) (c .ask-static .ensures)
 
 found-5 : (c : tie.After-ask-static) → let s = start-4 (to-4 c) in some 256 (staticBroken (lined (m s) (senior s) (junior s))) ≡ c .ask-static .result .broken
 found-5 c = sym (asks c .broken)
@@ -127,7 +128,7 @@ stored c =
     let c4 = to-4 (to-asked c6) in
     let s = start-4 c4 in
     let with-line = to-asked c6 .before .before .before .before .before .before in
-    lined-stored (m s) (senior s) (junior s) (within (to-1 (to-2 (to-3 c4)))) (with-line .with2 .result) (new with-line) (view (c .put-juniors .last .0)) (c6 .before .line-count .result) (c6 .before .line-count .ensures) (c .put-juniors .ensures)
+    lined-stored (m s) (senior s) (junior s) (within-range (to-1 (to-2 (to-3 c4)))) (with-line .with2 .result) (new with-line) (view (c .put-juniors .last .0)) (c6 .before .line-count .result) (c6 .before .line-count .ensures) (c .put-juniors .ensures)
 
 returns : tie.Need-returns
 unfolding told inherit settle verdict
@@ -151,7 +152,7 @@ returns-4 c =
     rw (clear-1 (to-1 c2), clear-2 c2, clear-3 c3, found-4 (c .before) ∙ c .if4 .taken)
 
 array-write-juniors : tie.Need-array-write-juniors
-array-write-juniors c = within (to-1 (to-2 (to-3 (c .before .before .before .before))))
+array-write-juniors c = within-range (to-1 (to-2 (to-3 (c .before .before .before .before))))
 
 returns-5 : tie.Need-returns-5
 unfolding told inherit settle verdict

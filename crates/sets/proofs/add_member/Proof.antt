@@ -14,7 +14,8 @@ use Rattle.model.specs.declared.Kind.{Kind}
 use Rattle.state.specs.Stores.{setStored}
 use Rattle.state.specs.View.{view, told}
 use Rattle.sets.specs.Asking.{ruleRefusals}
-use Rattle.sets.proofs.Laws.{name-within, members-placed, last-refused, last-done}
+use Rattle.state.proofs.Stored.{within}
+use Rattle.sets.proofs.Laws.{members-placed, last-refused, last-done}
 use Rattle.sets.proofs.add_member.Statement.{statement}
 use Rattle.sets.proofs.add_member.Tie as tie
 
@@ -51,8 +52,8 @@ found-1 c = rw (← c .before .before .set-beyond .ensures, ← c .before .role-
 clear-1 : (c : tie.Else1) → (noSet (name (to-start c)) || noRole (role (to-start c))) ≡ false
 clear-1 c = found-1 (c .before) ∙ c .if1 .left
 
-within : (c : tie.Else1) → name (to-start c) < 16
-within c = name-within (name (to-start c)) (noRole (role (to-start c))) (clear-1 c)
+within-range : (c : tie.Else1) → name (to-start c) < 16
+within-range c = within 16 (name (to-start c)) (noRole (role (to-start c))) (clear-1 c)
 
 old : (c : tie.After-set-named) → set (to-start (to-1 c)) ≡ c .set-named .result
 old c = sym (c .set-named .ensures)
@@ -108,7 +109,7 @@ stored c =
     let at = c .before .before .before .before .before .before in
     let c2 = at .before .before .before in
     let s = to-start (to-1 (to-set c2)) in
-    members-placed (kind s) (name s) (m s) _ (at .with .result) (roleMissing (m s) (role s)) (within (to-1 (to-set c2))) (clear-2 c2) (c .put-members .ensures)
+    members-placed (kind s) (name s) (m s) _ (at .with .result) (roleMissing (m s) (role s)) (within-range (to-1 (to-set c2))) (clear-2 c2) (c .put-members .ensures)
     ∙ ap (λ (x : ℕ). setStored (kind s) (m s) (name s) (aSet (set s .card) x)) (sym (more at))
 
 returns-5 : tie.Need-returns-5

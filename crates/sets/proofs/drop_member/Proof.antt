@@ -12,7 +12,8 @@ use Rattle.model.specs.commands.Sets.{setsOf, aSet, badCardinality, dropMember}
 use Rattle.model.specs.declared.Kind.{Kind}
 use Rattle.state.specs.Stores.{setStored}
 use Rattle.state.specs.View.{view, told}
-use Rattle.sets.proofs.Laws.{name-within, members-placed}
+use Rattle.state.proofs.Stored.{within}
+use Rattle.sets.proofs.Laws.{members-placed}
 use Rattle.sets.proofs.drop_member.Statement.{statement}
 use Rattle.sets.proofs.drop_member.Tie as tie
 
@@ -49,8 +50,8 @@ found-1 c = rw (← c .before .before .set-beyond .ensures, ← c .before .role-
 clear-1 : (c : tie.Else1) → (noSet (name (to-start c)) || noRole (role (to-start c))) ≡ false
 clear-1 c = found-1 (c .before) ∙ c .if1 .left
 
-within : (c : tie.Else1) → name (to-start c) < 16
-within c = name-within (name (to-start c)) (noRole (role (to-start c))) (clear-1 c)
+within-range : (c : tie.Else1) → name (to-start c) < 16
+within-range c = within 16 (name (to-start c)) (noRole (role (to-start c))) (clear-1 c)
 
 old : (c : tie.After-set-named) → set (to-start (to-1 c)) ≡ c .set-named .result
 old c = sym (c .set-named .ensures)
@@ -98,7 +99,7 @@ stored c =
     let at = c .before .before .before .before in
     let c2 = at .before .before .before in
     let s = to-start (to-1 (to-set c2)) in
-    members-placed (kind s) (name s) (m s) _ (at .without .result) (roleMissing (m s) (role s)) (within (to-1 (to-set c2))) (clear-2 c2) (c .put-members .ensures)
+    members-placed (kind s) (name s) (m s) _ (at .without .result) (roleMissing (m s) (role s)) (within-range (to-1 (to-set c2))) (clear-2 c2) (c .put-members .ensures)
     ∙ ap (λ (x : ℕ). setStored (kind s) (m s) (name s) (aSet (set s .card) x)) (sym (left at))
 
 returns-5 : tie.Need-returns-5

@@ -11,7 +11,7 @@ use Rattle.model.specs.commands.Naming.{noSet}
 use Rattle.model.specs.commands.Sets.{setsOf, dropSet}
 use Rattle.model.specs.declared.Kind.{Kind}
 use Rattle.state.specs.View.{view, told}
-use Rattle.sets.proofs.Laws.{placed}
+use Rattle.state.proofs.Stored.{placed}
 use Rattle.sets.proofs.drop_set.Statement.{statement}
 use Rattle.sets.proofs.drop_set.Tie as tie
 
@@ -52,7 +52,7 @@ returns-3 c =
     let at = c .before .before .before .before in
     let s = to-start at in
     rw (clear-1 (at .before .before), old at, c .before .before .if2 .left)
-    (ap (done []) (placed (name s) (m s) _ _ (leb-false 16 (name s) (clear-1 (at .before .before))) (c .clear-set .ensures)))
+    (ap (done []) (placed 16 (name s) (m s) _ _ (leb-false 16 (name s) (clear-1 (at .before .before))) (c .clear-set .ensures)))
 
 pub drop-set-spec : {M : Type 1} → statement M
 drop-set-spec =

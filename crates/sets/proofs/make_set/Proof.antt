@@ -15,7 +15,8 @@ use Rattle.model.specs.declared.Kind.{Kind}
 use Rattle.state.specs.Stores.{setStored}
 use Rattle.state.specs.View.{view, told}
 use Rattle.sets.specs.Asking.{ruleRefusals}
-use Rattle.sets.proofs.Laws.{name-within, placed, last-refused, last-done}
+use Rattle.state.proofs.Stored.{placed, within}
+use Rattle.sets.proofs.Laws.{last-refused, last-done}
 use Rattle.sets.proofs.make_set.Statement.{statement}
 use Rattle.sets.proofs.make_set.Tie as tie
 
@@ -148,7 +149,7 @@ stored c =
     let c5 = to-5 (c .before .before .before .before) in
     let c2 = to-2 (to-3 (to-4 c5)) in
     let s = from-5 c5 in
-    rw (asked-of (to-1 c2)) (placed (name s) (m s) (setStored (kind s) (m s) (name s) (aSet (card s) (to-1 c2 .before .before .read .result .roles))) _ (name-within (name s) (someFrom 64 (list s)) (clear-2 c2)) (c .put-set .ensures))
+    rw (asked-of (to-1 c2)) (placed 16 (name s) (m s) (setStored (kind s) (m s) (name s) (aSet (card s) (to-1 c2 .before .before .read .result .roles))) _ (within 16 (name s) (someFrom 64 (list s)) (clear-2 c2)) (c .put-set .ensures))
 
 returns-7 : tie.Need-returns-7
 unfolding told makeSet settle verdict

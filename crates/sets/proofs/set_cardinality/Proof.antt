@@ -14,7 +14,8 @@ use Rattle.model.specs.declared.Kind.{Kind}
 use Rattle.state.specs.Stores.{setStored}
 use Rattle.state.specs.View.{view, told}
 use Rattle.sets.specs.Asking.{ruleRefusals}
-use Rattle.sets.proofs.Laws.{placed, last-refused, last-done}
+use Rattle.state.proofs.Stored.{placed}
+use Rattle.sets.proofs.Laws.{last-refused, last-done}
 use Rattle.sets.proofs.set_cardinality.Statement.{statement}
 use Rattle.sets.proofs.set_cardinality.Tie as tie
 
@@ -102,7 +103,7 @@ stored : (c : tie.After-put-set) → let s = to-start (to-1 (to-set (to-2 (c .be
 stored c =
     let at = to-set (to-2 (c .before .before .before .before)) in
     let s = to-start (to-1 at) in
-    rw (old at) (placed (name s) (m s) (setStored (kind s) (m s) (name s) (aSet (card s) (at .set-named .result .roles))) _ (leb-false 16 (name s) (clear-1 (to-1 at))) (c .put-set .ensures))
+    rw (old at) (placed 16 (name s) (m s) (setStored (kind s) (m s) (name s) (aSet (card s) (at .set-named .result .roles))) _ (leb-false 16 (name s) (clear-1 (to-1 at))) (c .put-set .ensures))
 
 returns-5 : tie.Need-returns-5
 unfolding told setCardinality settle verdict
