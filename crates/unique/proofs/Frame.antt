@@ -62,9 +62,9 @@ pub frame : Frame
 unfolding view
 frame =
     record {
-      one = λ before after sb sa e. states (view before) after before sa sb e refl;
-      refused = λ before after sb sa c list h e. states (view before) after before sa sb (e ∙ demand1 .commands (view before) c list .unchanged h) refl;
-      unloaded = λ before after sb sa bytes told l h e. states (view before) after before sa sb (e ∙ demand1 .loads (view before) bytes told l .unchanged h) refl;
+      one = λ before after sb sa e. states sa sb e refl;
+      refused = λ before after sb sa c list h e. states sa sb (e ∙ demand1 .commands (view before) c list .unchanged h) refl;
+      unloaded = λ before after sb sa bytes told l h e. states sa sb (e ∙ demand1 .loads (view before) bytes told l .unchanged h) refl;
       holders = λ before after e. table holdersAt 4096 before after e;
       assigned = λ before after e. table assignedAt 256 before after e;
       juniors = λ before after e. table juniorsAt 64 before after e;

@@ -7,7 +7,7 @@ use Rattle.model.specs.Model.{Model}
 use Rattle.model.specs.Sheet.{Told}
 use Rattle.model.specs.Step as steps
 use Rattle.model.specs.declared.Command.{Command}
-use Rattle.model.specs.declared.Command.the-variants.{AddUser, AddRole, NoUser, NoRole, Assign, Deassign, Grant, Revoke, Inherit, Disinherit, MakeSet, DropSet, AddMember, DropMember, SetCardinality, OpenSession, Activate, DropActive, EndSession}
+use Rattle.model.specs.declared.Command.the-variants as commands
 use Rattle.state.specs.View.{view, told}
 use Rattle.sessions.specs.Answering.{toldOpened}
 use Rattle.lines.specs.Parts.{partAt}
@@ -15,7 +15,11 @@ use Rattle.script.specs.Script.{lineFeed}
 use Rattle.scripts.proofs.Lines.{lines}
 use Rattle.demands.specs.Reachable.{Reachable, start, after, loaded}
 use Rattle.demands.proofs.Demand3.{demand3}
-use Rattle.unique.specs.Handed.{Handed, Owned, empty, user, role, nouser, norole, assign, deassign, grant, revoke, inherit, disinherit, make-set, drop-set, add-member, drop-member, set-cardinality, session, activate, drop, end, step, answer-line, turn, load}
+use Rattle.unique.specs.Handed.{Handed, Owned, empty}
+-- ---- written by tests/unique.py: their names
+use Rattle.unique.specs.Handed.{user, role, nouser, norole, assign, deassign, grant, revoke, inherit, disinherit, make-set, drop-set, add-member, drop-member, set-cardinality, session, activate, drop, end, step, load, answer-line, turn}
+
+-- ---- end of what tests/unique.py writes
 
 -- numbers that tell what the command tells hold a reachable policy
 stepped : (m : Model) → Reachable m → (c : Command) (list : List ℕ) (a : Answer) (l : List ℕ) → told a l ≡ steps.step m c list → Reachable (view l)
@@ -25,25 +29,27 @@ stepped m r c list a l e = subst Reachable (sym (ap (λ (t : Told). t .after) e)
 reachable : {l : List ℕ} → Handed l → Reachable (view l)
 unfolding steps.step told toldOpened
 reachable (empty c) = subst Reachable (sym (c .met)) start
-reachable (user c h) = stepped _ (reachable h) (AddUser (c .given .1 .0)) [] (c .result) _ (c .met)
-reachable (role c h) = stepped _ (reachable h) (AddRole (c .given .1 .0)) [] (c .result) _ (c .met)
-reachable (nouser c h) = stepped _ (reachable h) (NoUser (c .given .1 .0)) [] (c .result) _ (c .met)
-reachable (norole c h) = stepped _ (reachable h) (NoRole (c .given .1 .0)) [] (c .result) _ (c .met)
-reachable (assign c h) = stepped _ (reachable h) (Assign (c .given .1 .0) (c .given .1 .1 .0)) [] (c .result) _ (c .met)
-reachable (deassign c h) = stepped _ (reachable h) (Deassign (c .given .1 .0) (c .given .1 .1 .0)) [] (c .result) _ (c .met)
-reachable (grant c h) = stepped _ (reachable h) (Grant (c .given .1 .0) (c .given .1 .1 .0) (c .given .1 .1 .1 .0)) [] (c .result) _ (c .met)
-reachable (revoke c h) = stepped _ (reachable h) (Revoke (c .given .1 .0) (c .given .1 .1 .0) (c .given .1 .1 .1 .0)) [] (c .result) _ (c .met)
-reachable (inherit c h) = stepped _ (reachable h) (Inherit (c .given .1 .0) (c .given .1 .1 .0)) [] (c .result) _ (c .met)
-reachable (disinherit c h) = stepped _ (reachable h) (Disinherit (c .given .1 .0) (c .given .1 .1 .0)) [] (c .result) _ (c .met)
-reachable (make-set c h) = stepped _ (reachable h) (MakeSet (c .given .1 .0) (c .given .1 .1 .0) (c .given .1 .1 .1 .0)) (c .given .1 .1 .1 .1 .0 .now) (c .result) _ (c .met)
-reachable (drop-set c h) = stepped _ (reachable h) (DropSet (c .given .1 .0) (c .given .1 .1 .0)) [] (c .result) _ (c .met)
-reachable (add-member c h) = stepped _ (reachable h) (AddMember (c .given .1 .0) (c .given .1 .1 .0) (c .given .1 .1 .1 .0)) [] (c .result) _ (c .met)
-reachable (drop-member c h) = stepped _ (reachable h) (DropMember (c .given .1 .0) (c .given .1 .1 .0) (c .given .1 .1 .1 .0)) [] (c .result) _ (c .met)
-reachable (set-cardinality c h) = stepped _ (reachable h) (SetCardinality (c .given .1 .0) (c .given .1 .1 .0) (c .given .1 .1 .1 .0)) [] (c .result) _ (c .met)
-reachable (session c h) = subst Reachable (sym (ap (λ (t : Told). t .after) (c .met .tells))) (after (reachable h) (OpenSession (c .given .1 .0)) (c .given .1 .1 .0 .now))
-reachable (activate c h) = stepped _ (reachable h) (Activate (c .given .1 .0) (c .given .1 .1 .0) (c .given .1 .1 .1 .0)) [] (c .result) _ (c .met)
-reachable (drop c h) = stepped _ (reachable h) (DropActive (c .given .1 .0) (c .given .1 .1 .0) (c .given .1 .1 .1 .0)) [] (c .result) _ (c .met)
-reachable (end c h) = stepped _ (reachable h) (EndSession (c .given .1 .0) (c .given .1 .1 .0)) [] (c .result) _ (c .met)
+-- ---- written by tests/unique.py: the commands
+reachable (user c h) = stepped _ (reachable h) (commands.AddUser (c .given .1 .0)) [] (c .result) _ (c .met)
+reachable (role c h) = stepped _ (reachable h) (commands.AddRole (c .given .1 .0)) [] (c .result) _ (c .met)
+reachable (nouser c h) = stepped _ (reachable h) (commands.NoUser (c .given .1 .0)) [] (c .result) _ (c .met)
+reachable (norole c h) = stepped _ (reachable h) (commands.NoRole (c .given .1 .0)) [] (c .result) _ (c .met)
+reachable (assign c h) = stepped _ (reachable h) (commands.Assign (c .given .1 .0) (c .given .1 .1 .0)) [] (c .result) _ (c .met)
+reachable (deassign c h) = stepped _ (reachable h) (commands.Deassign (c .given .1 .0) (c .given .1 .1 .0)) [] (c .result) _ (c .met)
+reachable (grant c h) = stepped _ (reachable h) (commands.Grant (c .given .1 .0) (c .given .1 .1 .0) (c .given .1 .1 .1 .0)) [] (c .result) _ (c .met)
+reachable (revoke c h) = stepped _ (reachable h) (commands.Revoke (c .given .1 .0) (c .given .1 .1 .0) (c .given .1 .1 .1 .0)) [] (c .result) _ (c .met)
+reachable (inherit c h) = stepped _ (reachable h) (commands.Inherit (c .given .1 .0) (c .given .1 .1 .0)) [] (c .result) _ (c .met)
+reachable (disinherit c h) = stepped _ (reachable h) (commands.Disinherit (c .given .1 .0) (c .given .1 .1 .0)) [] (c .result) _ (c .met)
+reachable (make-set c h) = stepped _ (reachable h) (commands.MakeSet (c .given .1 .0) (c .given .1 .1 .0) (c .given .1 .1 .1 .0)) (c .given .1 .1 .1 .1 .0 .now) (c .result) _ (c .met)
+reachable (drop-set c h) = stepped _ (reachable h) (commands.DropSet (c .given .1 .0) (c .given .1 .1 .0)) [] (c .result) _ (c .met)
+reachable (add-member c h) = stepped _ (reachable h) (commands.AddMember (c .given .1 .0) (c .given .1 .1 .0) (c .given .1 .1 .1 .0)) [] (c .result) _ (c .met)
+reachable (drop-member c h) = stepped _ (reachable h) (commands.DropMember (c .given .1 .0) (c .given .1 .1 .0) (c .given .1 .1 .1 .0)) [] (c .result) _ (c .met)
+reachable (set-cardinality c h) = stepped _ (reachable h) (commands.SetCardinality (c .given .1 .0) (c .given .1 .1 .0) (c .given .1 .1 .1 .0)) [] (c .result) _ (c .met)
+reachable (activate c h) = stepped _ (reachable h) (commands.Activate (c .given .1 .0) (c .given .1 .1 .0) (c .given .1 .1 .1 .0)) [] (c .result) _ (c .met)
+reachable (drop c h) = stepped _ (reachable h) (commands.DropActive (c .given .1 .0) (c .given .1 .1 .0) (c .given .1 .1 .1 .0)) [] (c .result) _ (c .met)
+reachable (end c h) = stepped _ (reachable h) (commands.EndSession (c .given .1 .0) (c .given .1 .1 .0)) [] (c .result) _ (c .met)
+-- ---- end of what tests/unique.py writes
+reachable (session c h) = subst Reachable (sym (ap (λ (t : Told). t .after) (c .met .tells))) (after (reachable h) (commands.OpenSession (c .given .1 .0)) (c .given .1 .1 .0 .now))
 reachable (step c h) = subst Reachable (sym (c .met .after)) (after (reachable h) (c .given .1 .0) (c .given .1 .1 .0 .now))
 reachable (answer-line c h) = subst Reachable (sym (c .met .state)) (lines .reachable _ (c .given .1 .0 .now) (reachable h))
 reachable (turn c h) = subst Reachable (sym (c .met .state)) (lines .reachable _ (partAt lineFeed (c .given .0 .now) (c .given .1 .1 .0 .at)) (reachable h))

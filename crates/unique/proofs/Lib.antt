@@ -1,5 +1,5 @@
--- The proofs of the two statements.
+-- The laws of each form of promise, and the proofs of the statements.
 pub mod Unique
+pub mod Promises
 pub mod Handed
-pub mod Scripts
 pub mod Frame

@@ -9,6 +9,7 @@ use Rattle.state.specs.View.{view}
 use Rattle.demands.specs.Demand3.{Rules}
 use Rattle.demands.specs.Reachable.{Reachable}
 use Rattle.state.proofs as state
+-- ---- written by tests/unique.py: the crates
 use Rattle.users.proofs as users
 use Rattle.assigning.proofs as assigning
 use Rattle.inheriting.proofs as inheriting
@@ -17,6 +18,8 @@ use Rattle.sessions.proofs as sessions
 use Rattle.engine.proofs as engine
 use Rattle.policyfile.proofs as policyfile
 use Rattle.script.proofs as script
+
+-- ---- end of what tests/unique.py writes
 
 -- a call: what a function was given, what it handed back, and that its contract holds of these. (Every call of a proved function is one.)
 pub record Call {n : ℕ} (ps : List (PK n)) (r : RK n) (Post : Out n ps r) : Type 0 where
@@ -30,6 +33,7 @@ pub record Call {n : ℕ} (ps : List (PK n)) (r : RK n) (Post : Out n ps r) : Ty
 -- of such numbers, done or refused
 pub data Handed : List ℕ → Type 0 where
   empty : (c : Call state.stores.start.Kinds.ps state.stores.start.Kinds.r state.stores.start.Reads.Post) → Handed (c .exits .0 .now)
+  -- ---- written by tests/unique.py: the functions that change the state and answer
   user : (c : Call users.user.Kinds.ps users.user.Kinds.r users.user.Reads.Post) → Handed (c .given .0 .now) → Handed (c .exits .0 .now)
   role : (c : Call users.role.Kinds.ps users.role.Kinds.r users.role.Reads.Post) → Handed (c .given .0 .now) → Handed (c .exits .0 .now)
   nouser : (c : Call users.nouser.Kinds.ps users.nouser.Kinds.r users.nouser.Reads.Post) → Handed (c .given .0 .now) → Handed (c .exits .0 .now)
@@ -50,9 +54,11 @@ pub data Handed : List ℕ → Type 0 where
   drop : (c : Call sessions.drop.Kinds.ps sessions.drop.Kinds.r sessions.drop.Reads.Post) → Handed (c .given .0 .now) → Handed (c .exits .0 .now)
   end : (c : Call sessions.end.Kinds.ps sessions.end.Kinds.r sessions.end.Reads.Post) → Handed (c .given .0 .now) → Handed (c .exits .0 .now)
   step : (c : Call engine.step.Kinds.ps engine.step.Kinds.r engine.step.Reads.Post) → Handed (c .given .0 .now) → Handed (c .exits .0 .now)
-  answer-line : (c : Call script.answer_line.Kinds.ps script.answer_line.Kinds.r script.answer_line.Reads.Post) → Handed (c .given .0 .now) → Handed (c .exits .0 .now)
   load : (c : Call policyfile.load.Kinds.ps policyfile.load.Kinds.r policyfile.load.Reads.Post) → Handed (c .given .0 .now) → Handed (c .exits .0 .now)
+  answer-line : (c : Call script.answer_line.Kinds.ps script.answer_line.Kinds.r script.answer_line.Reads.Post) → Handed (c .given .0 .now) → Handed (c .exits .0 .now)
   turn : (c : Call script.turn.Kinds.ps script.turn.Kinds.r script.turn.Reads.Post) → Handed (c .given .1 .0 .now) → Handed (c .exits .1 .0 .now)
+
+-- ---- end of what tests/unique.py writes
 
 -- What such a state holds can be reached from the empty policy by the commands of the paper and by loads, and so demands 2 and 3 are about it.
 pub record Owned : Type 0 where

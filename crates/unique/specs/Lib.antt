@@ -2,5 +2,4 @@
 pub mod Unique
 pub mod Promises
 pub mod Handed
-pub mod Scripts
 pub mod Frame

@@ -1,12 +1,16 @@
--- Every public function's promise leaves one outcome. One line for each function, over its own contract. Assumes nothing.
+-- Every public function's promise leaves one outcome. One line for each function, over its own contract; a record for each crate. Assumes nothing.
+use mathlib.Core.List.{List}
+use Prim.Native.Nat.{ℕ}
+use Rattle.unique.specs.Unique.{Unique, UniqueLent, UniqueSeen, UniqueState, UniqueBoth}
+-- ---- written by tests/unique.py: the crates
 use Rattle.roleset.proofs as roleset
 use Rattle.numbers.proofs as numbers
 use Rattle.hierarchy.proofs as hierarchy
 use Rattle.state.proofs as state
 use Rattle.walking.proofs as walking
 use Rattle.separation.proofs as separation
-use Rattle.lists.proofs as lists
 use Rattle.sweeps.proofs as sweeps
+use Rattle.lists.proofs as lists
 use Rattle.users.proofs as users
 use Rattle.assigning.proofs as assigning
 use Rattle.inheriting.proofs as inheriting
@@ -14,16 +18,20 @@ use Rattle.sets.proofs as sets
 use Rattle.sessions.proofs as sessions
 use Rattle.engine.proofs as engine
 use Rattle.reviews.proofs as reviews
-use Rattle.decimal.proofs as decimal
 use Rattle.text.proofs as text
-use Rattle.meaning.proofs as meaning
 use Rattle.policywrite.proofs as policywrite
 use Rattle.policyread.proofs as policyread
 use Rattle.policycheck.proofs as policycheck
 use Rattle.policyfile.proofs as policyfile
-use Rattle.unique.specs.Unique.{Unique, UniqueLent, UniqueSeen, UniqueState}
+use Rattle.decimal.proofs as decimal
+use Rattle.words.proofs as words
+use Rattle.lines.proofs as lines
+use Rattle.reading.proofs as reading
+use Rattle.meaning.proofs as meaning
+use Rattle.script.proofs as script
 
--- ---- roleset: sets of roles
+-- ---- end of what tests/unique.py writes
+-- ---- written by tests/unique.py: a record for each crate, a line for each public function
 
 pub record Roleset : Type 0 where
   pub has : Unique roleset.has.Kinds.ps roleset.has.Kinds.r roleset.has.Reads.Post
@@ -37,8 +45,6 @@ pub record Roleset : Type 0 where
   pub count : Unique roleset.count.Kinds.ps roleset.count.Kinds.r roleset.count.Reads.Post
   pub lowest : Unique roleset.lowest.Kinds.ps roleset.lowest.Kinds.r roleset.lowest.Reads.Post
 
--- ---- numbers: numbers and answers
-
 pub record Numbers : Type 0 where
   pub number-of : Unique numbers.number_of.Kinds.ps numbers.number_of.Kinds.r numbers.number_of.Reads.Post
   pub answer-of : Unique numbers.answer_of.Kinds.ps numbers.answer_of.Kinds.r numbers.answer_of.Reads.Post
@@ -49,17 +55,22 @@ pub record Numbers : Type 0 where
   pub set-beyond : Unique numbers.set_beyond.Kinds.ps numbers.set_beyond.Kinds.r numbers.set_beyond.Reads.Post
   pub activation-beyond : Unique numbers.activation_beyond.Kinds.ps numbers.activation_beyond.Kinds.r numbers.activation_beyond.Reads.Post
 
--- ---- hierarchy: inheritance
-
 pub record Hierarchy : Type 0 where
   pub reach : Unique hierarchy.reach.Kinds.ps hierarchy.reach.Kinds.r hierarchy.reach.Reads.Post
   pub circular : Unique hierarchy.circular.Kinds.ps hierarchy.circular.Kinds.r hierarchy.circular.Reads.Post
   pub turned : Unique hierarchy.turned.Kinds.ps hierarchy.turned.Kinds.r hierarchy.turned.Reads.Post
   pub at-or-above : Unique hierarchy.at_or_above.Kinds.ps hierarchy.at_or_above.Kinds.r hierarchy.at_or_above.Reads.Post
 
--- ---- state: the lent state
-
 pub record State : Type 0 where
+  pub either : Unique state.naming.either.Kinds.ps state.naming.either.Kinds.r state.naming.either.Reads.Post
+  pub permission-beyond : Unique state.naming.permission_beyond.Kinds.ps state.naming.permission_beyond.Kinds.r state.naming.permission_beyond.Reads.Post
+  pub less : Unique state.naming.less.Kinds.ps state.naming.less.Kinds.r state.naming.less.Reads.Post
+  pub juniors : UniqueSeen state.parts.juniors.Kinds.ps state.parts.juniors.Kinds.r state.parts.juniors.Reads.Post (λ κs x e. x .now)
+  pub assigned : UniqueSeen state.parts.assigned.Kinds.ps state.parts.assigned.Kinds.r state.parts.assigned.Reads.Post (λ κs x e. x .now)
+  pub holders : UniqueSeen state.parts.holders.Kinds.ps state.parts.holders.Kinds.r state.parts.holders.Reads.Post (λ κs x e. x .now)
+  pub juniors-table : Unique state.parts.juniors_table.Kinds.ps state.parts.juniors_table.Kinds.r state.parts.juniors_table.Reads.Post
+  pub assigned-table : Unique state.parts.assigned_table.Kinds.ps state.parts.assigned_table.Kinds.r state.parts.assigned_table.Reads.Post
+  pub sets-from : Unique state.parts.sets_from.Kinds.ps state.parts.sets_from.Kinds.r state.parts.sets_from.Reads.Post
   pub has-user : Unique state.reads.has_user.Kinds.ps state.reads.has_user.Kinds.r state.reads.has_user.Reads.Post
   pub roles : Unique state.reads.roles.Kinds.ps state.reads.roles.Kinds.r state.reads.roles.Reads.Post
   pub has-role : Unique state.reads.has_role.Kinds.ps state.reads.has_role.Kinds.r state.reads.has_role.Reads.Post
@@ -71,14 +82,6 @@ pub record State : Type 0 where
   pub assignment-count : Unique state.reads.assignment_count.Kinds.ps state.reads.assignment_count.Kinds.r state.reads.assignment_count.Reads.Post
   pub grant-count : Unique state.reads.grant_count.Kinds.ps state.reads.grant_count.Kinds.r state.reads.grant_count.Reads.Post
   pub line-count : Unique state.reads.line_count.Kinds.ps state.reads.line_count.Kinds.r state.reads.line_count.Reads.Post
-  -- parts that are lent on: what stands there
-  pub juniors : UniqueSeen state.parts.juniors.Kinds.ps state.parts.juniors.Kinds.r state.parts.juniors.Reads.Post (λ κs x e. x .now)
-  pub assigned : UniqueSeen state.parts.assigned.Kinds.ps state.parts.assigned.Kinds.r state.parts.assigned.Reads.Post (λ κs x e. x .now)
-  pub holders : UniqueSeen state.parts.holders.Kinds.ps state.parts.holders.Kinds.r state.parts.holders.Reads.Post (λ κs x e. x .now)
-  pub juniors-table : Unique state.parts.juniors_table.Kinds.ps state.parts.juniors_table.Kinds.r state.parts.juniors_table.Reads.Post
-  pub assigned-table : Unique state.parts.assigned_table.Kinds.ps state.parts.assigned_table.Kinds.r state.parts.assigned_table.Reads.Post
-  pub sets-from : Unique state.parts.sets_from.Kinds.ps state.parts.sets_from.Kinds.r state.parts.sets_from.Reads.Post
-  -- what stores
   pub start : UniqueState state.stores.start.Kinds.ps state.stores.start.Kinds.r state.stores.start.Reads.Post (λ κs e. e .0 .now)
   pub put-all : UniqueState state.stores.put_all.Kinds.ps state.stores.put_all.Kinds.r state.stores.put_all.Reads.Post (λ κs e. e .0 .now)
   pub put-user : UniqueState state.stores.put_user.Kinds.ps state.stores.put_user.Kinds.r state.stores.put_user.Reads.Post (λ κs e. e .0 .now)
@@ -95,27 +98,13 @@ pub record State : Type 0 where
   pub put-active : UniqueState state.stores.put_active.Kinds.ps state.stores.put_active.Kinds.r state.stores.put_active.Reads.Post (λ κs e. e .0 .now)
   pub close-session : UniqueState state.stores.close_session.Kinds.ps state.stores.close_session.Kinds.r state.stores.close_session.Reads.Post (λ κs e. e .0 .now)
   pub put-all-active : UniqueState state.stores.put_all_active.Kinds.ps state.stores.put_all_active.Kinds.r state.stores.put_all_active.Reads.Post (λ κs e. e .0 .now)
-  pub either : Unique state.naming.either.Kinds.ps state.naming.either.Kinds.r state.naming.either.Reads.Post
-  pub permission-beyond : Unique state.naming.permission_beyond.Kinds.ps state.naming.permission_beyond.Kinds.r state.naming.permission_beyond.Reads.Post
-  pub less : Unique state.naming.less.Kinds.ps state.naming.less.Kinds.r state.naming.less.Reads.Post
-
--- ---- walking: the walk over the lent state
 
 pub record Walking : Type 0 where
   pub reach : Unique walking.reach.Kinds.ps walking.reach.Kinds.r walking.reach.Reads.Post
 
--- ---- separation: separation
-
 pub record Separation : Type 0 where
   pub breaks : Unique separation.breaks.Kinds.ps separation.breaks.Kinds.r separation.breaks.Reads.Post
   pub breaks-some : Unique separation.breaks_some.Kinds.ps separation.breaks_some.Kinds.r separation.breaks_some.Reads.Post
-
--- ---- lists: lists of roles
-
-pub record Lists : Type 0 where
-  pub read : Unique lists.read.Kinds.ps lists.read.Kinds.r lists.read.Reads.Post
-
--- ---- sweeps: sweeps over users and sessions
 
 pub record Sweeps : Type 0 where
   pub ask-static : Unique sweeps.ask_static.Kinds.ps sweeps.ask_static.Kinds.r sweeps.ask_static.Reads.Post
@@ -125,7 +114,8 @@ pub record Sweeps : Type 0 where
   pub lowest-free : Unique sweeps.lowest_free.Kinds.ps sweeps.lowest_free.Kinds.r sweeps.lowest_free.Reads.Post
   pub strip : UniqueLent sweeps.strip.Kinds.ps sweeps.strip.Kinds.r sweeps.strip.Reads.Post (λ κs e. e .0 .now)
 
--- ---- users: `user`, `role`, `nouser`, `norole`
+pub record Lists : Type 0 where
+  pub read : Unique lists.read.Kinds.ps lists.read.Kinds.r lists.read.Reads.Post
 
 pub record Users : Type 0 where
   pub user : UniqueState users.user.Kinds.ps users.user.Kinds.r users.user.Reads.Post (λ κs e. e .0 .now)
@@ -133,21 +123,15 @@ pub record Users : Type 0 where
   pub nouser : UniqueState users.nouser.Kinds.ps users.nouser.Kinds.r users.nouser.Reads.Post (λ κs e. e .0 .now)
   pub norole : UniqueState users.norole.Kinds.ps users.norole.Kinds.r users.norole.Reads.Post (λ κs e. e .0 .now)
 
--- ---- assigning: `assign`, `deassign`, `grant`, `revoke`
-
 pub record Assigning : Type 0 where
   pub assign : UniqueState assigning.assign.Kinds.ps assigning.assign.Kinds.r assigning.assign.Reads.Post (λ κs e. e .0 .now)
   pub deassign : UniqueState assigning.deassign.Kinds.ps assigning.deassign.Kinds.r assigning.deassign.Reads.Post (λ κs e. e .0 .now)
   pub grant : UniqueState assigning.grant.Kinds.ps assigning.grant.Kinds.r assigning.grant.Reads.Post (λ κs e. e .0 .now)
   pub revoke : UniqueState assigning.revoke.Kinds.ps assigning.revoke.Kinds.r assigning.revoke.Reads.Post (λ κs e. e .0 .now)
 
--- ---- inheriting: `inherit`, `disinherit`
-
 pub record Inheriting : Type 0 where
   pub inherit : UniqueState inheriting.inherit.Kinds.ps inheriting.inherit.Kinds.r inheriting.inherit.Reads.Post (λ κs e. e .0 .now)
   pub disinherit : UniqueState inheriting.disinherit.Kinds.ps inheriting.disinherit.Kinds.r inheriting.disinherit.Reads.Post (λ κs e. e .0 .now)
-
--- ---- sets: the five commands of a set, of both kinds
 
 pub record Sets : Type 0 where
   pub make-set : UniqueState sets.make_set.Kinds.ps sets.make_set.Kinds.r sets.make_set.Reads.Post (λ κs e. e .0 .now)
@@ -156,22 +140,16 @@ pub record Sets : Type 0 where
   pub drop-member : UniqueState sets.drop_member.Kinds.ps sets.drop_member.Kinds.r sets.drop_member.Reads.Post (λ κs e. e .0 .now)
   pub set-cardinality : UniqueState sets.set_cardinality.Kinds.ps sets.set_cardinality.Kinds.r sets.set_cardinality.Reads.Post (λ κs e. e .0 .now)
 
--- ---- sessions: `session`, `activate`, `drop`, `end`, `check`, and whose a session is
-
 pub record Sessions : Type 0 where
   pub session : UniqueState sessions.session.Kinds.ps sessions.session.Kinds.r sessions.session.Reads.Post (λ κs e. e .0 .now)
   pub activate : UniqueState sessions.activate.Kinds.ps sessions.activate.Kinds.r sessions.activate.Reads.Post (λ κs e. e .0 .now)
-  pub drop-role : UniqueState sessions.drop.Kinds.ps sessions.drop.Kinds.r sessions.drop.Reads.Post (λ κs e. e .0 .now)
-  pub end-session : UniqueState sessions.end.Kinds.ps sessions.end.Kinds.r sessions.end.Reads.Post (λ κs e. e .0 .now)
+  pub drop : UniqueState sessions.drop.Kinds.ps sessions.drop.Kinds.r sessions.drop.Reads.Post (λ κs e. e .0 .now)
+  pub end : UniqueState sessions.end.Kinds.ps sessions.end.Kinds.r sessions.end.Reads.Post (λ κs e. e .0 .now)
   pub owner : Unique sessions.owner.Kinds.ps sessions.owner.Kinds.r sessions.owner.Reads.Post
   pub check : Unique sessions.check.Kinds.ps sessions.check.Kinds.r sessions.check.Reads.Post
 
--- ---- engine: every command through one function
-
 pub record Engine : Type 0 where
   pub step : UniqueState engine.step.Kinds.ps engine.step.Kinds.r engine.step.Reads.Post (λ κs e. e .0 .now)
-
--- ---- reviews: the reviews, with the buffer lent
 
 pub record Reviews : Type 0 where
   pub assigned-users : UniqueLent reviews.assigned_users.Kinds.ps reviews.assigned_users.Kinds.r reviews.assigned_users.Reads.Post (λ κs e. e .1 .1 .0 .now)
@@ -187,10 +165,24 @@ pub record Reviews : Type 0 where
   pub set-names : UniqueLent reviews.set_names.Kinds.ps reviews.set_names.Kinds.r reviews.set_names.Reads.Post (λ κs e. e .1 .1 .0 .now)
   pub set-roles : UniqueLent reviews.set_roles.Kinds.ps reviews.set_roles.Kinds.r reviews.set_roles.Reads.Post (λ κs e. e .1 .1 .1 .0 .now)
   pub set-count : UniqueLent reviews.set_count.Kinds.ps reviews.set_count.Kinds.r reviews.set_count.Reads.Post (λ κs e. e .1 .1 .1 .0 .now)
-  -- any question
   pub ask : UniqueLent reviews.ask.Kinds.ps reviews.ask.Kinds.r reviews.ask.Reads.Post (λ κs e. e .1 .1 .0 .now)
 
--- ---- decimal: decimal numbers in a lent text
+pub record Text : Type 0 where
+  pub word-at : Unique text.word_at.Kinds.ps text.word_at.Kinds.r text.word_at.Reads.Post
+
+pub record Policywrite : Type 0 where
+  pub write : UniqueLent policywrite.write.Kinds.ps policywrite.write.Kinds.r policywrite.write.Reads.Post (λ κs e. e .1 .0 .now)
+
+pub record Policyread : Type 0 where
+  pub gather : UniqueState policyread.gather.Kinds.ps policyread.gather.Kinds.r policyread.gather.Reads.Post (λ κs e. e .1 .0 .now)
+
+pub record Policycheck : Type 0 where
+  pub formed : Unique policycheck.formed.Kinds.ps policycheck.formed.Kinds.r policycheck.formed.Reads.Post
+  pub broken : Unique policycheck.broken.Kinds.ps policycheck.broken.Kinds.r policycheck.broken.Reads.Post
+
+pub record Policyfile : Type 0 where
+  pub save : UniqueLent policyfile.save.Kinds.ps policyfile.save.Kinds.r policyfile.save.Reads.Post (λ κs e. e .1 .0 .now)
+  pub load : UniqueState policyfile.load.Kinds.ps policyfile.load.Kinds.r policyfile.load.Reads.Post (λ κs e. e .0 .now)
 
 pub record Decimal : Type 0 where
   pub put : UniqueLent decimal.put.Kinds.ps decimal.put.Kinds.r decimal.put.Reads.Post (λ κs e. e .0 .now)
@@ -199,34 +191,30 @@ pub record Decimal : Type 0 where
   pub put-numbers : UniqueLent decimal.put_numbers.Kinds.ps decimal.put_numbers.Kinds.r decimal.put_numbers.Reads.Post (λ κs e. e .0 .now)
   pub value : Unique decimal.value.Kinds.ps decimal.value.Kinds.r decimal.value.Reads.Post
 
--- ---- text: sixteen-bit numbers in lent bytes
+pub record Words : Type 0 where
+  pub which : Unique words.which.Kinds.ps words.which.Kinds.r words.which.Reads.Post
+  pub put-word : UniqueLent words.put_word.Kinds.ps words.put_word.Kinds.r words.put_word.Reads.Post (λ κs e. e .0 .now)
+  pub before-list : Unique words.before_list.Kinds.ps words.before_list.Kinds.r words.before_list.Reads.Post
+  pub takes : Unique words.takes.Kinds.ps words.takes.Kinds.r words.takes.Reads.Post
+  pub same : Unique words.same.Kinds.ps words.same.Kinds.r words.same.Reads.Post
 
-pub record Text : Type 0 where
-  pub word-at : Unique text.word_at.Kinds.ps text.word_at.Kinds.r text.word_at.Reads.Post
+pub record Lines : Type 0 where
+  pub part-at : UniqueSeen lines.part_at.Kinds.ps lines.part_at.Kinds.r lines.part_at.Reads.Post (λ κs x e. x .now)
+  pub past : Unique lines.past.Kinds.ps lines.past.Kinds.r lines.past.Reads.Post
+  pub next-from : UniqueSeen {A = List ℕ × ℕ} lines.next_from.Kinds.ps lines.next_from.Kinds.r lines.next_from.Reads.Post (λ κs x e. (x .now, e .1 .0 .now))
+  pub bumped : Unique lines.bumped.Kinds.ps lines.bumped.Kinds.r lines.bumped.Reads.Post
+  pub tallied : Unique lines.tallied.Kinds.ps lines.tallied.Kinds.r lines.tallied.Reads.Post
 
--- ---- meaning: what a line of numbers means
+pub record Reading : Type 0 where
+  pub read-line : Unique reading.read_line.Kinds.ps reading.read_line.Kinds.r reading.read_line.Reads.Post
 
 pub record Meaning : Type 0 where
   pub meaning : Unique meaning.meaning.Kinds.ps meaning.meaning.Kinds.r meaning.meaning.Reads.Post
 
--- ---- policywrite: the policy file written
+pub record Script : Type 0 where
+  pub answer-text : UniqueLent script.answer_text.Kinds.ps script.answer_text.Kinds.r script.answer_text.Reads.Post (λ κs e. e .0 .now)
+  pub total-text : UniqueLent script.total_text.Kinds.ps script.total_text.Kinds.r script.total_text.Reads.Post (λ κs e. e .0 .now)
+  pub answer-line : UniqueBoth script.answer_line.Kinds.ps script.answer_line.Kinds.r script.answer_line.Reads.Post (λ κs e. e .0 .now) (λ κs e. e .1 .1 .0 .now)
+  pub turn : UniqueBoth script.turn.Kinds.ps script.turn.Kinds.r script.turn.Reads.Post (λ κs e. e .1 .0 .now) (λ κs e. e .1 .1 .1 .0 .now)
 
-pub record Policywrite : Type 0 where
-  pub write : UniqueLent policywrite.write.Kinds.ps policywrite.write.Kinds.r policywrite.write.Reads.Post (λ κs e. e .1 .0 .now)
-
--- ---- policyread: a state gathered from any bytes
-
-pub record Policyread : Type 0 where
-  pub gather : UniqueState policyread.gather.Kinds.ps policyread.gather.Kinds.r policyread.gather.Reads.Post (λ κs e. e .1 .0 .now)
-
--- ---- policycheck: a policy that was read, asked
-
-pub record Policycheck : Type 0 where
-  pub formed : Unique policycheck.formed.Kinds.ps policycheck.formed.Kinds.r policycheck.formed.Reads.Post
-  pub broken : Unique policycheck.broken.Kinds.ps policycheck.broken.Kinds.r policycheck.broken.Reads.Post
-
--- ---- policyfile: saving and loading
-
-pub record Policyfile : Type 0 where
-  pub save : UniqueLent policyfile.save.Kinds.ps policyfile.save.Kinds.r policyfile.save.Reads.Post (λ κs e. e .1 .0 .now)
-  pub load : UniqueState policyfile.load.Kinds.ps policyfile.load.Kinds.r policyfile.load.Reads.Post (λ κs e. e .0 .now)
+-- ---- end of what tests/unique.py writes

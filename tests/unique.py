@@ -1,0 +1,349 @@
+#!/usr/bin/env python3
+"""Writes the lines of crates/unique that say one thing of each public function: that any two outcomes which meet its promise are equal, and, of
+the functions that change the state and answer, that what they hand back can be reached.
+
+    tests/unique.py            compares what is there with what would be written, and fails where they differ
+    tests/unique.py --write    writes it
+
+The lines stand between marks in the files of FILES; what is outside the marks is written by hand. What a line says comes from the function's
+signature (its kind: what is lent to be changed, and whether the result is a part of what was lent). How it is proved comes from the form of its
+`ensures`: an equation, or a named promise H, for which crates/unique/proofs/Unique.antt has the law h-one. So a new function needs no line written
+by hand unless its promise is of a new form.
+"""
+import difflib
+import re
+import sys
+from pathlib import Path
+
+ROOT = Path(__file__).resolve().parent.parent
+HOME = ROOT / "crates" / "unique"
+
+# Public functions with no line: they borrow a struct, and a contract over one cannot be cited (docs/DECISIONS.md, 'Exceptions to uniqueness').
+WITHOUT = {"lines.next", "lines.bump"}
+
+# Promises that have another's law: they are that promise by definition, or two crates use one name.
+LAW_OF = {
+    "sweeps.AsksStatic": "asks-one",
+    "sweeps.AsksSet": "asks-one",
+    "reviews.Asked": "reviewed-one",
+    "reviews.AskedAny": "reviewed-one",
+    "script.Answers": "answered-one",
+}
+
+# The proofs of promises that have no name: x and y are the results, p and q that they meet the promise, vx and vy that they are of their type.
+BY_HAND = {
+    "roleset.count": "p .0 ∙ sym (q .0)",
+    "roleset.lowest": "laws.lowest-one (a .0) x y p q",
+    "hierarchy.turned": "laws.arrays 64 x y _ (vx .1 .1 .0 .1) (vy .1 .1 .0 .1) p q",
+    "lines.next_from": "λ i. ((p .0 ∙ sym (q .0)) i, (p .1 ∙ sym (q .1)) i)",
+}
+
+# The state's type; every other array that is lent to be changed is a buffer.
+STATE = "[u64; PLACES]"
+
+FILES = ["specs/Promises.antt", "proofs/Promises.antt", "specs/Handed.antt", "proofs/Handed.antt"]
+BEGIN = "-- ---- written by tests/unique.py: "
+END = "-- ---- end of what tests/unique.py writes"
+
+
+def stop(text):
+    print("unique: " + text)
+    sys.exit(1)
+
+
+# ---- the sources
+
+SIGNATURE = r'pub\s+(extern\s+""\s+)?fn\s+\w+'
+
+
+def bare(path):
+    """The text of a source file with comments and the insides of texts blanked out; lines keep their numbers."""
+    text = path.read_text(encoding="utf-8")
+    out, i, depth = [], 0, 0
+    while i < len(text):
+        two = text[i : i + 2]
+        if two == "/*":
+            depth, i = depth + 1, i + 2
+        elif depth and two == "*/":
+            depth, i = depth - 1, i + 2
+        elif depth:
+            out.append("\n" if text[i] == "\n" else "")
+            i += 1
+        elif two == "//":
+            while i < len(text) and text[i] != "\n":
+                i += 1
+        elif text[i] == '"':
+            i += 1
+            while i < len(text) and text[i] != '"':
+                i += 2 if text[i] == "\\" else 1
+            out.append('""')
+            i += 1
+        elif quoted := re.match(r"'(\\.[^']*|[^'\\])'", text[i:]):
+            out.append("''")
+            i += quoted.end()
+        else:
+            out.append(text[i])
+            i += 1
+    return "".join(out)
+
+
+def split(text):
+    """The parts of a list, at the commas that stand in no bracket."""
+    parts, depth, part = [], 0, ""
+    for c in text:
+        depth += (c in "([{<") - (c in ")]}>")
+        if c == "," and depth == 0:
+            parts.append(part)
+            part = ""
+        else:
+            part += c
+    return [" ".join(p.split()) for p in parts + [part] if p.strip()]
+
+
+def closing(text, i):
+    """The place after the bracket that closes the one at i."""
+    depth = 0
+    for j in range(i, len(text)):
+        depth += (text[j] in "([{") - (text[j] in ")]}")
+        if depth == 0:
+            return j + 1
+    stop("a bracket is not closed")
+
+
+class Function:
+    def __init__(self, crate, where, name, text):
+        """A function from its signature on: what it takes, its result and its promise."""
+        self.crate, self.place, self.name = crate, where + "." + name, name
+        at = re.match(SIGNATURE + r"\s*(<[^(]*>)?\s*", text).end()
+        end = closing(text, at)
+        plain = lambda t: re.sub(r"&\s*'\w+\s+", "&", " ".join(t.split()))
+        self.types = [plain(p.split(":", 1)[1]) for p in split(text[at + 1 : end - 1])]
+        told = re.compile(r"\s*->\s*(.*?)\s*(?=\bensures\b|\brequires\b|\{)", re.S).match(text, end)
+        self.result = plain(told[1]) if told else ""
+        end = told.end() if told else end
+        promises = []
+        while clause := re.compile(r"\s*(ensures|requires)\s*(?=\{)").match(text, end):
+            end = closing(text, clause.end())
+            promises += [text[clause.end() + 1 : end - 1]] if clause[1] == "ensures" else []
+        form = re.fullmatch(r"\s*λ\s*(\S+?)\.\s*⌜(.*)⌝\s*", " ".join(promises), re.S)
+        if len(promises) != 1 or not form:
+            self.bad("has not one promise `ensures { λ x. ⌜ .. ⌝ }`")
+        self.binder, self.promise = form[1], " ".join(form[2].split())
+
+    def bad(self, why):
+        stop(f"{self.place} {why}, which tests/unique.py does not know")
+
+    def field(self):
+        return self.name.replace("_", "-")
+
+    def kind(self):
+        """The kind of statement, and what follows the contract in it."""
+        states = [i for i, t in enumerate(self.types) if t == "&mut " + STATE]
+        buffers = [i for i, t in enumerate(self.types) if re.fullmatch(r"&mut \[.*\]", t) and i not in states]
+        numbers = [i for i, t in enumerate(self.types) if re.fullmatch(r"&mut (u8|u16|u32|u64|usize)", t)]
+        known = len(states) + len(buffers) + len(numbers)
+        if known != sum("&mut" in t for t in self.types):
+            self.bad("is lent to change what is neither an array nor a number")
+        after = lambda i: f"(λ κs e. e {place(i)} .now)"
+        seen = re.fullmatch(r"&\[.*\]", self.result)
+        if seen and known == 0:
+            return "UniqueSeen", ["(λ κs x e. x .now)"]
+        if seen and known == len(numbers) == 1:
+            return "UniqueSeen {A = List ℕ × ℕ}", [f"(λ κs x e. (x .now, e {place(numbers[0])} .now))"]
+        if "&" in self.result or numbers or len(states) > 1 or len(buffers) > 1:
+            self.bad("lends or is lent several things")
+        if states and buffers:
+            return "UniqueBoth", [after(states[0]), after(buffers[0])]
+        if states:
+            return "UniqueState", [after(states[0])]
+        if buffers:
+            return "UniqueLent", [after(buffers[0])]
+        return "Unique", []
+
+    def statement(self):
+        kind, seen = self.kind()
+        f = self.place
+        return f"  pub {self.field()} : " + " ".join([kind, f + ".Kinds.ps", f + ".Kinds.r", f + ".Reads.Post"] + seen)
+
+    def equation(self):
+        """The left side of the promise, where that is an equation."""
+        depth, sides = 0, [""]
+        for word in re.findall(r"[()]|[^\s()]+", self.promise):
+            depth += (word == "(") - (word == ")")
+            if depth == 0 and word in ("→", "×", "⊎", "↔"):
+                return None
+            if depth == 0 and word == "≡":
+                sides.append("")
+            else:
+                sides[-1] += " " + word
+        return re.sub(r"(?<=\() | (?=\))", "", sides[0]).strip() if len(sides) == 2 else None
+
+    def proof(self, laws):
+        kind = self.kind()[0].split()[0]
+        given = {"Unique": "vx vy ", "UniqueLent": "vx vy ", "UniqueSeen": "", "UniqueState": "sx sy ", "UniqueBoth": "sx sy "}[kind]
+        states = given if given == "sx sy " else ""
+        left, name = self.equation(), re.match(r"[A-Z]\w*(?= )", self.promise)
+        if self.place in BY_HAND:
+            by = BY_HAND[self.place]
+        elif kind in ("Unique", "UniqueSeen") and left in (self.binder, f"now {self.binder}"):
+            by = "p ∙ sym q"
+        elif kind == "Unique" and left == f"numberOf {self.binder}":
+            by = "laws.numbers-one p q"
+        elif kind == "UniqueState" and self.result == "" and left and re.fullmatch(r"view \(now \(\w+ \.exit\)\)", left):
+            by = "(refl, laws.states sx sy p q)"
+        elif kind == "UniqueState" and self.tells():
+            by = "laws.outcomes sx sy p q"
+        elif left is None and name:
+            law = LAW_OF.get(f"{self.crate}.{name[0]}", re.sub(r"(?<!^)(?=[A-Z])", "-", name[0]).lower() + "-one")
+            if law not in laws:
+                stop(f"{self.place} promises {name[0]}: write the law {law} in crates/unique/proofs/Unique.antt (two outcomes that meet it are one)")
+            by = f"laws.{law} {states}p q"
+        else:
+            stop(f"{self.place} has a promise of a new form: write its proof in BY_HAND of tests/unique.py")
+        return f"      {self.field()} = λ κs a x y e f {given}p q. {by};"
+
+    def tells(self):
+        """Whether the promise is a command's: the answer and the state tell what the model's definition tells."""
+        left = self.equation()
+        return bool(left and re.fullmatch(rf"told {re.escape(self.binder)} \(now \(\w+ \.exit\)\)", left))
+
+    # ---- what a function hands back
+
+    def hands_back(self):
+        """Whether it changes the state and answers: a command, a step, a load or a line."""
+        return self.result != "" and "&mut " + STATE in self.types
+
+    def constructor(self):
+        at = place(self.types.index("&mut " + STATE))
+        f = self.place
+        return f"  {self.field()} : (c : Call {f}.Kinds.ps {f}.Kinds.r {f}.Reads.Post) → Handed (c .given {at} .now) → Handed (c .exits {at} .now)"
+
+    def reached(self, arms):
+        if self.place not in arms:
+            stop(f"{self.place} answers as a command does, and `engine::step` has no arm that calls it")
+        variant, numbers, given = arms[self.place]
+        arguments = " ".join(f"(c .given {place(given.index(n))})" for n in numbers)
+        named = f"(c .given {place(given.index('list'))} .now)" if "list" in given else "[]"
+        command = f"commands.{variant}"
+        return f"reachable ({self.field()} c h) = stepped _ (reachable h) " + (f"({command} {arguments})" if numbers else command) + f" {named} (c .result) _ (c .met)"
+
+
+def place(i):
+    """The i-th of so many things side by side."""
+    return ".1 " * i + ".0"
+
+
+def functions_of(crate, path, where, below):
+    """The public functions of a module and of the public modules in it."""
+    if not path.is_file():
+        stop(f"there is no {path.relative_to(ROOT)}")
+    text = bare(path)
+    found = []
+    for m in re.finditer(r'\bpub\s+(?!\()(?:[\w"]+\s+)*?fn\s+(\w+)', text):
+        if text.count("{", 0, m.start()) != text.count("}", 0, m.start()) or not re.match(SIGNATURE, m[0]):
+            stop(f"{where}.{m[1]} is a public function within a block or of another kind, which tests/unique.py does not know")
+        if f"{where}.{m[1]}" in WITHOUT:
+            met.add(f"{where}.{m[1]}")
+            continue
+        found.append(Function(crate, where, m[1], text[m.start() :]))
+    if re.search(r"\bpub\s+use\b", text):
+        stop(f"{path.relative_to(ROOT)} has a `pub use`, which tests/unique.py does not know")
+    for m in re.finditer(r"\bpub\s+mod\s+(\w+)\s*;", text):
+        found += functions_of(crate, below / (m[1] + ".rt"), f"{where}.{m[1]}", below / m[1])
+    if re.search(r"\bpub\s+mod\s+\w+\s*\{", text):
+        stop(f"{path.relative_to(ROOT)} has a public module in a block, which tests/unique.py does not know")
+    return found
+
+
+def arms_of(path):
+    """Which command of the model each function is: the arms of `engine::step`, as (variant, its numbers, what the function is given)."""
+    arms = {}
+    for m in re.finditer(r"Command::(\w+)(?:\(([^)]*)\))?\s*=>[^=]*?\b((?:\w+::)+\w+)\(\s*(state\b[^)]*)\)", bare(path)):
+        arms[m[3].replace("::", ".")] = (m[1], split(m[2] or ""), split(m[4]))
+    return arms
+
+
+# ---- the lines
+
+
+def parts():
+    """What is to stand between the marks: file, mark, lines."""
+    listed = [line.split("#")[0].split(":")[0].strip() for line in (ROOT / "crates.txt").read_text(encoding="utf-8").splitlines()]
+    crates = {}
+    for crate in [c for c in listed if c]:
+        source = ROOT / "crates" / crate / "src"
+        # a program has no public function
+        if (source / "lib.rt").is_file():
+            functions = functions_of(crate, source / "lib.rt", crate, source)
+            if len({f.field() for f in functions}) != len(functions):
+                stop(f"two public functions of {crate} have one name")
+            if functions:
+                crates[crate] = functions
+    every = [f for functions in crates.values() for f in functions]
+    for name in sorted(WITHOUT - met) + sorted(set(BY_HAND) - {f.place for f in every}):
+        stop(f"tests/unique.py names {name}, and there is no such public function")
+
+    text = (HOME / "proofs/Unique.antt").read_text(encoding="utf-8")
+    laws = set(re.findall(r"^pub ([\w′-]+) :", text, re.M))
+    cites = [f"use Rattle.{c}.proofs as {c}" for c in crates]
+    title = lambda c: c.title().replace("_", "")
+
+    says, shows = [], []
+    for crate, functions in crates.items():
+        says += ["", f"pub record {title(crate)} : Type 0 where"] + [f.statement() for f in functions]
+        shows += ["", f"pub {crate} : promises.{title(crate)}", f"{crate} =", "    record {"] + [f.proof(laws) for f in functions] + ["    }"]
+    yield "specs/Promises.antt", "the crates", cites + [""]
+    yield "specs/Promises.antt", "a record for each crate, a line for each public function", says + [""]
+    yield "proofs/Promises.antt", "a line for each public function", shows + [""]
+
+    handing = [f for f in every if f.hands_back()]
+    arms = arms_of(ROOT / "crates/engine/src/lib.rt")
+    of = [c for c in crates if any(f.crate == c for f in handing)]
+    yield "specs/Handed.antt", "the crates", [f"use Rattle.{c}.proofs as {c}" for c in of] + [""]
+    yield "specs/Handed.antt", "the functions that change the state and answer", [f.constructor() for f in handing] + [""]
+    yield "proofs/Handed.antt", "their names", ["use Rattle.unique.specs.Handed.{" + ", ".join(f.field() for f in handing) + "}", ""]
+    yield "proofs/Handed.antt", "the commands", [f.reached(arms) for f in handing if f.tells()]
+    met.update(f.place for f in every)
+
+
+# the public functions that were found, with or without a line
+met = set()
+
+
+def main():
+    write = sys.argv[1:] == ["--write"]
+    if sys.argv[1:] and not write:
+        stop("usage: tests/unique.py [--write]")
+    for kind in ("specs", "proofs"):
+        declared = (HOME / kind / "Lib.antt").read_text(encoding="utf-8").splitlines()
+        for file in FILES:
+            if file.startswith(kind) and f"pub mod {Path(file).stem}" not in declared:
+                stop(f"crates/unique/{kind}/Lib.antt does not declare {Path(file).stem}")
+    texts = {file: (HOME / file).read_text(encoding="utf-8") for file in FILES}
+    for file, text in texts.items():
+        if "{-" in text:
+            stop(f"crates/unique/{file} has a comment that is not of one line: it could hide what is written")
+    for file, mark, lines in parts():
+        marks = re.compile(rf"(^ *{re.escape(BEGIN + mark)}\n)(?:.*\n)*?( *{re.escape(END)}$)", re.M)
+        if len(marks.findall(texts[file])) != 1:
+            stop(f"crates/unique/{file} has not the mark '{BEGIN}{mark}' and, after it, '{END}'")
+        texts[file] = marks.sub(lambda m: m[1] + "".join(line + "\n" for line in lines) + m[2], texts[file])
+    differ = False
+    for file, text in texts.items():
+        there = (HOME / file).read_text(encoding="utf-8")
+        if text == there:
+            continue
+        if write:
+            (HOME / file).write_text(text, encoding="utf-8")
+            print(f"unique: crates/unique/{file} written")
+            continue
+        differ = True
+        print(f"unique: crates/unique/{file} is not what the sources say (-: is there, +: should be):")
+        changes = [line for line in difflib.unified_diff(there.splitlines(), text.splitlines(), lineterm="", n=0) if not line.startswith(("---", "+++", "@@"))]
+        print("\n".join(line[:160] for line in changes[:10]))
+    if differ:
+        stop("run tests/unique.py --write")
+    print(f"unique: {len(met - WITHOUT)} public functions, one line each")
+
+
+main()
