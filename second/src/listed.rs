@@ -290,12 +290,13 @@ impl Tally {
     }
 
     pub fn print(&self) {
+        let answers: BTreeSet<u8> = wanted_pairs().iter().chain(self.pairs.keys()).map(|&(_, answer)| answer).collect();
         print!("{:<15}", "answer");
-        (0..15).filter(|&answer| answer != 13).for_each(|answer| print!("{answer:>7}"));
+        answers.iter().for_each(|answer| print!("{answer:>7}"));
         println!();
         for row in WORDS.iter().map(|word| word.text).chain([NO_WORD, SCRIPT, FILE]) {
             print!("{row:<15}");
-            for answer in (0..15).filter(|&answer| answer != 13) {
+            for &answer in &answers {
                 match self.pairs.get(&(row, answer)) {
                     Some(count) => print!("{count:>7}"),
                     None => print!("{:>7}", "."),
@@ -316,7 +317,8 @@ impl Tally {
             }
         }
         for ((answer, reason), rows) in reasons {
-            println!("  {answer}, for {reason}: {}", rows.join(", "));
+            let rows = if rows.len() > 4 { format!("{} rows", rows.len()) } else { rows.join(", ") };
+            println!("  {answer} ({rows}): {reason}");
         }
     }
 }
