@@ -102,10 +102,13 @@ fn refuse_if(applies: bool, refusal: Refusal) -> Result<(), Refusal> {
     }
 }
 
-/// A list of roles as given: 14 comes before anything else, then 1.
-fn role_list(numbers: &[u16]) -> Result<BTreeSet<Role>, Refusal> {
-    refuse_if(numbers.windows(2).any(|pair| pair[0] >= pair[1]), Form)?;
-    numbers.iter().map(|&number| Role::new(number)).collect()
+/// Answer 14, which comes before all others.
+fn need_rising(list: &[u16]) -> Result<(), Refusal> {
+    refuse_if(list.windows(2).any(|pair| pair[0] >= pair[1]), Form)
+}
+
+fn role_set(list: &[u16]) -> Result<BTreeSet<Role>, Refusal> {
+    list.iter().map(|&number| Role::new(number)).collect()
 }
 
 impl RoleSet {
@@ -250,6 +253,51 @@ impl State {
     }
 }
 
+// What the numbers of a line name: each is in its range (1) before any needs to exist (2).
+impl State {
+    fn user(&self, number: u16) -> Result<User, Refusal> {
+        let user = User::new(number)?;
+        self.need_user(user).map(|()| user)
+    }
+
+    fn role(&self, number: u16) -> Result<Role, Refusal> {
+        let role = Role::new(number)?;
+        self.need_role(role).map(|()| role)
+    }
+
+    fn user_and_role(&self, user: u16, role: u16) -> Result<(User, Role), Refusal> {
+        let (user, role) = (User::new(user)?, Role::new(role)?);
+        self.need_user(user)?;
+        self.need_role(role).map(|()| (user, role))
+    }
+
+    fn two_roles(&self, one: u16, other: u16) -> Result<(Role, Role), Refusal> {
+        let (one, other) = (Role::new(one)?, Role::new(other)?);
+        self.need_role(one)?;
+        self.need_role(other).map(|()| (one, other))
+    }
+
+    fn grant_to(&self, role: u16, operation: u16, object: u16) -> Result<(Role, Operation, Object), Refusal> {
+        let (role, operation, object) = (Role::new(role)?, Operation::new(operation)?, Object::new(object)?);
+        self.need_role(role).map(|()| (role, operation, object))
+    }
+
+    fn session(&self, number: u16) -> Result<&Session, Refusal> {
+        self.need_session(SessionNumber::new(number)?)
+    }
+
+    fn set(&self, kind: Kind, name: u16) -> Result<&RoleSet, Refusal> {
+        self.need_set(kind, SetName::new(name)?)
+    }
+
+    /// The name, a copy of its set, and the role.
+    fn set_and_role(&self, kind: Kind, name: u16, role: u16) -> Result<(SetName, RoleSet, Role), Refusal> {
+        let (name, role) = (SetName::new(name)?, Role::new(role)?);
+        let set = self.need_set(kind, name)?.clone();
+        self.need_role(role).map(|()| (name, set, role))
+    }
+}
+
 // Commands on users, roles, assignments, grants and lines.
 impl State {
     pub fn add_user(&self, user: u16) -> Change {
@@ -261,8 +309,7 @@ impl State {
     }
 
     pub fn delete_user(&self, user: u16) -> Change {
-        let user = User::new(user)?;
-        self.need_user(user)?;
+        let user = self.user(user)?;
         let mut after = self.clone();
         after.users.remove(&user);
         after.assignments.retain(|&(of, _)| of != user);
@@ -279,8 +326,7 @@ impl State {
     }
 
     pub fn delete_role(&self, role: u16) -> Change {
-        let role = Role::new(role)?;
-        self.need_role(role)?;
+        let role = self.role(role)?;
         refuse_if(self.ssd.values().chain(self.dsd.values()).any(|set| set.roles.contains(&role)), InSet)?;
         let mut after = self.clone();
         after.roles.remove(&role);
@@ -292,9 +338,7 @@ impl State {
     }
 
     pub fn assign(&self, user: u16, role: u16) -> Change {
-        let (user, role) = (User::new(user)?, Role::new(role)?);
-        self.need_user(user)?;
-        self.need_role(role)?;
+        let (user, role) = self.user_and_role(user, role)?;
         refuse_if(self.assignments.contains(&(user, role)), ThereAlready)?;
         let mut after = self.clone();
         after.assignments.insert((user, role));
@@ -304,9 +348,7 @@ impl State {
     }
 
     pub fn deassign(&self, user: u16, role: u16) -> Change {
-        let (user, role) = (User::new(user)?, Role::new(role)?);
-        self.need_user(user)?;
-        self.need_role(role)?;
+        let (user, role) = self.user_and_role(user, role)?;
         let mut after = self.clone();
         refuse_if(!after.assignments.remove(&(user, role)), NotThere)?;
         after.shed();
@@ -314,26 +356,22 @@ impl State {
     }
 
     pub fn grant(&self, operation: u16, object: u16, role: u16) -> Change {
-        let (operation, object, role) = (Operation::new(operation)?, Object::new(object)?, Role::new(role)?);
-        self.need_role(role)?;
+        let grant = self.grant_to(role, operation, object)?;
         let mut after = self.clone();
-        refuse_if(!after.grants.insert((role, operation, object)), ThereAlready)?;
+        refuse_if(!after.grants.insert(grant), ThereAlready)?;
         refuse_if(self.grants.len() >= MOST_GRANTS, Full)?;
         Ok(after)
     }
 
     pub fn revoke(&self, operation: u16, object: u16, role: u16) -> Change {
-        let (operation, object, role) = (Operation::new(operation)?, Object::new(object)?, Role::new(role)?);
-        self.need_role(role)?;
+        let grant = self.grant_to(role, operation, object)?;
         let mut after = self.clone();
-        refuse_if(!after.grants.remove(&(role, operation, object)), NotThere)?;
+        refuse_if(!after.grants.remove(&grant), NotThere)?;
         Ok(after)
     }
 
     pub fn inherit(&self, senior: u16, junior: u16) -> Change {
-        let (senior, junior) = (Role::new(senior)?, Role::new(junior)?);
-        self.need_role(senior)?;
-        self.need_role(junior)?;
+        let (senior, junior) = self.two_roles(senior, junior)?;
         refuse_if(self.lines.contains(&(senior, junior)), ThereAlready)?;
         refuse_if(senior == junior || self.inherited_by(junior).contains(&senior), Circle)?;
         let mut after = self.clone();
@@ -344,9 +382,7 @@ impl State {
     }
 
     pub fn disinherit(&self, senior: u16, junior: u16) -> Change {
-        let (senior, junior) = (Role::new(senior)?, Role::new(junior)?);
-        self.need_role(senior)?;
-        self.need_role(junior)?;
+        let (senior, junior) = self.two_roles(senior, junior)?;
         let mut after = self.clone();
         refuse_if(!after.lines.remove(&(senior, junior)), NotThere)?;
         after.shed();
@@ -357,9 +393,8 @@ impl State {
 // Commands on SSD and DSD sets.
 impl State {
     pub fn add_set(&self, kind: Kind, name: u16, cardinality: u16, roles: &[u16]) -> Change {
-        let roles = role_list(roles);
-        refuse_if(roles == Err(Form), Form)?;
-        let (name, roles) = (SetName::new(name)?, roles?);
+        need_rising(roles)?;
+        let (name, roles) = (SetName::new(name)?, role_set(roles)?);
         roles.iter().try_for_each(|&role| self.need_role(role))?;
         refuse_if(self.sets(kind).contains_key(&name), ThereAlready)?;
         let set = RoleSet { cardinality, roles };
@@ -376,17 +411,13 @@ impl State {
     }
 
     pub fn add_to_set(&self, kind: Kind, name: u16, role: u16) -> Change {
-        let (name, role) = (SetName::new(name)?, Role::new(role)?);
-        let mut set = self.need_set(kind, name)?.clone();
-        self.need_role(role)?;
+        let (name, mut set, role) = self.set_and_role(kind, name, role)?;
         refuse_if(!set.roles.insert(role), ThereAlready)?;
         self.with_set(kind, name, set)
     }
 
     pub fn drop_from_set(&self, kind: Kind, name: u16, role: u16) -> Change {
-        let (name, role) = (SetName::new(name)?, Role::new(role)?);
-        let mut set = self.need_set(kind, name)?.clone();
-        self.need_role(role)?;
+        let (name, mut set, role) = self.set_and_role(kind, name, role)?;
         refuse_if(!set.roles.remove(&role), NotThere)?;
         refuse_if(set.misshapen(), Cardinality)?;
         self.with_set(kind, name, set)
@@ -413,9 +444,8 @@ impl State {
 impl State {
     /// The state with the new session, and the session's number.
     pub fn open_session(&self, user: u16, roles: &[u16]) -> Result<(State, u16), Refusal> {
-        let roles = role_list(roles);
-        refuse_if(roles == Err(Form), Form)?;
-        let (owner, active) = (User::new(user)?, roles?);
+        need_rising(roles)?;
+        let (owner, active) = (User::new(user)?, role_set(roles)?);
         self.need_user(owner)?;
         active.iter().try_for_each(|&role| self.need_role(role))?;
         refuse_if(!active.is_subset(&self.authorised_roles(owner)), NotAuthorised)?;
@@ -476,48 +506,42 @@ impl State {
     }
 
     pub fn assigned_users(&self, role: u16) -> Review {
-        let role = Role::new(role)?;
-        self.need_role(role)?;
+        let role = self.role(role)?;
         Ok(self.users.iter().filter(|&&user| self.assignments.contains(&(user, role))).map(|user| user.0).collect())
     }
 
     pub fn assigned_roles(&self, user: u16) -> Review {
-        let user = User::new(user)?;
-        self.need_user(user)?;
+        let user = self.user(user)?;
         Ok(numbers(&self.roles_assigned_to(user)))
     }
 
     pub fn auth_users(&self, role: u16) -> Review {
-        let role = Role::new(role)?;
-        self.need_role(role)?;
+        let role = self.role(role)?;
         Ok(self.users.iter().filter(|&&user| self.authorised_roles(user).contains(&role)).map(|user| user.0).collect())
     }
 
     pub fn auth_roles(&self, user: u16) -> Review {
-        let user = User::new(user)?;
-        self.need_user(user)?;
+        let user = self.user(user)?;
         Ok(numbers(&self.authorised_roles(user)))
     }
 
     pub fn role_perms(&self, role: u16) -> Review {
-        let role = Role::new(role)?;
-        self.need_role(role)?;
+        let role = self.role(role)?;
         Ok(self.permissions_of(&self.with_inherited(&BTreeSet::from([role]))).into_iter().collect())
     }
 
     pub fn user_perms(&self, user: u16) -> Review {
-        let user = User::new(user)?;
-        self.need_user(user)?;
+        let user = self.user(user)?;
         Ok(self.permissions_of(&self.authorised_roles(user)).into_iter().collect())
     }
 
     pub fn session_roles(&self, session: u16) -> Review {
-        let session = self.need_session(SessionNumber::new(session)?)?;
+        let session = self.session(session)?;
         Ok(numbers(&session.active))
     }
 
     pub fn session_perms(&self, session: u16) -> Review {
-        let session = self.need_session(SessionNumber::new(session)?)?;
+        let session = self.session(session)?;
         Ok(self.permissions_of(&self.effective_roles(session)).into_iter().collect())
     }
 
@@ -538,11 +562,11 @@ impl State {
     }
 
     pub fn set_roles(&self, kind: Kind, name: u16) -> Review {
-        Ok(numbers(&self.need_set(kind, SetName::new(name)?)?.roles))
+        Ok(numbers(&self.set(kind, name)?.roles))
     }
 
     pub fn set_count(&self, kind: Kind, name: u16) -> Review {
-        Ok(vec![self.need_set(kind, SetName::new(name)?)?.cardinality])
+        Ok(vec![self.set(kind, name)?.cardinality])
     }
 }
 

@@ -1,7 +1,8 @@
 //! What a comparison must reach: the pairs of word and answer that the paper lists, and the events named here.
 
 use crate::engine::{numbers, Role, State, MOST_ASSIGNMENTS, MOST_GRANTS, MOST_LINES};
-use crate::script::{parse, word_of, Reply, WORDS};
+use crate::script::{first_word, parse, Reply};
+use crate::words::{Takes, Word, WORDS};
 use std::collections::{BTreeMap, BTreeSet};
 
 /// Stands in the table for lines that begin with no word of the paper's.
@@ -11,62 +12,20 @@ const SCRIPT: &str = "(script)";
 /// Stands in the table for a policy file that is loaded.
 const FILE: &str = "(file)";
 
-/// The answers listed in the paper, word by word. Answers 0 and 14 (a line not of the form) hold for every word.
-const LISTED: &[(&str, &[u8])] = &[
-    ("user", &[1, 4]),
-    ("role", &[1, 4]),
-    ("nouser", &[1, 2]),
-    ("norole", &[1, 2, 8, 13]),
-    ("assign", &[1, 2, 4, 10, 12, 13]),
-    ("deassign", &[1, 2, 5, 13]),
-    ("grant", &[1, 2, 4, 12]),
-    ("revoke", &[1, 2, 5]),
-    ("inherit", &[1, 2, 4, 6, 10, 12, 13]),
-    ("disinherit", &[1, 2, 5, 13]),
-    ("ssd", &[1, 2, 4, 7, 10, 13]),
-    ("nossd", &[1, 2]),
-    ("ssd-add", &[1, 2, 4, 10, 13]),
-    ("ssd-drop", &[1, 2, 5, 7]),
-    ("ssd-card", &[1, 2, 7, 10, 13]),
-    ("dsd", &[1, 2, 4, 7, 11]),
-    ("nodsd", &[1, 2]),
-    ("dsd-add", &[1, 2, 4, 11]),
-    ("dsd-drop", &[1, 2, 5, 7]),
-    ("dsd-card", &[1, 2, 7, 11]),
-    ("session", &[1, 2, 9, 11, 12, 13]),
-    ("activate", &[1, 2, 3, 4, 9, 11, 13]),
-    ("drop", &[1, 2, 3, 5]),
-    ("end", &[1, 2, 3]),
-    ("check", &[1, 2, 13]),
-    ("assigned-users", &[1, 2, 13, 15]),
-    ("assigned-roles", &[1, 2, 13, 15]),
-    ("auth-users", &[1, 2, 13, 15]),
-    ("auth-roles", &[1, 2, 13, 15]),
-    ("role-perms", &[1, 2, 13, 15]),
-    ("user-perms", &[1, 2, 13, 15]),
-    ("session-roles", &[1, 2, 13, 15]),
-    ("session-perms", &[1, 2, 13, 15]),
-    ("role-ops", &[1, 2, 13, 15]),
-    ("user-ops", &[1, 2, 13, 15]),
-    ("ssd-sets", &[1, 2, 13, 15]),
-    ("ssd-roles", &[1, 2, 13, 15]),
-    ("ssd-count", &[1, 2, 13, 15]),
-    ("dsd-sets", &[1, 2, 13, 15]),
-    ("dsd-roles", &[1, 2, 13, 15]),
-    ("dsd-count", &[1, 2, 13, 15]),
-    (FILE, &[6, 7, 9, 10, 11, 13, 15]),
-];
+/// The refusals that the paper lists for loading and saving, but for 14.
+const FILE_REFUSALS: &[u8] = &[6, 7, 9, 10, 11, 13, 15];
 
-/// The listed pairs that no script and no file can reach: the rows (none: every row), the answers and the reason.
-const UNREACHABLE: &[(&[&str], &[u8], &str)] = &[
-    (
-        &[],
-        &[13],
-        "there are no more than 64 roles and no circles, so no chain has more than 64 roles (a file's circle is answered 6)",
-    ),
-    (&[], &[15], "the programs' buffers hold the longest result and the longest file"),
-    (&["ssd-sets", "dsd-sets"], &[1, 2], "the question takes no number and names nothing"),
-];
+/// Why no script and no file can reach an answer that the paper lists for a word with these places, if none can.
+fn out_of_reach(takes: &[Takes], answer: u8) -> Option<&'static str> {
+    let empty = State::default();
+    match answer {
+        1 if takes.iter().all(|take| take.highest().is_none()) => Some("no number after the word has a range"),
+        2 if takes.iter().all(|take| take.existing(&empty).is_none()) => Some("the word names nothing that may be missing"),
+        13 => Some("64 roles without a circle make no chain of more than 64 roles (a file's circle is answered 6)"),
+        15 => Some("the programs' buffers hold the longest result and the longest file"),
+        _ => None,
+    }
+}
 
 /// Everything else that the material must reach at least once.
 const EVENTS: &[&str] = &[
@@ -172,23 +131,25 @@ pub struct Tally {
     been_full: BTreeSet<&'static str>,
 }
 
-/// The listed answers of a word, without those out of reach.
-fn reachable(row: &str, listed: &[u8]) -> Vec<u8> {
-    let out_of_reach = |answer: u8| {
-        UNREACHABLE.iter().any(|(rows, answers, _)| (rows.is_empty() || rows.contains(&row)) && answers.contains(&answer))
-    };
-    let all = [0].iter().chain(listed).chain(&[14]);
-    all.copied().filter(|&answer| !out_of_reach(answer)).collect()
+/// All pairs that the paper lists, with the places that the word has.
+fn listed_pairs() -> impl Iterator<Item = (&'static str, &'static [Takes], u8)> {
+    let words = WORDS.iter().map(|word| (word.text, word.takes, word.refusals));
+    words
+        .chain([(FILE, &[] as &[Takes], FILE_REFUSALS)])
+        .flat_map(|(row, takes, refusals)| [0, 14].iter().chain(refusals).map(move |&answer| (row, takes, answer)))
 }
 
-/// All listed pairs that are within reach.
-fn reachable_pairs() -> Vec<(&'static str, u8)> {
-    LISTED.iter().flat_map(|&(row, listed)| reachable(row, listed).into_iter().map(move |answer| (row, answer))).collect()
+/// The pairs that a comparison must reach.
+fn wanted_pairs() -> BTreeSet<(&'static str, u8)> {
+    let within_reach = listed_pairs().filter(|&(_, takes, answer)| out_of_reach(takes, answer).is_none());
+    within_reach.map(|(row, _, answer)| (row, answer)).chain([(NO_WORD, 14), (SCRIPT, 14)]).collect()
 }
 
 /// Those of them that a line of the form can reach, whatever stands in the tables.
-pub fn pairs_to_seek() -> Vec<(&'static str, u8)> {
-    reachable_pairs().into_iter().filter(|&(row, answer)| row != FILE && answer != 12 && answer != 14).collect()
+pub fn pairs_to_seek() -> Vec<(&'static Word, u8)> {
+    let answers = |word: &'static Word| [0].iter().chain(word.refusals).map(move |&answer| (word, answer));
+    let within_reach = |word: &Word, answer: u8| answer != 12 && out_of_reach(word.takes, answer).is_none();
+    WORDS.iter().flat_map(answers).filter(|&(word, answer)| within_reach(word, answer)).collect()
 }
 
 impl Tally {
@@ -222,8 +183,7 @@ impl Tally {
 
     /// Counts a line and what it did.
     pub fn line(&mut self, before: &State, line: &[u8], reply: &Reply) {
-        let text = line.split(|&byte| byte == b' ').next().unwrap_or_default();
-        self.pair(word_of(text).map_or(NO_WORD, |word| word.text), reply.answer);
+        self.pair(first_word(line).map_or(NO_WORD, |word| word.text), reply.answer);
         self.lines += 1;
         let Some((word, asked)) = parse(line) else { return };
         match (word.text, reply.answer, reply.results.len()) {
@@ -320,8 +280,7 @@ impl Tally {
 
     /// What is amiss: listed pairs and events that never came up, and pairs that came up and are not listed.
     pub fn amiss(&self) -> Vec<String> {
-        let no_word_and_script = [(NO_WORD, 14), (SCRIPT, 14)];
-        let wanted: BTreeSet<(&str, u8)> = reachable_pairs().into_iter().chain(no_word_and_script).collect();
+        let wanted = wanted_pairs();
         let found: BTreeSet<(&str, u8)> = self.pairs.keys().copied().collect();
         let never = wanted.difference(&found).map(|(row, answer)| format!("NEVER CAME UP: {row}: answer {answer}"));
         let not_listed =
@@ -331,12 +290,13 @@ impl Tally {
     }
 
     pub fn print(&self) {
+        let answers: BTreeSet<u8> = wanted_pairs().iter().chain(self.pairs.keys()).map(|&(_, answer)| answer).collect();
         print!("{:<15}", "answer");
-        (0..15).filter(|&answer| answer != 13).for_each(|answer| print!("{answer:>7}"));
+        answers.iter().for_each(|answer| print!("{answer:>7}"));
         println!();
         for row in WORDS.iter().map(|word| word.text).chain([NO_WORD, SCRIPT, FILE]) {
             print!("{row:<15}");
-            for answer in (0..15).filter(|&answer| answer != 13) {
+            for &answer in &answers {
                 match self.pairs.get(&(row, answer)) {
                     Some(count) => print!("{count:>7}"),
                     None => print!("{:>7}", "."),
@@ -350,9 +310,15 @@ impl Tally {
         }
         println!();
         println!("listed, but out of reach:");
-        for (rows, answers, reason) in UNREACHABLE {
-            let rows = if rows.is_empty() { "every word, file".to_string() } else { rows.join(", ") };
-            println!("  {rows}: {answers:?}, for {reason}");
+        let mut reasons: BTreeMap<(u8, &str), Vec<&str>> = BTreeMap::new();
+        for (row, takes, answer) in listed_pairs() {
+            if let Some(reason) = out_of_reach(takes, answer) {
+                reasons.entry((answer, reason)).or_default().push(row);
+            }
+        }
+        for ((answer, reason), rows) in reasons {
+            let rows = if rows.len() > 4 { format!("{} rows", rows.len()) } else { rows.join(", ") };
+            println!("  {answer} ({rows}): {reason}");
         }
     }
 }

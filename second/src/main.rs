@@ -9,6 +9,7 @@ mod policy_file;
 mod random;
 mod script;
 mod selftest;
+mod words;
 
 use std::io::{self, Read, Write};
 use std::process::ExitCode;

@@ -125,7 +125,7 @@ pub fn fixed_files() -> Vec<File> {
         let with_high_byte = u16::from(small[place]) + 256;
         for value in [0, 1, 2, 3, 15, 16, 63, 64, 65, 255, 256, 257, 512, 513, 2048, 2049, 32768, 65535, with_high_byte] {
             let mut bytes = small.clone();
-            bytes[place..place + 2].copy_from_slice(&u16::to_le_bytes(value));
+            put(&mut bytes, place, value);
             files.push(file(bytes, "file: every number of a small file replaced"));
         }
     }

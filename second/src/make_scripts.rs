@@ -7,7 +7,8 @@ mod themes;
 use crate::engine::State;
 use crate::listed::pairs_to_seek;
 use crate::random::Random;
-use crate::script::{answer, word_of};
+use crate::script::{answer, first_word, obey};
+use crate::words::{word_of, Obeys, Word, WORDS};
 use std::collections::BTreeMap;
 use themes::THEMES;
 
@@ -77,13 +78,8 @@ struct Draft<'a> {
     roles: u16,
 }
 
-/// Words to aim at acceptance with; those that stand more often are drawn more often.
-const GROWING: &str = "user role assign assign assign grant grant grant inherit inherit inherit ssd ssd-add ssd-card dsd dsd-add \
-                       dsd-card session session session activate activate";
-const SHRINKING: &str = "nouser norole deassign deassign deassign disinherit disinherit disinherit revoke nossd ssd-drop nodsd \
-                         dsd-drop drop end end";
-const QUESTIONS: &str = "check check check assigned-users assigned-roles auth-users auth-roles role-perms user-perms \
-                         session-roles session-perms role-ops user-ops ssd-sets ssd-roles ssd-count dsd-sets dsd-roles dsd-count";
+/// How many lines are tried for the answer that is wanted.
+const TRIES: usize = 40;
 
 impl<'a> Draft<'a> {
     fn new(maker: &'a mut ScriptMaker) -> Self {
@@ -105,7 +101,7 @@ impl<'a> Draft<'a> {
         self.bytes.extend(line);
         self.bytes.push(b'\n');
         let reply = answer(&self.state, line);
-        if let Some(word) = word_of(line.split(|&byte| byte == b' ').next().unwrap_or_default()) {
+        if let Some(word) = first_word(line) {
             *self.maker.seen.entry((word.text, reply.answer)).or_default() += 1;
         }
         if let Some(after) = reply.after {
@@ -147,9 +143,9 @@ impl<'a> Draft<'a> {
     /// Opens sessions until there is no room for one, in the table or in the script.
     fn open_all_sessions(&mut self) {
         while self.state.sessions.len() < 64 && !self.full {
-            self.aim("session", 0);
+            self.aim(named("session"), 0);
         }
-        self.aim("session", 12);
+        self.aim_at_full();
     }
 
     /// The end of the script: with or without the last LF, and now and then exactly as long as a script may be.
@@ -176,9 +172,10 @@ impl<'a> Draft<'a> {
 
     fn step(&mut self) {
         match self.random().below(100) {
-            0..=39 => self.aim_at_one_of(GROWING),
-            40..=48 => self.aim_at_one_of(SHRINKING),
-            49..=62 => self.aim_at_one_of(QUESTIONS),
+            0..=62 => {
+                let word = self.any_word();
+                self.aim(word, 0);
+            }
             63..=86 => {
                 let (word, answer) = self.rare_pair();
                 self.aim(word, answer);
@@ -187,6 +184,22 @@ impl<'a> Draft<'a> {
             94 if self.random().one_in(3) => self.review_all(),
             _ => self.malformed_line(),
         }
+    }
+
+    /// A word, drawn as often as its row says.
+    fn any_word(&mut self) -> &'static Word {
+        let words: Vec<&'static Word> = WORDS.iter().flat_map(|word| vec![word; word.often]).collect();
+        self.random().pick(&words).expect("there are words")
+    }
+
+    /// The rarest of some pairs drawn at random. (Full tables are left to their themes, other lines to `malformed_line`.)
+    fn rare_pair(&mut self) -> (&'static Word, u8) {
+        let drawn = self.random().some(&pairs_to_seek(), 6);
+        drawn.into_iter().min_by_key(|&(word, answer)| self.seen(word, answer)).expect("there are pairs")
+    }
+
+    fn seen(&self, word: &Word, answer: u8) -> u64 {
+        self.maker.seen.get(&(word.text, answer)).copied().unwrap_or(0)
     }
 
     /// A line aimed at a refusal from 3 up, with a fault that is answered lower.
@@ -198,54 +211,39 @@ impl<'a> Draft<'a> {
             let beyond = self.random().one_in(4);
             self.fault(word, &mut numbers, beyond);
         }
-        self.say(word, &numbers);
+        self.say(word.text, &numbers);
     }
 
-    /// Asks for all that a small state holds.
+    /// Asks every question about one thing of all such things that a small state holds.
     fn review_all(&mut self) {
         let state = self.state.clone();
-        for user in state.users.iter().take(12) {
-            self.say("assigned-roles", &[user.number()]);
-            self.say("user-perms", &[user.number()]);
-        }
-        for role in state.roles.iter().take(16) {
-            self.say("auth-users", &[role.number()]);
-            self.say("role-perms", &[role.number()]);
-        }
-        for (kind, sets) in [("ssd", &state.ssd), ("dsd", &state.dsd)] {
-            for name in sets.keys() {
-                self.say(&format!("{kind}-roles"), &[name.number()]);
-                self.say(&format!("{kind}-count"), &[name.number()]);
+        for word in WORDS.iter().filter(|word| matches!(word.obeys, Obeys::Asks(_))) {
+            if let [take] = word.takes {
+                let existing = take.existing(&state).unwrap_or_default();
+                existing.into_iter().take(16).for_each(|number| self.say(word.text, &[number]));
             }
         }
-        for session in state.sessions.keys() {
-            self.say("session-roles", &[session.number()]);
-        }
     }
 
-    /// The rarest of some pairs drawn at random. (Full tables are left to their themes, other lines to `malformed_line`.)
-    fn rare_pair(&mut self) -> (&'static str, u8) {
-        let drawn = self.random().some(&pairs_to_seek(), 6);
-        drawn.into_iter().min_by_key(|pair| self.maker.seen.get(pair).copied().unwrap_or(0)).expect("there are pairs")
+    /// Writes a line with the word that has the answer, where some tries find one; else the last one tried.
+    fn aim(&mut self, word: &Word, wanted: u8) {
+        let numbers = self.numbers_for(word, wanted);
+        self.say(word.text, &numbers);
     }
 
-    fn aim_at_one_of(&mut self, words: &str) {
-        let words: Vec<&str> = words.split(' ').collect();
-        let word = self.random().pick(&words).expect("there are words");
-        self.aim(word, 0);
-    }
-
-    /// Writes a line with the word that has the answer, where a few tries find one; else the last one tried.
-    fn aim(&mut self, word: &str, wanted: u8) {
-        let mut tried = Vec::new();
-        for _ in 0..12 {
-            tried = line(word, &self.numbers_with_faults(word, wanted));
-            if answer(&self.state, &tried).answer == wanted {
-                break;
+    /// Writes a line with every word that has the answer 12 now, if some tries find one.
+    fn aim_at_full(&mut self) {
+        for word in WORDS.iter().filter(|word| word.refusals.contains(&12)) {
+            let numbers = self.numbers_for(word, 12);
+            if obey(&self.state, word, &numbers).answer == 12 {
+                self.say(word.text, &numbers);
             }
         }
-        self.write(&tried);
     }
+}
+
+fn named(word: &str) -> &'static Word {
+    word_of(word.as_bytes()).expect("a word of the paper's")
 }
 
 /// A line of the form, but that its list may not rise.

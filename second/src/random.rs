@@ -38,10 +38,15 @@ impl Random {
     }
 
     pub fn pick<T: Clone>(&mut self, choices: &[T]) -> Option<T> {
-        if choices.is_empty() {
+        self.any(choices.iter()).cloned()
+    }
+
+    pub fn any<I: ExactSizeIterator>(&mut self, mut items: I) -> Option<I::Item> {
+        let count = items.len();
+        if count == 0 {
             None
         } else {
-            Some(choices[self.below(choices.len())].clone())
+            items.nth(self.below(count))
         }
     }
 

@@ -2,6 +2,7 @@
 
 use crate::make_files::{fullest, small_state};
 use crate::policy_file::{load, save, sections_of, write, ASSIGNMENTS, DSD, LINES, SESSIONS, SSD};
+use crate::words::{Takes, Word, WORDS};
 use crate::{engine::State, reload, script};
 
 const EXAMPLE: &str =
@@ -99,6 +100,13 @@ fn files() -> Vec<(&'static str, Vec<u8>, &'static str)> {
     ]
 }
 
+/// Whether the row is drawn up well: its word stands in no other row, a list comes last, the refusals rise, and it is made.
+fn row_is_well(row: &Word) -> bool {
+    let alone = WORDS.iter().filter(|word| word.text == row.text).count() == 1;
+    let leading = row.takes.split_last().map_or(&[] as &[Takes], |(_, leading)| leading);
+    alone && !leading.contains(&Takes::Roles) && row.refusals.windows(2).all(|pair| pair[0] < pair[1]) && row.often > 0
+}
+
 /// Runs every example and says whether all are right.
 pub fn selftest() -> bool {
     let (mut right, mut wrong) = (0, 0);
@@ -112,6 +120,9 @@ pub fn selftest() -> bool {
     };
     let run = |script: &str| String::from_utf8_lossy(&script::run(script.as_bytes())).into_owned();
 
+    for row in WORDS {
+        test("the row of the word", if row_is_well(row) { "" } else { row.text }, "");
+    }
     test("the example", &run(EXAMPLE), EXAMPLE_OUTPUT);
     test("the example without its last LF", &run(EXAMPLE.trim_end()), EXAMPLE_OUTPUT);
     test("the empty script", &run(""), "total 0 0\n");

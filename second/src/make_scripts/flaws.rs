@@ -2,19 +2,17 @@
 
 use super::{line, Draft};
 use crate::random::Random;
-use crate::script::WORDS;
+use crate::words::{Word, WORDS};
 
 impl Draft<'_> {
     /// Writes a line that would mostly be accepted but for one flaw.
     pub fn malformed_line(&mut self) {
-        let words: Vec<&str> = WORDS.iter().map(|word| word.text).collect();
+        let words: Vec<&'static Word> = WORDS.iter().collect();
         let drawn = self.random().some(&words, 3);
-        let word =
-            drawn.into_iter().min_by_key(|word| self.maker.seen.get(&(word, 14)).copied().unwrap_or(0)).expect("there are words");
+        let word = drawn.into_iter().min_by_key(|word| self.seen(word, 14)).expect("there are words");
         let wanted = if self.random().one_in(4) { 1 } else { 0 };
-        let numbers = self.numbers_with_faults(word, wanted);
-        let sound = line(word, &numbers);
-        let (flawed, event) = self.flawed(word, &numbers, sound);
+        let numbers = self.numbers_for(word, wanted);
+        let (flawed, event) = self.flawed(word.text, &numbers);
         let answer = self.write(&flawed);
         let of_the_form = event == "line: exactly 512 bytes and of the form";
         if answer.is_some_and(|answer| (answer == 14) != of_the_form) {
@@ -22,7 +20,8 @@ impl Draft<'_> {
         }
     }
 
-    fn flawed(&mut self, word: &str, numbers: &[u16], sound: Vec<u8>) -> (Vec<u8>, &'static str) {
+    fn flawed(&mut self, word: &str, numbers: &[u16]) -> (Vec<u8>, &'static str) {
+        let sound = line(word, numbers);
         let text = String::from_utf8(sound.clone()).expect("lines are made of ASCII");
         let tail = text[word.len()..].to_string();
         match self.random().below(21) {
@@ -99,11 +98,17 @@ impl Draft<'_> {
         line
     }
 
+    /// A word that takes a list, with numbers for it and how many of them stand before the list.
+    fn word_with_list(&mut self, wanted: u8) -> (&'static str, Vec<u16>, usize) {
+        let words: Vec<(&'static Word, usize)> = WORDS.iter().filter_map(|word| Some((word, word.before_list()?))).collect();
+        let (word, leading) = self.random().pick(&words).expect("a word takes a list");
+        (word.text, self.numbers_for(word, wanted), leading)
+    }
+
     /// A line with a list of at least two roles, changed; now and then there is more amiss with it.
     fn with_list(&mut self, change: impl Fn(&mut [u16])) -> Vec<u8> {
-        let (word, leading) = [("session", 1), ("ssd", 2), ("dsd", 2)][self.random().below(3)];
         let wanted = self.random().pick(&[0, 0, 1, 2]).unwrap_or(0);
-        let mut numbers = self.numbers_with_faults(word, wanted);
+        let (word, mut numbers, leading) = self.word_with_list(wanted);
         while numbers.len() < leading + 2 {
             let next = numbers[leading..].last().map_or(0, |last| last + 1);
             numbers.push(next);
@@ -115,13 +120,11 @@ impl Draft<'_> {
 
     /// A line of that length with a long, strictly rising list.
     fn of_length(&mut self, length: usize) -> Vec<u8> {
-        let mut text = format!("session {}", self.user()).into_bytes();
+        let (word, numbers, leading) = self.word_with_list(0);
+        let mut text = line(word, &numbers[..leading]);
         // Some numbers of four digits (five bytes with the space), so that numbers of five digits fill the rest.
         let short = (6 - (length - text.len()) % 6) % 6;
-        for number in (1_000..).take(short) {
-            text.extend(format!(" {number}").bytes());
-        }
-        for number in 10_000.. {
+        for number in (1_000..).take(short).chain(10_000..) {
             if text.len() >= length {
                 break;
             }

@@ -1,7 +1,7 @@
 //! Themes. Each begins a script; random steps fill it up.
 
-use super::{Draft, LONGEST_SCRIPT};
-use crate::script::WORDS;
+use super::{named, Draft, LONGEST_SCRIPT};
+use crate::words::WORDS;
 
 /// Scripts take these in turn.
 pub const THEMES: &[fn(&mut Draft)] =
@@ -12,12 +12,36 @@ fn mixed(draft: &mut Draft) {
     draft.roles = draft.random().number(3, 16);
 }
 
+/// Users and roles from 0 up, in as long a script as may be.
+fn begin(draft: &mut Draft, users: u16, roles: u16) {
+    draft.room = LONGEST_SCRIPT;
+    draft.users = users;
+    draft.roles = roles;
+    draft.add_users(0..users);
+    draft.add_roles(0..roles);
+}
+
+/// Adds entries until their table is full, and more: one that has no room (12), one that is there already, and what else is to be
+/// said then. After that it removes one entry and uses its room.
+fn fill<const N: usize>(
+    draft: &mut Draft,
+    [add, remove]: [&str; 2],
+    (within, beyond): (&[[u16; N]], &[[u16; N]]),
+    while_full: impl Fn(&mut Draft),
+) {
+    within.iter().for_each(|entry| draft.say(add, entry));
+    draft.say(add, &beyond[0]);
+    draft.say(add, &within[0]);
+    while_full(draft);
+    draft.aim_at_full();
+    draft.say(remove, &within[1]);
+    draft.say(add, &beyond[1]);
+    draft.say(add, &beyond[2]);
+}
+
 /// Few users and roles, so that rules are always close.
 fn crowded(draft: &mut Draft) {
-    draft.users = 3;
-    draft.roles = 6;
-    draft.add_users(0..3);
-    draft.add_roles(0..6);
+    begin(draft, 3, 6);
     // A line that would break an SSD rule too, if it did not close a circle.
     draft.say("assign", &[0, 0]);
     draft.say("inherit", &[1, 0]);
@@ -28,15 +52,12 @@ fn crowded(draft: &mut Draft) {
 
 /// A chain of all 64 roles, drawn up in any order.
 fn deep(draft: &mut Draft) {
-    draft.roles = 64;
-    draft.room = LONGEST_SCRIPT;
-    draft.add_users(0..8);
-    draft.add_roles(0..64);
+    begin(draft, 8, 64);
     let order = draft.shuffled(0..64);
     let mut lines: Vec<[u16; 2]> = order.windows(2).map(|pair| [pair[0], pair[1]]).collect();
     draft.random().shuffle(&mut lines);
-    for [senior, junior] in lines {
-        draft.say("inherit", &[senior, junior]);
+    for line in lines {
+        draft.say("inherit", &line);
     }
     let (top, bottom) = (order[0], order[63]);
     draft.say("inherit", &[bottom, top]);
@@ -61,11 +82,7 @@ fn deep(draft: &mut Draft) {
 
 /// All 2,048 assignments, with an SSD set that every user comes close to breaking.
 fn full_assignments(draft: &mut Draft) {
-    draft.room = LONGEST_SCRIPT;
-    draft.users = 34;
-    draft.roles = 64;
-    draft.add_users(0..34);
-    draft.add_roles(0..64);
+    begin(draft, 34, 64);
     let spare = draft.random().number(0, 63);
     let others: Vec<u16> = (0..64).filter(|&role| role != spare).collect();
     let mut members = draft.random().some(&others, 3);
@@ -74,55 +91,33 @@ fn full_assignments(draft: &mut Draft) {
     draft.say("ssd", &[&[0, 4], members.as_slice()].concat());
     let mut pairs: Vec<[u16; 2]> = (0..33).flat_map(|user| others.iter().map(move |&role| [user, role])).collect();
     draft.random().shuffle(&mut pairs);
-    let (within, beyond) = pairs.split_at(2048);
-    for pair in within {
-        draft.say("assign", pair);
-    }
-    let (first, second) = (beyond[0], beyond[1]);
-    draft.say("assign", &first);
-    draft.say("assign", &within[0]);
-    draft.say("assign", &[33, others[0]]);
-    draft.say("assign", &[200, others[0]]);
-    (0..6).for_each(|user| draft.say("assign", &[user, spare]));
-    draft.say("deassign", &within[1]);
-    draft.say("assign", &first);
-    draft.say("assign", &second);
-    draft.say("nouser", &[within[0][0]]);
+    fill(draft, ["assign", "deassign"], pairs.split_at(2048), |draft| {
+        draft.say("assign", &[33, others[0]]);
+        draft.say("assign", &[200, others[0]]);
+        (0..6).for_each(|user| draft.say("assign", &[user, spare]));
+    });
+    draft.say("nouser", &[pairs[0][0]]);
     draft.say("assign", &[33, others[1]]);
     draft.say("assigned-users", &[others[1]]);
 }
 
 /// All 2,048 grants, of different permissions, on four roles of which one inherits the others.
 fn full_grants(draft: &mut Draft) {
-    draft.room = LONGEST_SCRIPT;
-    draft.users = 3;
-    draft.roles = 6;
-    draft.add_users(0..2);
-    draft.add_roles(0..6);
+    begin(draft, 3, 6);
     draft.say("assign", &[0, 0]);
     draft.say("session", &[0, 0]);
     for junior in 1..4 {
         draft.say("inherit", &[junior - 1, junior]);
     }
-    let mut permissions: Vec<[u16; 2]> = (0..16).flat_map(|operation| (0..129).map(move |object| [operation, object])).collect();
-    draft.random().shuffle(&mut permissions);
-    let mut grants: Vec<[u16; 3]> = Vec::new();
-    for [operation, object] in permissions {
-        grants.push([operation, object, draft.random().number(0, 3)]);
-    }
-    let (within, beyond) = grants.split_at(2048);
-    for grant in within {
-        draft.say("grant", grant);
-    }
-    draft.say("role-perms", &[0]);
-    draft.say("user-perms", &[0]);
-    draft.say("session-perms", &[0]);
-    draft.say("grant", &beyond[0]);
-    draft.say("grant", &within[0]);
-    draft.say("grant", &[3, 3, 60]);
-    draft.say("revoke", &within[1]);
-    draft.say("grant", &beyond[1]);
-    draft.say("grant", &beyond[2]);
+    let mut grants: Vec<[u16; 3]> = (0..16).flat_map(|operation| (0..129).map(move |object| [operation, object, 0])).collect();
+    draft.random().shuffle(&mut grants);
+    grants.iter_mut().for_each(|grant| grant[2] = draft.random().number(0, 3));
+    fill(draft, ["grant", "revoke"], grants.split_at(2048), |draft| {
+        draft.say("grant", &[3, 3, 60]);
+        draft.say("role-perms", &[0]);
+        draft.say("user-perms", &[0]);
+        draft.say("session-perms", &[0]);
+    });
     draft.say("norole", &[2]);
     draft.say("grant", &[15, 255, 5]);
     draft.say("role-perms", &[0]);
@@ -131,11 +126,7 @@ fn full_grants(draft: &mut Draft) {
 
 /// All 512 lines: a chain of 63 roles with shortcuts, in any order, so that there are very many ways down.
 fn full_lines(draft: &mut Draft) {
-    draft.users = 6;
-    draft.roles = 64;
-    draft.room = LONGEST_SCRIPT;
-    draft.add_users(0..6);
-    draft.add_roles(0..64);
+    begin(draft, 6, 64);
     let order = draft.shuffled(0..63);
     let spare = 63;
     draft.say("assign", &[0, order[0]]);
@@ -146,26 +137,19 @@ fn full_lines(draft: &mut Draft) {
     for gap in 1..63 {
         lines.extend((gap..63).map(|place| [order[place - gap], order[place]]));
     }
-    let beyond = lines.split_off(512);
-    draft.random().shuffle(&mut lines);
-    for line in &lines {
-        draft.say("inherit", line);
-    }
-    draft.say("auth-roles", &[0]);
-    draft.say("auth-users", &[order[62]]);
+    draft.random().shuffle(&mut lines[..512]);
     let mut members = [order[40], spare];
     members.sort_unstable();
-    draft.say("ssd", &[0, 2, members[0], members[1]]);
-    draft.say("inherit", &beyond[0]);
-    draft.say("inherit", &lines[0]);
-    draft.say("inherit", &[lines[0][1], lines[0][0]]);
-    draft.say("inherit", &[order[62], order[0]]);
-    draft.say("inherit", &[order[10], spare]);
-    draft.say("inherit", &[spare, order[50]]);
-    draft.say("assign", &[1, spare]);
-    draft.say("disinherit", &lines[1]);
-    draft.say("inherit", &beyond[1]);
-    draft.say("inherit", &beyond[2]);
+    fill(draft, ["inherit", "disinherit"], lines.split_at(512), |draft| {
+        draft.say("auth-roles", &[0]);
+        draft.say("auth-users", &[order[62]]);
+        draft.say("ssd", &[0, 2, members[0], members[1]]);
+        draft.say("inherit", &[lines[0][1], lines[0][0]]);
+        draft.say("inherit", &[order[62], order[0]]);
+        draft.say("inherit", &[order[10], spare]);
+        draft.say("inherit", &[spare, order[50]]);
+        draft.say("assign", &[1, spare]);
+    });
     draft.say("norole", &[order[20]]);
     draft.say("auth-roles", &[0]);
     draft.say("auth-roles", &[1]);
@@ -173,11 +157,7 @@ fn full_lines(draft: &mut Draft) {
 
 /// All 64 sessions, with a DSD set and roles to shed.
 fn full_sessions(draft: &mut Draft) {
-    draft.users = 5;
-    draft.roles = 8;
-    draft.room = LONGEST_SCRIPT;
-    draft.add_users(0..5);
-    draft.add_roles(0..8);
+    begin(draft, 5, 8);
     for line in [[0, 1], [1, 2], [3, 4]] {
         draft.say("inherit", &line);
     }
@@ -194,7 +174,7 @@ fn full_sessions(draft: &mut Draft) {
     draft.say("session", &[9]);
     for _ in 0..4 {
         for _ in 0..3 {
-            draft.aim("end", 0);
+            draft.aim(named("end"), 0);
         }
         draft.open_all_sessions();
     }
@@ -218,11 +198,7 @@ fn malformed(draft: &mut Draft) {
 
 /// All 256 users and all 64 roles.
 fn wide(draft: &mut Draft) {
-    draft.users = 256;
-    draft.roles = 64;
-    draft.room = LONGEST_SCRIPT;
-    draft.add_users(0..256);
-    draft.add_roles(0..64);
+    begin(draft, 256, 64);
     for user in 0..256 {
         let role = draft.random().number(1, 63);
         draft.say("assign", &[user, role]);
