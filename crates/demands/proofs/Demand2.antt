@@ -25,7 +25,7 @@ use Rattle.sound.proofs.Listed.{check-listed}
 use Rattle.sound.proofs.Sessions.{lowest-free}
 use Rattle.sound.proofs.Sets.{shape-of}
 use Rattle.sound.proofs.Shedding.{inSet-exact}
-use Rattle.sound.proofs.Sheet.{AllClear, positive, ordered, clear-done, done-clear, verdict-here, verdict-later, verdict-lowest, settle-answer, settle-done, settle-refused, settle-same}
+use Rattle.sound.proofs.Sheet.{AllClear, rank, positive, ordered, clear-done, done-clear, verdict-here, verdict-later, verdict-lowest, settle-answer, settle-done, settle-refused, settle-same}
 use Rattle.sound.proofs.Words.{effective-exact, permitted-exact, listed-within}
 use Rattle.demands.specs.Demand2.{Demand2, Exactly, Obeys, Answers, Applies, FirstToApply, place, refusals, results, effect, checkRefusals, Granted, Conditions, wouldBreak, StaticBroken, DynamicBroken}
 use Rattle.demands.specs.Reachable.{Reachable}
@@ -55,10 +55,10 @@ verdict-applies (r ∷ rest) h = go (r .holds) refl (verdict-applies rest)
     go false e f = Memᴰ·cast (ap (λ (n : ℕ). n when true) (verdict-later r rest e)) (List·Memᴰ·tail (f (λ z. h (verdict-later r rest e ∙ z))))
 
 -- Two numbers with one place, neither of them 0, are one.
-place-one : (a b : ℕ) → (a ≡ 0 → ⊥) → (b ≡ 0 → ⊥) → place a ≡ place b → a ≡ b
-place-one a b na nb e = go (eqb a 14) refl (eqb b 14) refl
+rank-one : (a b : ℕ) → (a ≡ 0 → ⊥) → (b ≡ 0 → ⊥) → rank a ≡ rank b → a ≡ b
+rank-one a b na nb e = go (eqb a 14) refl (eqb b 14) refl
   where
-    at : (n : ℕ) (x : Bool) → eqb n 14 ≡ x → place n ≡ (elim x as (λ _. ℕ) [ true ↦ 0 | false ↦ n ])
+    at : (n : ℕ) (x : Bool) → eqb n 14 ≡ x → rank n ≡ (elim x as (λ _. ℕ) [ true ↦ 0 | false ↦ n ])
     at n x p = ap (λ (y : Bool). elim y as (λ _. ℕ) [ true ↦ 0 | false ↦ n ]) p
 
     go : (x : Bool) → eqb a 14 ≡ x → (y : Bool) → eqb b 14 ≡ y → a ≡ b
@@ -92,7 +92,7 @@ exactly list m results after told ord pos e =
         let some-applies : verdict list ≡ 0 → ⊥ = λ z. none-applies list (done-clear list pos z) n (f .applies) in
         let low : place n ≤ place (verdict list) = f .first (verdict list) (verdict-applies list some-applies) in
         let high : place (verdict list) ≤ place n = verdict-lowest list ord (n when true) (f .applies) refl in
-        answer ∙ place-one (verdict list) n some-applies nz (omega arith)
+        answer ∙ rank-one (verdict list) n some-applies nz (omega arith)
 
 -- ---- the commands
 
