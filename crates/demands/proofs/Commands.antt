@@ -17,7 +17,7 @@ use Rattle.model.specs.commands.Sessions.{session, activate, drop, end}
 use Rattle.model.specs.declared.Command.{Command}
 use Rattle.model.specs.declared.Command.the-variants.{AddUser, AddRole, NoUser, NoRole, Assign, Deassign, Grant, Revoke, Inherit, Disinherit, MakeSet, DropSet, AddMember, DropMember, SetCardinality, OpenSession, Activate, DropActive, EndSession}
 use Rattle.model.specs.declared.Kind.the-variants.{Static, Dynamic}
-use Rattle.sound.proofs.Sheet.{positive, ordered}
+use Rattle.sound.proofs.Sheet.{positive, ordered, absent, not-told}
 use Rattle.sound.proofs.Listed.{assign-listed, deassign-listed, grant-listed, inherit-listed, disinherit-listed, norole-listed, makeSet-listed, addMember-listed, setCardinality-listed, session-listed, activate-listed}
 use Rattle.sound.proofs.Users.{user-sound, role-sound, nouser-sound}
 use Rattle.sound.proofs.Shedding.{deassign-sound, disinherit-sound, norole-sound}
@@ -40,19 +40,24 @@ pub record Shown (m : Model) (c : Command) (list : List ℕ) (told : Told) : Typ
   -- on a sound policy it settles by that list, and leaves a sound one
   pub listed : Sound m → told ≡ settle (refusals m c list) m (results m c list) (effect m c list)
   pub kept : Sound m → Sound (told .after)
+  -- where it is not answered 13: no chain of more than 64 roles is met
+  pub never-13 : Sound m → told .answer ≡ 13 → ⊥
 
--- The same from what differs: that the numbers of its list in the model are below 15, that the paper's list is in order, and the two laws of the
--- command.
-by : {m : Model} {c : Command} {list : List ℕ} (rs : List Refusal) (gives : List ℕ) (after : Model) → below 15 rs ≡ true → (ordered (refusals m c list) && positive (refusals m c list)) ≡ true → (Sound m → settle rs m gives after ≡ settle (refusals m c list) m (results m c list) (effect m c list)) → (Sound m → Sound (settle rs m gives after .after)) → Shown m c list (settle rs m gives after)
+-- The same from what differs: that the numbers of its list in the model are below 15, that the paper's list is in order and has no 13, and the two
+-- laws of the command.
+by : {m : Model} {c : Command} {list : List ℕ} (rs : List Refusal) (gives : List ℕ) (after : Model) → below 15 rs ≡ true → (ordered (refusals m c list) && (positive (refusals m c list) && absent 13 (refusals m c list))) ≡ true → (Sound m → settle rs m gives after ≡ settle (refusals m c list) m (results m c list) (effect m c list)) → (Sound m → Sound (settle rs m gives after .after)) → Shown m c list (settle rs m gives after)
 by {m} {c} {list} rs gives after small order listed kept =
+    let paper = refusals m c list in
     let h = settled-below 15 rs m gives after (omega arith) small in
+    let rest = and-right (ordered paper) (positive paper && absent 13 paper) order in
     record {
       harmless = settled-harmless rs m gives after (omega arith);
       never-15 = λ e. omega arith;
-      ordered = and-left (ordered (refusals m c list)) (positive (refusals m c list)) order;
-      positive = and-right (ordered (refusals m c list)) (positive (refusals m c list)) order;
+      ordered = and-left (ordered paper) (positive paper && absent 13 paper) order;
+      positive = and-left (positive paper) (absent 13 paper) rest;
       listed = listed;
       kept = kept;
+      never-13 = λ s. not-told 13 paper m (results m c list) (effect m c list) (settle rs m gives after) (omega arith) (and-right (positive paper) (absent 13 paper) rest) (listed s);
     }
 
 pub shown : (m : Model) (c : Command) (list : List ℕ) → Shown m c list (step m c list)
