@@ -15,24 +15,21 @@ use Rattle.model.specs.Sheet.{Refusal, _when_, Told, verdict, settle}
 use Rattle.model.specs.Sound.{Sound}
 use Rattle.model.specs.Step.{step}
 use Rattle.model.specs.Words.{authorised, effective, counted, breaks, breaksSome, staticBroken, dynamicBroken, permission}
-use Rattle.model.specs.commands.Users.{user, role, nouser}
-use Rattle.model.specs.commands.Assigning.{revoke}
-use Rattle.model.specs.commands.Sets.{setsOf, dropSet, dropMember}
-use Rattle.model.specs.commands.Sessions.{permitted, check, drop, end}
-use Rattle.model.specs.declared.Command.{Command}
-use Rattle.model.specs.declared.Command.the-variants.{AddUser, AddRole, NoUser, NoRole, Assign, Deassign, Grant, Revoke, Inherit, Disinherit, MakeSet, DropSet, AddMember, DropMember, SetCardinality, OpenSession, Activate, DropActive, EndSession}
+use Rattle.model.specs.commands.Sets.{setsOf}
+use Rattle.model.specs.commands.Sessions.{permitted, check}
 use Rattle.model.specs.declared.Kind.the-variants.{Static, Dynamic}
 use Rattle.sound.proofs.Asked.{opened-asks-all, room-asks-all}
 use Rattle.sound.proofs.Breaking.{breaks-exact}
 use Rattle.sound.proofs.Inheriting.{circle-exact}
-use Rattle.sound.proofs.Listed.{assign-listed, deassign-listed, grant-listed, inherit-listed, disinherit-listed, norole-listed, makeSet-listed, addMember-listed, setCardinality-listed, session-listed, activate-listed, check-listed}
+use Rattle.sound.proofs.Listed.{check-listed}
 use Rattle.sound.proofs.Sessions.{lowest-free}
 use Rattle.sound.proofs.Sets.{shape-of}
 use Rattle.sound.proofs.Shedding.{inSet-exact}
-use Rattle.sound.proofs.Sheet.{AllClear, positive, ordered, clear-done, done-clear, verdict-here, verdict-later, verdict-lowest, settle-answer, settle-done, settle-refused, settle-same}
+use Rattle.sound.proofs.Sheet.{AllClear, rank, positive, ordered, clear-done, done-clear, verdict-here, verdict-later, verdict-lowest, settle-answer, settle-done, settle-refused, settle-same}
 use Rattle.sound.proofs.Words.{effective-exact, permitted-exact, listed-within}
 use Rattle.demands.specs.Demand2.{Demand2, Exactly, Obeys, Answers, Applies, FirstToApply, place, refusals, results, effect, checkRefusals, Granted, Conditions, wouldBreak, StaticBroken, DynamicBroken}
 use Rattle.demands.specs.Reachable.{Reachable}
+use Rattle.demands.proofs.Commands.{shown}
 use Rattle.demands.proofs.Kept.{reachable-sound}
 
 -- ---- the answer sheet: the verdict is the first number that applies
@@ -58,10 +55,10 @@ verdict-applies (r ∷ rest) h = go (r .holds) refl (verdict-applies rest)
     go false e f = Memᴰ·cast (ap (λ (n : ℕ). n when true) (verdict-later r rest e)) (List·Memᴰ·tail (f (λ z. h (verdict-later r rest e ∙ z))))
 
 -- Two numbers with one place, neither of them 0, are one.
-place-one : (a b : ℕ) → (a ≡ 0 → ⊥) → (b ≡ 0 → ⊥) → place a ≡ place b → a ≡ b
-place-one a b na nb e = go (eqb a 14) refl (eqb b 14) refl
+rank-one : (a b : ℕ) → (a ≡ 0 → ⊥) → (b ≡ 0 → ⊥) → rank a ≡ rank b → a ≡ b
+rank-one a b na nb e = go (eqb a 14) refl (eqb b 14) refl
   where
-    at : (n : ℕ) (x : Bool) → eqb n 14 ≡ x → place n ≡ (elim x as (λ _. ℕ) [ true ↦ 0 | false ↦ n ])
+    at : (n : ℕ) (x : Bool) → eqb n 14 ≡ x → rank n ≡ (elim x as (λ _. ℕ) [ true ↦ 0 | false ↦ n ])
     at n x p = ap (λ (y : Bool). elim y as (λ _. ℕ) [ true ↦ 0 | false ↦ n ]) p
 
     go : (x : Bool) → eqb a 14 ≡ x → (y : Bool) → eqb b 14 ≡ y → a ≡ b
@@ -95,64 +92,12 @@ exactly list m results after told ord pos e =
         let some-applies : verdict list ≡ 0 → ⊥ = λ z. none-applies list (done-clear list pos z) n (f .applies) in
         let low : place n ≤ place (verdict list) = f .first (verdict list) (verdict-applies list some-applies) in
         let high : place (verdict list) ≤ place n = verdict-lowest list ord (n when true) (f .applies) refl in
-        answer ∙ place-one (verdict list) n some-applies nz (omega arith)
+        answer ∙ rank-one (verdict list) n some-applies nz (omega arith)
 
 -- ---- the commands
 
--- Each command settles by its list in the paper.
-pub as-listed : (m : Model) (c : Command) (list : List ℕ) → Sound m → step m c list ≡ settle (refusals m c list) m (results m c list) (effect m c list)
-unfolding step refusals results effect user role nouser revoke dropSet dropMember drop end
-as-listed m (AddUser u) list s = refl
-as-listed m (AddRole r) list s = refl
-as-listed m (NoUser u) list s = refl
-as-listed m (NoRole r) list s = norole-listed m (r .number) s
-as-listed m (Assign u r) list s = assign-listed m (u .number) (r .number) s
-as-listed m (Deassign u r) list s = deassign-listed m (u .number) (r .number) s
-as-listed m (Grant op obj r) list s = grant-listed m op obj (r .number) s
-as-listed m (Revoke op obj r) list s = refl
-as-listed m (Inherit senior junior) list s = inherit-listed m (senior .number) (junior .number) s
-as-listed m (Disinherit senior junior) list s = disinherit-listed m (senior .number) (junior .number) s
-as-listed m (MakeSet Static name n) list s = makeSet-listed Static m (name .number) n list s
-as-listed m (MakeSet Dynamic name n) list s = makeSet-listed Dynamic m (name .number) n list s
-as-listed m (DropSet kind name) list s = refl
-as-listed m (AddMember Static name r) list s = addMember-listed Static m (name .number) (r .number) s
-as-listed m (AddMember Dynamic name r) list s = addMember-listed Dynamic m (name .number) (r .number) s
-as-listed m (DropMember kind name r) list s = refl
-as-listed m (SetCardinality Static name n) list s = setCardinality-listed Static m (name .number) n s
-as-listed m (SetCardinality Dynamic name n) list s = setCardinality-listed Dynamic m (name .number) n s
-as-listed m (OpenSession u) list s = session-listed m (u .number) list s
-as-listed m (Activate u k r) list s = activate-listed m (u .number) (k .number) (r .number) s
-as-listed m (DropActive u k r) list s = refl
-as-listed m (EndSession u k) list s = refl
-
--- Every list is in the order of the sheet, and none of its numbers is 0.
-pub in-order : (m : Model) (c : Command) (list : List ℕ) → (ordered (refusals m c list) ≡ true) × (positive (refusals m c list) ≡ true)
-unfolding refusals
-in-order m (AddUser u) list = (refl, refl)
-in-order m (AddRole r) list = (refl, refl)
-in-order m (NoUser u) list = (refl, refl)
-in-order m (NoRole r) list = (refl, refl)
-in-order m (Assign u r) list = (refl, refl)
-in-order m (Deassign u r) list = (refl, refl)
-in-order m (Grant op obj r) list = (refl, refl)
-in-order m (Revoke op obj r) list = (refl, refl)
-in-order m (Inherit senior junior) list = (refl, refl)
-in-order m (Disinherit senior junior) list = (refl, refl)
-in-order m (MakeSet Static name n) list = (refl, refl)
-in-order m (MakeSet Dynamic name n) list = (refl, refl)
-in-order m (DropSet kind name) list = (refl, refl)
-in-order m (AddMember Static name r) list = (refl, refl)
-in-order m (AddMember Dynamic name r) list = (refl, refl)
-in-order m (DropMember kind name r) list = (refl, refl)
-in-order m (SetCardinality Static name n) list = (refl, refl)
-in-order m (SetCardinality Dynamic name n) list = (refl, refl)
-in-order m (OpenSession u) list = (refl, refl)
-in-order m (Activate u k r) list = (refl, refl)
-in-order m (DropActive u k r) list = (refl, refl)
-in-order m (EndSession u k) list = (refl, refl)
-
 commands : Obeys step
-commands m p c list = exactly (refusals m c list) m (results m c list) (effect m c list) (step m c list) (in-order m c list .0) (in-order m c list .1) (as-listed m c list (reachable-sound p))
+commands m p c list = exactly (refusals m c list) m (results m c list) (effect m c list) (step m c list) (shown m c list .ordered) (shown m c list .positive) (shown m c list .listed (reachable-sound p))
 
 -- ---- access
 

@@ -14,7 +14,7 @@ use Rattle.roleset.proofs.Laws.{has-with, has-without, has-beyond, has-none, wi
 use Rattle.model.specs.Lists.{listed, setOf, someFrom}
 use Rattle.model.specs.Model.{Model, RoleSet, Session, noSession, put, withUsers, withLines, withAssignments, withGrants}
 use Rattle.model.specs.Model as model
-use Rattle.model.specs.Sheet.{Told}
+use Rattle.model.specs.Sheet.{Told, verdict}
 use Rattle.model.specs.Sound.{Sound}
 use Rattle.model.specs.Step.{step}
 use Rattle.model.specs.Words as words
@@ -34,13 +34,13 @@ use Rattle.model.proofs.Puts.{put-same, put-other}
 use Rattle.sound.proofs.Carried.{closed-idle}
 use Rattle.sound.proofs.Members.{or-no}
 use Rattle.sound.proofs.Sets.{shape-of}
-use Rattle.sound.proofs.Sheet.{AllClear, done-clear, settle-answer}
+use Rattle.sound.proofs.Sheet.{AllClear, done-clear, settle-answer, settle-done}
 use Rattle.sound.proofs.Words.{authorised-exact, setOf-exact, shed-stays, shed-exact}
 use Rattle.demands.specs.Authorised.{Authorised}
 use Rattle.demands.specs.Demand2.{refusals, results, effect, setMade}
 use Rattle.demands.specs.Effects.{Effects, Changed, Added, Removed, Shed, SetBecomes, SessionBecomes}
-use Rattle.demands.proofs.Demand2.{demand2, as-listed, in-order}
-use Rattle.demands.proofs.Kept.{reachable-sound, step-sound}
+use Rattle.demands.proofs.Commands.{shown}
+use Rattle.demands.proofs.Kept.{reachable-sound}
 
 -- ---- a set of roles with one more, and with one less: for every number, not only those below 64
 
@@ -194,6 +194,7 @@ changed m (EndSession u k) list s t c = session-becomes m (k .number) noSession 
 pub effects : Effects
 effects m p c list z =
     let s = reachable-sound p in
-    let after : step m c list .after ≡ effect m c list = demand2 .commands m p c list .changes z in
-    let clear : AllClear (refusals m c list) = done-clear (refusals m c list) (in-order m c list .1) (sym (settle-answer (refusals m c list) m (results m c list) (effect m c list)) ∙ ap (λ (t : Told). t .answer) (sym (as-listed m c list s)) ∙ z) in
-    subst (Changed m c list) (sym after) (changed m c list s (subst Sound after (step-sound m c list s)) clear)
+    let row = shown m c list in
+    let answer : step m c list .answer ≡ verdict (refusals m c list) = ap (λ (t : Told). t .answer) (row .listed s) ∙ settle-answer (refusals m c list) m (results m c list) (effect m c list) in
+    let after : step m c list .after ≡ effect m c list = ap (λ (t : Told). t .after) (row .listed s ∙ settle-done (refusals m c list) m (results m c list) (effect m c list) (sym answer ∙ z)) in
+    subst (Changed m c list) (sym after) (changed m c list s (subst Sound after (row .kept s)) (done-clear (refusals m c list) (row .positive) (sym answer ∙ z)))

@@ -1,8 +1,10 @@
+pub mod Settled
+pub mod Commands
+pub mod Questions
 pub mod Kept
 pub mod Demand1
 pub mod Demand2
 pub mod Demand3
 pub mod Effects
-pub mod BenchSheet
 pub mod PolicyFile
 pub mod Room

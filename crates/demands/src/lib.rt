@@ -1,1 +1,1 @@
-// The demands, the policy file's promise and the bench sheet: statements in specs/, their proofs in proofs/. No code.
+// The demands and the policy file's promise: statements in specs/, their proofs in proofs/. No code.

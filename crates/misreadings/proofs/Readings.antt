@@ -1,5 +1,8 @@
--- The readings that look right, by computation over the model. Assumes nothing.
+-- The readings that look right, by computation over the model: the answers are compared by a test. Assumes nothing.
+use mathlib.Core.Bool.{true}
 use mathlib.Core.Path.{_≡_, refl}
+use lib.Dec.{eqb}
+use borrow.Author.Tests.{eqb-true}
 use Rattle.roleset.specs.Bounded.{some, every, tally, members}
 use Rattle.roleset.specs.Roles.{has, pack, those, with, without, union, both, minus, subset, isEmpty, count}
 use Rattle.hierarchy.specs.Walks.{juniorsOf, joined, walk, reach}
@@ -14,14 +17,18 @@ use Rattle.model.specs.commands.Assigning.{assign, assigned, deassign, deassign
 use Rattle.model.specs.commands.Inheriting.{inherit, lined, usersCut, disinherit, unlined}
 use Rattle.model.specs.commands.Sets.{broken, makeSet}
 use Rattle.model.specs.commands.Sessions.{freeFrom, opened, session, end, permitted, check}
-use Rattle.demands.specs.BenchSheet.{answers, afterwards}
+use Rattle.benchsheet.specs.BenchSheet.{answers, afterwards}
+use Rattle.benchsheet.proofs.Same.{sameBy, same-by}
 use Rattle.misreadings.specs.Readings.{examples, answered, expected, brokenByTwo, WrongRules}
 use Rattle.misreadings.proofs.Bench.{bench}
 
+readings-same : sameBy (sameBy (sameBy eqb)) (answered examples) (expected examples) ≡ true
+unfolding sameBy some every tally members has pack those with without union both minus subset isEmpty count juniorsOf joined walk reach rising someFrom listed setOf empty put ask assignedRoles authRoles sessionRoles verdict settle step breaks breaksSome staticBroken dynamicBroken shedded shed shedCut sessionsOpen user role assign assigned deassign deassigned grant granted inherit lined usersCut disinherit unlined broken makeSet freeFrom opened session end permitted check answers afterwards answered expected
+readings-same = refl
+
 -- every example answers as the paper says
 pub readings : answered examples ≡ expected examples
-unfolding some every tally members has pack those with without union both minus subset isEmpty count juniorsOf joined walk reach rising someFrom listed setOf empty put ask assignedRoles authRoles sessionRoles verdict settle step breaks breaksSome staticBroken dynamicBroken shedded shed shedCut sessionsOpen user role assign assigned deassign deassigned grant granted inherit lined usersCut disinherit unlined broken makeSet freeFrom opened session end permitted check answers afterwards answered expected
-readings = refl
+readings = same-by _ (same-by _ (same-by _ eqb-true)) _ _ readings-same
 
 -- the wrong rules would pass what the paper refuses
 pub wrong-rules : WrongRules

@@ -1,4 +1,5 @@
 -- What the program prints for a whole script. Assumes nothing.
+use mathlib.Core.Bool.{true}
 use mathlib.Core.List.{List, [], _∷_, _++_}
 use mathlib.Core.Path.{_≡_, refl, _∙_}
 use Rattle.roleset.specs.Bounded.{some, every, tally, total, members}
@@ -18,6 +19,7 @@ use Rattle.model.specs.commands.Sessions.{freeFrom, opened, session, activeSet,
 use Rattle.decimal.specs.Decimal.{decimal, lead, numbered, takenFrom}
 use Rattle.words.specs.Bytes.{same}
 use Rattle.words.specs.Words.{words, spelling, takes, placeIn, which}
+use Rattle.words.proofs.Laws.{same-equal}
 use Rattle.lines.specs.Parts.{partsOf, upTo}
 use Rattle.reading.specs.Form.{render, wordIn, numbersIn, parse}
 use Rattle.meaning.specs.Meaning.{meanings, meant}
@@ -36,16 +38,17 @@ refusal : answerText 14 [] ++ totalText 0 1 ≡ lineOf "14" ++ lineOf "total 0 1
 unfolding answerText totalText numbered decimal lead
 refusal = refl
 
-paper : runScript (scriptOf example) ≡ printedFor example "total 14 2"
+-- the two scripts are run, and what they print is compared by a test
+paper-same : same (runScript (scriptOf example)) (printedFor example "total 14 2") ≡ true
 unfolding some every tally total members has pack those with without union both minus subset isEmpty count juniorsOf joined walk reach rising someFrom listed setOf empty put ask assignedRoles authRoles sessionRoles verdict settle step breaks breaksSome staticBroken dynamicBroken shedded shed shedCut assignments grants linesStanding sessionsOpen user role norole inSet withoutRole assign assigned deassign deassigned grant granted inherit lined usersCut disinherit unlined broken makeSet dropMember freeFrom opened session activeSet activate permitted check end decimal lead numbered takenFrom same words spelling takes placeIn which partsOf upTo render wordIn numbersIn parse meanings meant obey answerText totalText runLines runScript
-paper = refl
+paper-same = refl
 
-told : runScript (scriptOf story) ≡ printedFor story "total 22 3"
+told-same : same (runScript (scriptOf story)) (printedFor story "total 22 3") ≡ true
 unfolding some every tally total members has pack those with without union both minus subset isEmpty count juniorsOf joined walk reach rising someFrom listed setOf empty put ask assignedRoles authRoles sessionRoles verdict settle step breaks breaksSome staticBroken dynamicBroken shedded shed shedCut assignments grants linesStanding sessionsOpen user role norole inSet withoutRole assign assigned deassign deassigned grant granted inherit lined usersCut disinherit unlined broken makeSet dropMember freeFrom opened session activeSet activate permitted check end decimal lead numbered takenFrom same words spelling takes placeIn which partsOf upTo render wordIn numbersIn parse meanings meant obey answerText totalText runLines runScript
-told = refl
+told-same = refl
 
 pub story-holds : Story
-story-holds = record { told = told }
+story-holds = record { told = same-equal _ _ told-same }
 
 pub program : Program
 program =
@@ -53,5 +56,5 @@ program =
       prints = λ script out l p h s r. whole script out l p h (s .state) (s .at) (s .done) (s .others) r;
       too-long = λ script h. too-long script h ∙ refusal;
       nothing = nothing;
-      paper = paper;
+      paper = same-equal _ _ paper-same;
     }

@@ -1,11 +1,10 @@
 -- On a sound model each command answers by its list in the paper: 10 where the rule would be broken "for some user", 11 "in some session",
 -- 12 where the table itself is full, and 13 never, since no walk meets a chain of more than 64 roles. Assumes nothing.
-use mathlib.Core.Bool.{true, false, not, _&&_, _||_, and-false}
+use mathlib.Core.Bool.{true, false, not, _||_, and-false}
 use mathlib.Core.List.{List, [], _∷_}
 use mathlib.Core.Path.{_≡_, refl, ap}
 use Prim.Native.Nat.{ℕ}
-use native.Mathlib.Omega.{arith}
-use lib.Dec.{eqb, leb}
+use lib.Dec.{leb}
 use borrow.Author.Tests.{leb-false, not-false}
 use Rattle.roleset.specs.Bounded.{some, bit}
 use Rattle.roleset.specs.Roles.{has, with, none, subset}
@@ -15,7 +14,7 @@ use Rattle.hierarchy.specs.Lines.{Acyclic}
 use Rattle.hierarchy.proofs.InheritsLaws.{remove-acyclic}
 use Rattle.hierarchy.proofs.CircleLaws.{never-cut}
 use Rattle.model.specs.Model.{Model, put}
-use Rattle.model.specs.Sheet.{Refusal, _when_, Told, settle}
+use Rattle.model.specs.Sheet.{_when_, settle}
 use Rattle.model.specs.Words.{reached, authorised, staticBroken, dynamicBroken, permission, assignments, grants, linesStanding, sessionsOpen, shed, shedCut}
 use Rattle.model.specs.Lists.{ascending, someFrom, setOf}
 use Rattle.model.specs.Sound.{Sound}
@@ -27,7 +26,7 @@ use Rattle.model.specs.commands.Sets.{setsOf, withSets, ruleNumber, askingCut, 
 use Rattle.model.specs.commands.Sessions.{lowestFree, opened, session, activeSet, notOwner, activate, permitted, check}
 use Rattle.model.specs.declared.Kind.{Kind}
 use Rattle.model.specs.declared.Kind.the-variants.{Static, Dynamic}
-use Rattle.sound.proofs.Sheet.{absent, alike-settle, not-told}
+use Rattle.sound.proofs.Sheet.{alike-settle}
 use Rattle.sound.proofs.Members.{or-no, fewer-at, stripped-fewer}
 use Rattle.sound.proofs.Carried.{sound-never-cut}
 use Rattle.sound.proofs.Inheriting.{lined-acyclic}
@@ -48,15 +47,6 @@ users-never-cut m a = some-none 256 _ (λ u l. never-cut (m .juniors) a (m .assi
 asking-never-cut : (kind : Kind) (m : Model) → Sound m → askingCut kind m ≡ false
 asking-never-cut Static m s = users-never-cut m (s .rules .acyclic)
 asking-never-cut Dynamic m s = refl
-
--- 13 is not told where it is not on the list
-never-13 : (rs : List Refusal) (m : Model) (results : List ℕ) (after : Model) (t : Told) → absent 13 rs ≡ true → t ≡ settle rs m results after → t .answer ≡ 13 → ⊥
-never-13 rs m results after t = not-told 13 rs m results after t (omega arith)
-
--- the number of a rule is not 13
-rule-absent : (kind : Kind) → (not (eqb (ruleNumber kind) 13) && true) ≡ true
-rule-absent Static = refl
-rule-absent Dynamic = refl
 
 -- ---- assignments and lines
 
@@ -153,49 +143,3 @@ unfolding check
 check-listed m k op obj s =
     alike-settle _ _ m (bit (permitted m k (permission op obj)) ∷ []) m
     (refl, refl, λ c1. (refl, refl, λ c2. (sound-never-cut m s (m .sessions k .active), tt)))
-
--- ---- 13
-
--- No command or question on a sound model answers 13: `assign`,
-pub assign-never-13 : (m : Model) (u r : ℕ) → Sound m → assign m u r .answer ≡ 13 → ⊥
-assign-never-13 m u r s = never-13 _ m _ _ (assign m u r) refl (assign-listed m u r s)
-
--- `deassign`,
-pub deassign-never-13 : (m : Model) (u r : ℕ) → Sound m → deassign m u r .answer ≡ 13 → ⊥
-deassign-never-13 m u r s = never-13 _ m _ _ (deassign m u r) refl (deassign-listed m u r s)
-
--- `inherit`,
-pub inherit-never-13 : (m : Model) (senior junior : ℕ) → Sound m → inherit m senior junior .answer ≡ 13 → ⊥
-inherit-never-13 m senior junior s = never-13 _ m _ _ (inherit m senior junior) refl (inherit-listed m senior junior s)
-
--- `disinherit`,
-pub disinherit-never-13 : (m : Model) (senior junior : ℕ) → Sound m → disinherit m senior junior .answer ≡ 13 → ⊥
-disinherit-never-13 m senior junior s = never-13 _ m _ _ (disinherit m senior junior) refl (disinherit-listed m senior junior s)
-
--- `norole`,
-pub norole-never-13 : (m : Model) (r : ℕ) → Sound m → norole m r .answer ≡ 13 → ⊥
-norole-never-13 m r s = never-13 _ m _ _ (norole m r) refl (norole-listed m r s)
-
--- `ssd` and `dsd`,
-pub makeSet-never-13 : (kind : Kind) (m : Model) (name n : ℕ) (list : List ℕ) → Sound m → makeSet kind m name n list .answer ≡ 13 → ⊥
-makeSet-never-13 kind m name n list s = never-13 _ m _ _ (makeSet kind m name n list) (rule-absent kind) (makeSet-listed kind m name n list s)
-
--- `ssd-add` and `dsd-add`,
-pub addMember-never-13 : (kind : Kind) (m : Model) (name r : ℕ) → Sound m → addMember kind m name r .answer ≡ 13 → ⊥
-addMember-never-13 kind m name r s = never-13 _ m _ _ (addMember kind m name r) (rule-absent kind) (addMember-listed kind m name r s)
-
--- `ssd-card` and `dsd-card`,
-pub setCardinality-never-13 : (kind : Kind) (m : Model) (name n : ℕ) → Sound m → setCardinality kind m name n .answer ≡ 13 → ⊥
-setCardinality-never-13 kind m name n s = never-13 _ m _ _ (setCardinality kind m name n) (rule-absent kind) (setCardinality-listed kind m name n s)
-
--- `session`,
-pub session-never-13 : (m : Model) (u : ℕ) (list : List ℕ) → Sound m → session m u list .answer ≡ 13 → ⊥
-session-never-13 m u list s = never-13 _ m _ _ (session m u list) refl (session-listed m u list s)
-
--- `activate`
-pub activate-never-13 : (m : Model) (u k r : ℕ) → Sound m → activate m u k r .answer ≡ 13 → ⊥
-activate-never-13 m u k r s = never-13 _ m _ _ (activate m u k r) refl (activate-listed m u k r s)
-
--- or `check`; no other follows inheritance.
-pub check-never-13 : (m : Model) (k op obj : ℕ) → Sound m → check m k op obj .answer ≡ 13 → ⊥
-check-never-13 m k op obj s = never-13 _ m _ _ (check m k op obj) refl (check-listed m k op obj s)

@@ -1,0 +1,1 @@
+// The bench sheet: its statement in specs/, computed in proofs/. No code.

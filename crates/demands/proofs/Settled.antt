@@ -1,0 +1,34 @@
+-- What holds of whatever is settled by a list of refusals: demand 1, and which numbers are not answered. Assumes nothing.
+use mathlib.Core.Bool.{Bool, true, false, _&&_}
+use mathlib.Core.List.{List, [], _∷_}
+use mathlib.Core.Path.{_≡_}
+use Prim.Native.Nat.{ℕ, _<_}
+use lib.Dec.{ltb}
+use borrow.Author.Tests.{ltb-true}
+use Rattle.roleset.proofs.BoundedLaws.{and-left, and-right}
+use Rattle.model.specs.Model.{Model}
+use Rattle.model.specs.Sheet.{Refusal, verdict, settle}
+use Rattle.sound.proofs.Sheet.{refusal-changes-nothing, settle-answer}
+use Rattle.demands.specs.Demand1.{Harmless}
+
+-- every number of the list is below n
+abbrev pub below : ℕ → List Refusal → Bool
+below n [] = true
+below n (r ∷ rest) = ltb (r .number) n && below n rest
+
+verdict-below : (n : ℕ) (rs : List Refusal) → 0 < n → below n rs ≡ true → verdict rs < n
+unfolding verdict
+verdict-below n [] p e = p
+verdict-below n (r ∷ rest) p e = go (r .holds) (verdict-below n rest p (and-right (ltb (r .number) n) (below n rest) e))
+  where
+    go : (b : Bool) → verdict rest < n → (elim b as (λ _. ℕ) [ true ↦ r .number | false ↦ verdict rest ]) < n
+    go true ih = ltb-true (r .number) n (and-left (ltb (r .number) n) (below n rest) e)
+    go false ih = ih
+
+-- the answer is below every number that is above those of the list
+pub settled-below : (n : ℕ) (rs : List Refusal) (m : Model) (results : List ℕ) (after : Model) → 0 < n → below n rs ≡ true → settle rs m results after .answer < n
+settled-below n rs m results after p e = rw (settle-answer rs m results after) (verdict-below n rs p e)
+
+-- one law for all: whatever is settled by numbers of the sheet is harmless
+pub settled-harmless : (rs : List Refusal) (m : Model) (results : List ℕ) (after : Model) → settle rs m results after .answer < 16 → Harmless m (settle rs m results after)
+settled-harmless rs m results after h = record { unchanged = λ n. refusal-changes-nothing rs m results after n .0; silent = λ n. refusal-changes-nothing rs m results after n .1; onSheet = h }
