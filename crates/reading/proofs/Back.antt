@@ -11,7 +11,7 @@ use lib.Seq.{drop-append-add}
 use borrow.Author.Tests.{ne-eqb, le-leb, leb-true, lt-ltb, ltb-true, not-true}
 use Rattle.decimal.specs.Decimal.{digit, lead, decimal, numbered, value, taken, takenFrom, space}
 use Rattle.decimal.proofs.Laws.{value-decimal, decimal-long}
-use Rattle.words.specs.Words.{spelling, which, words}
+use Rattle.words.specs.Words.{spelling, which, wordCount, words}
 use Rattle.words.proofs.Laws.{and-true, same-equal, same-refl}
 use Rattle.words.proofs.Tables.{which-spelling, lengths, over-words}
 use Rattle.lines.specs.Parts.{joined, partsOf, upTo, placePast}
@@ -53,7 +53,7 @@ unfolding decimal
 free-decimal n =
     free-append _ _ (free-lead 10000 n) (free-append _ _ (free-lead 1000 n) (free-append _ _ (free-lead 100 n) (free-append _ _ (free-lead 10 n) (free-byte (digit 1 n) (omega arith)))))
 
-free-spelling : (k : ℕ) → k < 41 → free (spelling k) ≡ true
+free-spelling : (k : ℕ) → k < wordCount → free (spelling k) ≡ true
 unfolding spelling words free lengths
 free-spelling k h = over-words (λ k. free (spelling k)) tt k h
 
@@ -106,7 +106,7 @@ drop-one (n ∷ ns) = refl
 
 -- ---- a line
 
-module _ (k : ℕ) (ns : List ℕ) (h : k < 41) where
+module _ (k : ℕ) (ns : List ℕ) (h : k < wordCount) where
   first : upTo space (render k ns) ≡ spelling k
   unfolding render
   first = up-free (spelling k) (numbered ns) (free-spelling k h) ∙ rw (no-part ns) (append-nil (spelling k))
@@ -145,7 +145,7 @@ written-parsed text k ns w =
     ns-is = ap numbersIn (sym (w .is)) ∙ numbers-again k ns (w .known) (w .small)
 
     whole : again text k ns ≡ true
-    whole = both (leb (length text) 512) _ (le-leb _ _ (w .short)) (both (shaped k (length ns)) _ (both (ltb k 41) _ (lt-ltb _ _ (w .known)) (w .fits)) (rw (w .is) (same-refl text)))
+    whole = both (leb (length text) 512) _ (le-leb _ _ (w .short)) (both (shaped k (length ns)) _ (both (ltb k wordCount) _ (lt-ltb _ _ (w .known)) (w .fits)) (rw (w .is) (same-refl text)))
 
 -- The numbers that a reader takes are small.
 small-taken : (v : ℕ) (l : List ℕ) → v < 65536 → takenFrom v l < 65536
@@ -166,7 +166,7 @@ once : (text : List ℕ) → again text (wordIn text) (numbersIn text) ≡ true 
 once text e =
     let a = and-true (leb (length text) 512) _ e in
     let b = and-true (shaped (wordIn text) (length (numbersIn text))) _ (a .1) in
-    let d = and-true (ltb (wordIn text) 41) _ (b .0) in
+    let d = and-true (ltb (wordIn text) wordCount) _ (b .0) in
     record { known = ltb-true _ _ (d .0); fits = d .1; small = small-in text; short = leb-true _ _ (a .0); is = same-equal _ _ (b .1) }
 
 pub refused : (text : List ℕ) → again text (wordIn text) (numbersIn text) ≡ false → parse text ≡ noLine

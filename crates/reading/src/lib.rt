@@ -1,6 +1,6 @@
 // Reading a script's line: its word and numbers are gathered leniently, written again, and compared with the text.
 ghost use mathlib.Core.Path.{_≡_};
-ghost use Prim.Native.Nat.{_≤_, _<_};
+ghost use Prim.Native.Nat.{_≤_};
 ghost use lib.ListN.{length};
 ghost use Rattle.words.specs.Bytes.{same};
 ghost use Rattle.reading.specs.Form.{render, shaped, parse};
@@ -53,7 +53,7 @@ fn gather(text: &[u8]) -> Line
 fn is_shaped(word: u16, count: u16) -> bool
     ensures { λ r. ⌜ r ≡ shaped word count ⌝ }
 {
-    if word < 41 {
+    if word < words::WORD_COUNT {
         words::takes(word, count)
     } else {
         false
@@ -62,7 +62,7 @@ fn is_shaped(word: u16, count: u16) -> bool
 
 // Does writing the line give the text?
 fn gives(word: u16, numbers: &[u16], text: &[u8]) -> bool
-    requires { ⌜ (word < 41) × (length (now numbers) ≤ 256) ⌝ }
+    requires { ⌜ length (now numbers) ≤ 256 ⌝ }
     ensures { λ r. ⌜ r ≡ same (render word (now (numbers .entry))) (now (text .entry)) ⌝ }
 {
     let mut buf = [0u8; 2048];

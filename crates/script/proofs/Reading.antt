@@ -10,7 +10,7 @@ use lib.Seq.{getD-append-add, drop-append-le, take-at}
 use Rattle.model.specs.Model.{Model}
 use Rattle.decimal.specs.Decimal.{numbered}
 use Rattle.decimal.proofs.Laws.{numbered-long}
-use Rattle.words.specs.Words.{wordOf, spelling}
+use Rattle.words.specs.Words.{wordCount, wordOf, spelling}
 use Rattle.words.proofs.Tables.{takes-enough}
 use Rattle.reading.specs.Form.{Parsed, line, noLine, parse, Written, render}
 use Rattle.reading.specs.Holding.{padded, full, blank, held}
@@ -92,7 +92,7 @@ module _ (text : List ℕ) (l : Line) (r : Reads text l) where
   written : Written text (l .word) ns
   written = parsed-written text (l .word) ns (r .is)
 
-  known : l .word < 41
+  known : l .word < wordCount
   known = written .known
 
   few : length ns ≤ 256

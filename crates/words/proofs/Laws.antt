@@ -10,7 +10,7 @@ use lib.ListN.{length, getD, drop, drop-of-length-le}
 use lib.Seq.{drop-cons}
 use borrow.Author.Tests.{eqb-true, eq-eqb, ne-eqb}
 use Rattle.words.specs.Bytes.{same}
-use Rattle.words.specs.Words.{Word, words, wordOf, spelling, placeIn, which}
+use Rattle.words.specs.Words.{Word, words, wordCount, words-count, wordOf, spelling, placeIn, which}
 
 -- ---- the same text
 
@@ -55,10 +55,6 @@ all-passed a b i p q = rw (drop-of-length-le a p, drop-of-length-le b q)
 
 -- ---- the number of a word
 
-pub words-count : length words ≡ 41
-unfolding words
-words-count = refl
-
 here : (w : Word) (rest : List Word) (text : List ℕ) → same text (w .spelling) ≡ true → placeIn (w ∷ rest) text ≡ 0
 unfolding placeIn
 here w rest text e = ap (λ (t : Bool). elim t [ true ↦ 0 | false ↦ suc (placeIn rest text) ]) e
@@ -67,7 +63,7 @@ later : (w : Word) (rest : List Word) (text : List ℕ) → same text (w .spelli
 unfolding placeIn
 later w rest text e = ap (λ (t : Bool). elim t [ true ↦ 0 | false ↦ suc (placeIn rest text) ]) e
 
-module _ (text : List ℕ) (k : ℕ) (h : k < 41) where
+module _ (text : List ℕ) (k : ℕ) (h : k < wordCount) where
   next : drop k words ≡ wordOf k ∷ drop (k + 1) words
   next = rw (add-one k) (drop-cons words k _ (rw words-count h))
 
@@ -79,7 +75,7 @@ module _ (text : List ℕ) (k : ℕ) (h : k < 41) where
   unfolding spelling
   passed e = rw next (later (wordOf k) (drop (k + 1) words) text e)
 
-pub none-left : (text : List ℕ) → placeIn (drop 41 words) text ≡ 0
+pub none-left : (text : List ℕ) → placeIn (drop wordCount words) text ≡ 0
 unfolding placeIn words
 none-left text = refl
 

@@ -5,16 +5,15 @@ use mathlib.Core.Path.{_≡_, refl, sym, ap, _∙_}
 use Prim.Native.Nat.{ℕ, zero, suc, _+_, _≤_, _<_}
 use native.Mathlib.Nat.{not-suc-le-zero, le-of-suc-le-suc}
 use native.Mathlib.Numerals.{add-one}
-use native.Mathlib.Omega.{arith}
 use lib.Dec.{eqb, ltb}
 use lib.ListN.{length, getD, take, drop, drop-of-length-le, List·getD-map, List·getD-eq-default}
 use lib.Seq.{take-suc, getD-append-add, drop-cons}
 use borrow.Author.Tests.{eq-eqb, ne-eqb, ltb-true, ltb-false, eqb-true, eqb-false}
 use Rattle.words.specs.Bytes.{same}
-use Rattle.words.specs.Words.{Word, words, wordOf, spelling}
+use Rattle.words.specs.Words.{Word, words, wordCount, wordOf, spelling}
 use Rattle.words.specs.Rows.{filled, mark, row, upToSpace, letters}
-use Rattle.words.proofs.Laws.{same-equal, words-count}
-use Rattle.words.proofs.Tables.{lengths, over-words, numbers-few}
+use Rattle.words.proofs.Laws.{same-equal}
+use Rattle.words.proofs.Tables.{none, past-last, cases, lengths, over-words}
 
 -- ---- the row of a word
 
@@ -24,15 +23,8 @@ getD-within [] i d e h = absurd (not-suc-le-zero h)
 getD-within (x ∷ l) zero d e h = refl
 getD-within (x ∷ l) (suc i) d e h = getD-within l i d e (le-of-suc-le-suc h)
 
--- what stands for no word
-abbrev none : Word
-none = record { spelling = []; numbers = 0; listed = false }
-
-pub past-last : (k : ℕ) → 41 ≤ k → wordOf k ≡ none
-past-last k h = List·getD-eq-default words none (rw words-count h)
-
 -- the table of the code is the rows of the words, one after the other
-pub row-at : (k : ℕ) → k < 41 → getD (map row words) k [] ≡ row (wordOf k)
+pub row-at : (k : ℕ) → k < wordCount → getD (map row words) k [] ≡ row (wordOf k)
 unfolding words
 row-at k h = getD-within (map row words) k [] (row none) h ∙ List·getD-map row words k none
 
@@ -55,17 +47,6 @@ row-mark w = ap (λ (x : ℕ). eqb x 43) (past-letters w 1) ∙ go (w .listed)
     go true = refl
     go false = refl
 
--- a number is that of a word, or past the last
-cases : (P : ℕ → Type 0) → ((k : ℕ) → k < 41 → P k) → ((k : ℕ) → 41 ≤ k → P k) → (k : ℕ) → P k
-cases P p q k = go (ltb k 41) refl
-  where
-    go : (t : Bool) → ltb k 41 ≡ t → P k
-    go true e = p k (ltb-true k 41 e)
-    go false e = q k (ltb-false k 41 e)
-
-pub digit-small : (k : ℕ) → wordOf k .numbers < 16
-digit-small = cases (λ k. wordOf k .numbers < 16) numbers-few (λ k h. rw (past-last k h) (omega arith))
-
 pub row-letters : (k : ℕ) → letters (row (wordOf k)) ≡ spelling k
 unfolding lengths letters upToSpace row spelling words same
 row-letters =
@@ -73,7 +54,7 @@ row-letters =
     (λ k h. same-equal _ _ (over-words (λ k. same (letters (row (wordOf k))) (spelling k)) tt k h))
     (λ k h. rw (past-last k h))
 
-pub table-letters : (k : ℕ) → k < 41 → letters (getD (map row words) k []) ≡ spelling k
+pub table-letters : (k : ℕ) → k < wordCount → letters (getD (map row words) k []) ≡ spelling k
 table-letters k h = ap letters (row-at k h) ∙ row-letters k
 
 -- ---- the letters of a row, one after the other

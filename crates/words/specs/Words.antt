@@ -1,6 +1,7 @@
 -- The words of a script, and how many numbers each takes. Assumes nothing.
 use mathlib.Core.Bool.{Bool, true, false}
 use mathlib.Core.List.{List, [], _∷_}
+use mathlib.Core.Path.{_≡_, refl}
 use Prim.Native.Nat.{ℕ, suc}
 use Prim.Native.String.{String}
 use lib.Dec.{eqb, leb}
@@ -68,6 +69,10 @@ words =
 -- how many there are
 abbrev pub wordCount : ℕ
 wordCount = 41
+
+pub words-count : length words ≡ wordCount
+unfolding words
+words-count = refl
 
 -- the word with a number; there is none past the last
 abbrev pub wordOf : ℕ → Word

@@ -6,8 +6,11 @@ ghost use Rattle.words.specs.Bytes.{same};
 ghost use Rattle.words.specs.Rows.{row, letters};
 ghost use Rattle.words.specs.Words.{spelling, takes, which, wordOf};
 
+// How many words there are.
+pub const WORD_COUNT: u16 = 41;
+
 // A row for each word: its letters in 14 places, how many numbers it takes, and `+` where a list of roles follows them.
-const WORDS: [[u8; 16]; 41] = [
+const WORDS: [[u8; 16]; WORD_COUNT as usize] = [
     *b"user          1 ",
     *b"role          1 ",
     *b"nouser        1 ",
@@ -58,7 +61,11 @@ const NO_WORD: [u8; 16] = *b"              0 ";
 fn row_of(k: u16) -> [u8; 16]
     ensures { λ r. ⌜ r ≡ row (wordOf k) ⌝ }
 {
-    if k < 41 { WORDS[k as usize] } else { NO_WORD }
+    if k < WORD_COUNT {
+        WORDS[k as usize]
+    } else {
+        NO_WORD
+    }
 }
 
 // The letter of a row at a place, or a space past the places for letters.
@@ -87,19 +94,19 @@ fn is_word(text: &[u8], row: [u8; 16]) -> bool
     letter(row, i) == b' '
 }
 
-// The number of the word that the text is, or 41 where it is none.
+// The number of the word that the text is, or the count of the words where it is none.
 pub fn which(text: &[u8]) -> u16
     ensures { λ r. ⌜ r ≡ which (now (text .entry)) ⌝ }
 {
     let rows = WORDS;
     let mut k: u16 = 0;
-    while k < 41 {
+    while k < WORD_COUNT {
         if is_word(text, rows[k as usize]) {
             return k;
         }
         k += 1;
     }
-    41
+    WORD_COUNT
 }
 
 // Puts a word; past the last word there is nothing to put.

@@ -23,7 +23,7 @@ put c = put-then (c .before .before .before .put-word .ensures) (c .put-numbers 
 
 room : (c : tie.After-put-numbers) → length (render (c .before .before .before .before .before .before .before .args .word) (c .before .before .before .before .before .before .before .args .numbers .now)) ≤ 2048
 unfolding render
-room c = omega (arith, c .before .before .before .before .before .before .before .pre, length-append (spelling (c .before .before .before .before .before .before .before .args .word)) (numbered (c .before .before .before .before .before .before .before .args .numbers .now)), spelling-short (c .before .before .before .before .before .before .before .args .word) (c .before .before .before .before .before .before .before .pre .0), numbered-short (c .before .before .before .before .before .before .before .args .numbers .now))
+room c = omega (arith, c .before .before .before .before .before .before .before .pre, length-append (spelling (c .before .before .before .before .before .before .before .args .word)) (numbered (c .before .before .before .before .before .before .before .args .numbers .now)), spelling-short (c .before .before .before .before .before .before .before .args .word), numbered-short (c .before .before .before .before .before .before .before .args .numbers .now))
 
 ends : (c : tie.After-put-numbers) → c .put-numbers .result ≡ length (render (c .before .before .before .before .before .before .before .args .word) (c .before .before .before .before .before .before .before .args .numbers .now))
 ends c = omega (arith, put c .ends, room c, length-replicate {A = ℕ} 2048 0)

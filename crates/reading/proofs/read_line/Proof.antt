@@ -2,18 +2,16 @@
 use borrow.Author.Needs.{needs}
 use mathlib.Core.List.{List}
 use mathlib.Core.Path.{_≡_, sym, ap, ap₂, _∙_}
-use Prim.Native.Nat.{ℕ, _≤_, _<_}
+use Prim.Native.Nat.{ℕ, _≤_}
 use native.Mathlib.Omega.{arith}
-use lib.Dec.{leb, ltb}
+use lib.Dec.{leb}
 use lib.ListN.{length, take}
 use lib.Seq.{length-take-le}
-use borrow.Author.Tests.{le-leb, ltb-true}
+use borrow.Author.Tests.{le-leb}
 use Rattle.words.specs.Bytes.{same}
-use Rattle.words.specs.Words.{takes}
 use Rattle.reading.specs.declared.Line.{Line}
 use Rattle.reading.specs.Form.{render, wordIn, numbersIn, shaped}
 use Rattle.reading.specs.Holding.{full, padded, held}
-use Rattle.words.proofs.Laws.{and-true}
 use Rattle.reading.proofs.Back.{accepted, both}
 use Rattle.reading.proofs.Gathering.{good, bad, too-long, too-many, misshapen, differs, padded-front, padded-long}
 use Rattle.reading.proofs.read_line.Statement.{statement}
@@ -58,9 +56,7 @@ slice-aggregate-gives : tie.Need-slice-aggregate-gives
 slice-aggregate-gives c = sym (length-take-le _ _ (within (c .before .before .before .before)))
 
 gives-requires : tie.Need-gives-requires
-gives-requires c κs =
-    let k : wordIn (c .before .before .before .before .before .before .before .before .args .text .now) < 41 = ltb-true _ _ (and-true (ltb (wordIn (c .before .before .before .before .before .before .before .before .args .text .now)) 41) (takes (wordIn (c .before .before .before .before .before .before .before .before .args .text .now)) (length (numbersIn (c .before .before .before .before .before .before .before .before .args .text .now)))) (sym (shape (c .before .before .before)) ∙ c .before .before .if3 .taken) .0) in
-    (omega (arith, word-is (c .before .before .before .before), k), omega (arith, ap length (front (c .before .before .before .before)), is-full (c .before .before .before .before) .1))
+gives-requires c κs = omega (arith, ap length (front (c .before .before .before .before)), is-full (c .before .before .before .before) .1)
 
 returns-2 : tie.Need-returns-2
 returns-2 c =

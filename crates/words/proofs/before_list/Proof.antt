@@ -5,7 +5,8 @@ use Prim.Native.Nat.{_+_}
 use native.Mathlib.Omega.{arith}
 use lib.ListN.{getD}
 use Rattle.words.specs.Words.{wordOf}
-use Rattle.words.proofs.Rows.{row-digit, digit-small}
+use Rattle.words.proofs.Rows.{row-digit}
+use Rattle.words.proofs.Tables.{numbers-few}
 use Rattle.words.proofs.before_list.Statement.{statement}
 use Rattle.words.proofs.before_list.Tie as tie
 
@@ -16,7 +17,7 @@ sub-result : tie.Need-sub-result
 sub-result c = omega (arith, digit c)
 
 cast-result : tie.Need-cast-result
-cast-result c = omega (arith, digit c, digit-small (c .before .args .k))
+cast-result c = omega (arith, digit c, numbers-few (c .before .args .k))
 
 returns : tie.Need-returns
 returns c = omega (arith, digit c)

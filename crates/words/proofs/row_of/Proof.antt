@@ -3,7 +3,8 @@ use borrow.Author.Needs.{needs}
 use mathlib.Core.Path.{sym, ap}
 use Rattle.words.specs.Words.{words}
 use Rattle.words.specs.Rows.{row}
-use Rattle.words.proofs.Rows.{row-at, past-last}
+use Rattle.words.proofs.Rows.{row-at}
+use Rattle.words.proofs.Tables.{past-last}
 use Rattle.words.proofs.row_of.Statement.{statement}
 use Rattle.words.proofs.row_of.Tie as tie
 

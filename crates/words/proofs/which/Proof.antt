@@ -6,7 +6,7 @@ use Prim.Native.Nat.{ℕ, _+_, _≤_, _-_}
 use native.Mathlib.Omega.{arith}
 use lib.ListN.{getD, drop}
 use Rattle.words.specs.Bytes.{same}
-use Rattle.words.specs.Words.{words, spelling, placeIn, which}
+use Rattle.words.specs.Words.{words, wordCount, spelling, placeIn, which}
 use Rattle.words.specs.Rows.{row, letters}
 use Rattle.words.proofs.Laws.{found, passed, none-left, which-starts}
 use Rattle.words.proofs.Rows.{table-letters}
@@ -14,10 +14,10 @@ use Rattle.words.proofs.which.Statement.{statement}
 use Rattle.words.proofs.which.Tie as tie
 
 abbrev Inv-loop : tie.InvT-loop
-Inv-loop text rows k₀ k = (k ≤ 41) × (rows ≡ map row words) × (which text ≡ k + placeIn (drop k words) text)
+Inv-loop text rows k₀ k = (k ≤ wordCount) × (rows ≡ map row words) × (which text ≡ k + placeIn (drop k words) text)
 
 abbrev μ-loop : tie.MeasureT-loop
-μ-loop text rows k₀ k = 41 - k
+μ-loop text rows k₀ k = wordCount - k
 
 loop-holds : tie.Need-loop-holds Inv-loop μ-loop
 unfolding words row
@@ -43,8 +43,8 @@ loop-again c =
 
 returns-2 : tie.Need-returns-2 Inv-loop μ-loop
 returns-2 c =
-    let z : c .before .loop .k ≡ 41 = omega arith in
-    let e : which (c .before .before .before .args .text .now) ≡ 41 + placeIn (drop 41 words) (c .before .before .before .args .text .now) = rw z at (c .before .loop .inv .2) in
+    let z : c .before .loop .k ≡ wordCount = omega arith in
+    let e : which (c .before .before .before .args .text .now) ≡ wordCount + placeIn (drop wordCount words) (c .before .before .before .args .text .now) = rw z at (c .before .loop .inv .2) in
     omega (arith, e, none-left (c .before .before .before .args .text .now))
 
 pub which-spec : {M : Type 1} → statement M
