@@ -11,8 +11,9 @@ use Rattle.model.specs.Model.{Model, empty}
 use Rattle.model.specs.Sheet.{Told}
 use Rattle.model.proofs.Results.{few-results}
 use Rattle.state.specs.View.{view}
+use Rattle.text.proofs.Putting.{put-front}
 use Rattle.decimal.specs.Decimal.{decimal, numbered}
-use Rattle.decimal.proofs.Laws.{decimal-short, numbered-short, put-front}
+use Rattle.decimal.proofs.Laws.{decimal-short, numbered-short}
 use Rattle.words.specs.Words.{wordOf}
 use Rattle.lines.specs.Parts.{partsOf, partAt, placePast}
 use Rattle.lines.specs.Tallies.{counted, oneMore}

@@ -1,5 +1,5 @@
 // A script: each line is read, obeyed and answered.
-ghost use Rattle.decimal.specs.Putting.{Put};
+ghost use Rattle.text.specs.Putting.{Put};
 ghost use Rattle.model.specs.Model.{Model};
 ghost use Rattle.model.specs.Questions.{ask};
 ghost use Rattle.model.specs.Sheet.{refused};
@@ -25,17 +25,17 @@ pub fn answer_text(buf: &mut [u8], answer: u16, results: &[u16]) -> usize
 {
     let first = decimal::put_number(buf, 0, answer);
     let last = decimal::put_numbers(buf, first, results);
-    decimal::put(buf, last, 10)
+    text::put(buf, last, 10)
 }
 
 // Puts the total: the number of lines answered 0, and of the others.
 pub fn total_text(buf: &mut [u8], t: Tally) -> usize
     ensures { λ r. ⌜ Put (now (buf .entry)) 0 (totalText (t .done) (t .others)) (now (buf .exit)) r ⌝ }
 {
-    let first = decimal::put_text(buf, 0, b"total");
+    let first = text::put_text(buf, 0, b"total");
     let counts = [t.done, t.others];
     let last = decimal::put_numbers(buf, first, &counts);
-    decimal::put(buf, last, 10)
+    text::put(buf, last, 10)
 }
 
 // Obeys a command, and puts its answer.

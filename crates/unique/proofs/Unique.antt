@@ -337,15 +337,18 @@ reviews =
 pub decimal : promises.Decimal
 decimal =
     record {
-      put = λ κs a x y e f vx vy p q. (p .ends ∙ sym (q .ends), p .holds ∙ sym (q .holds));
-      put-text = λ κs a x y e f vx vy p q. (p .ends ∙ sym (q .ends), p .holds ∙ sym (q .holds));
       put-number = λ κs a x y e f vx vy p q. (p .ends ∙ sym (q .ends), p .holds ∙ sym (q .holds));
       put-numbers = λ κs a x y e f vx vy p q. (p .ends ∙ sym (q .ends), p .holds ∙ sym (q .holds));
       value = λ κs a x y e f vx vy p q. p ∙ sym q;
     }
 
 pub text : promises.Text
-text = record { word-at = λ κs a x y e f vx vy p q. p ∙ sym q }
+text =
+    record {
+      put = λ κs a x y e f vx vy p q. (p .ends ∙ sym (q .ends), p .holds ∙ sym (q .holds));
+      put-text = λ κs a x y e f vx vy p q. (p .ends ∙ sym (q .ends), p .holds ∙ sym (q .holds));
+      word-at = λ κs a x y e f vx vy p q. p ∙ sym q;
+    }
 
 pub meaning : promises.Meaning
 meaning = record { meaning = λ κs a x y e f vx vy p q. p ∙ sym q }
