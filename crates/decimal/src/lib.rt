@@ -1,33 +1,9 @@
-// Bytes, texts and decimal numbers put into a lent buffer, and numbers taken from a text. Three formats share them: a script's line, an answer and a saved file.
-ghost use mathlib.Core.List.{[], _∷_};
+// Decimal numbers put into a lent buffer, and numbers taken from a text.
 ghost use mathlib.Core.Path.{_≡_};
 ghost use Prim.Native.Nat.{_<_};
+ghost use Rattle.text.specs.Putting.{Put};
 ghost use Rattle.decimal.specs.Decimal.{decimal, lead, numbered, value};
-ghost use Rattle.decimal.specs.Putting.{Put};
-
-// Puts a byte at a place, where the buffer reaches so far, and answers the place past what was put.
-pub fn put(buf: &mut [u8], at: usize, b: u8) -> usize
-    ensures { λ r. ⌜ Put (now (buf .entry)) at (b ∷ []) (now (buf .exit)) r ⌝ }
-{
-    if at < buf.len() {
-        buf[at] = b;
-        return at + 1;
-    }
-    at
-}
-
-// Puts a text.
-pub fn put_text(buf: &mut [u8], at: usize, text: &[u8]) -> usize
-    ensures { λ r. ⌜ Put (now (buf .entry)) at (now (text .entry)) (now (buf .exit)) r ⌝ }
-{
-    let mut next = at;
-    let mut i: usize = 0;
-    while i < text.len() {
-        next = put(buf, next, text[i]);
-        i += 1;
-    }
-    next
-}
+use text::put;
 
 // Puts the digit of n at a place of the decimal system, where n reaches so far.
 fn put_lead(buf: &mut [u8], at: usize, n: u16, place: u16) -> usize

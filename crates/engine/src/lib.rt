@@ -1,7 +1,9 @@
 // Every command through one function.
+ghost use mathlib.Core.Bool.{false};
 ghost use mathlib.Core.Path.{_≡_};
 ghost use Rattle.model.specs.Step.{step};
 ghost use Rattle.state.specs.View.{view};
+ghost use Rattle.sessions.specs.Answering.{isDone};
 ghost use Rattle.engine.specs.Stepping.{Steps};
 use model::Command;
 use numbers::Answer;
@@ -9,29 +11,36 @@ use numbers::Session;
 use sessions::Opened;
 use state::PLACES;
 
-// What a step hands back: the answer, and the session that `session` opened (0 for every other command and on a refusal).
+// What a step hands back: the answer, whether the command has a result, and that result, the session that `session` opened (0 where there is none).
 pub struct Stepped {
     pub answer: Answer,
+    pub result: bool,
     pub opened: Session,
 }
 
 // The answer of a command that gives no result.
 fn plain(answer: Answer) -> Stepped
-    ensures { λ x. ⌜ x ≡ record { answer = answer; opened = record { number = 0 } } ⌝ }
+    ensures { λ x. ⌜ x ≡ record { answer = answer; result = false; opened = record { number = 0 } } ⌝ }
 {
     Stepped {
         answer,
+        result: false,
         opened: Session { number: 0 },
     }
 }
 
-// A session that was opened, or was not.
+// A session that was opened, or was not: where it was, its number is the result.
 fn opening(o: Opened) -> Stepped
-    ensures { λ x. ⌜ x ≡ record { answer = o .answer; opened = o .session } ⌝ }
+    ensures { λ x. ⌜ x ≡ record { answer = o .answer; result = isDone (o .answer); opened = o .session } ⌝ }
 {
     let answer = o.answer;
     let opened = o.session;
-    Stepped { answer, opened }
+    let result = numbers::is_done(answer);
+    Stepped {
+        answer,
+        result,
+        opened,
+    }
 }
 
 // The command on the state; `list` is the roles that `ssd`, `dsd` and `session` name.

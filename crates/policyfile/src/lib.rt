@@ -30,7 +30,7 @@ pub fn save(state: &[u64; PLACES], out: &mut [u8]) -> Saved
         };
     }
     if length <= 36048 {
-        decimal::put_text(out, 0, &file[..length]);
+        text::put_text(out, 0, &file[..length]);
     } else {
         policywrite::write(state, out);
     }

@@ -1,3 +1,2 @@
-mod Results
 mod Reading
 pub mod Turning

@@ -1,5 +1,5 @@
 -- One line of a script and what is still to be printed, and all of it joined. Assumes nothing.
-use mathlib.Core.Bool.{Bool, true, false, _&&_}
+use mathlib.Core.Bool.{Bool, true, false}
 use mathlib.Core.List.{List, [], _∷_, _++_}
 use mathlib.Core.Path.{_≡_, refl, sym, ap, _∙_}
 use Prim.Native.Nat.{ℕ, _+_, _≤_, _<_}
@@ -9,10 +9,11 @@ use lib.ListN.{length, getD, take, drop, length-append}
 use borrow.Author.Tests.{lt-ltb, le-ltb}
 use Rattle.model.specs.Model.{Model, empty}
 use Rattle.model.specs.Sheet.{Told}
-use Rattle.model.specs.Step.{step}
+use Rattle.model.proofs.Results.{few-results}
 use Rattle.state.specs.View.{view}
+use Rattle.text.proofs.Putting.{put-front}
 use Rattle.decimal.specs.Decimal.{decimal, numbered}
-use Rattle.decimal.proofs.Laws.{decimal-short, numbered-short, put-front}
+use Rattle.decimal.proofs.Laws.{decimal-short, numbered-short}
 use Rattle.words.specs.Words.{wordOf}
 use Rattle.lines.specs.Parts.{partsOf, partAt, placePast}
 use Rattle.lines.specs.Tallies.{counted, oneMore}
@@ -22,25 +23,17 @@ use Rattle.reading.specs.Form.{Parsed, line, noLine, parse}
 use Rattle.meaning.specs.declared.Meant.{Meant}
 use Rattle.meaning.specs.declared.Meant.the-variants.{Do, Ask, Nothing}
 use Rattle.meaning.specs.Meaning.{meant}
-use Rattle.sessions.specs.Answering.{given}
-use Rattle.engine.specs.Stepping.{first}
 use Rattle.reviews.proofs.Promised.{results-fit}
-use Rattle.script.specs.Opening.{opensSession}
 use Rattle.script.specs.Script.{room, doing, obeyed, obey, answerText, totalText, doneAfter, othersAfter, runLines, runScript, lineFeed, longestScript}
 use Rattle.script.specs.Lines.{Turns, toldAt}
 use Rattle.script.specs.Running.{Runs, ends, goes, bufferLength}
 use Rattle.script.specs.declared.Progress.{Progress}
 use Rattle.script.specs.declared.Turned.{Turned}
-use Rattle.script.proofs.Results.{command-results}
 
 -- ---- how long an answer is
 
-few-given : (b : Bool) (n : ℕ) → length (given b n) ≤ 1
-few-given true n = omega arith
-few-given false n = omega arith
-
 few-done : (m : Model) (x : Meant) (list : List ℕ) → length (doing m x list .results) ≤ 4096
-few-done m (Do c) list = let e = ap length (command-results m c list) in omega (arith, e, few-given (opensSession c && eqb (step m c list .answer) 0) (first (step m c list .results)))
+few-done m (Do c) list = omega (arith, few-results m c list)
 few-done m (Ask q) list = results-fit m 4096 q (omega arith)
 few-done m Nothing list = omega arith
 

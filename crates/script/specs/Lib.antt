@@ -1,4 +1,3 @@
 pub mod Script
-pub mod Opening
 pub mod Lines
 pub mod Running

@@ -5,7 +5,7 @@ use Prim.Native.Nat.{ℕ}
 use lib.Dec.{eqb}
 use Rattle.model.specs.Sheet.{Told}
 use Rattle.state.specs.View.{view}
-use Rattle.decimal.specs.Putting.{Put}
+use Rattle.text.specs.Putting.{Put}
 use Rattle.lines.specs.Parts.{partAt, placePast}
 use Rattle.lines.specs.Tallies.{counted}
 use Rattle.script.specs.Script.{answerText, obey, lineFeed}

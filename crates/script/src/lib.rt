@@ -1,14 +1,11 @@
 // A script: each line is read, obeyed and answered.
-ghost use mathlib.Core.Bool.{_&&_};
-ghost use mathlib.Core.Path.{_≡_};
-ghost use Rattle.decimal.specs.Putting.{Put};
+ghost use Rattle.text.specs.Putting.{Put};
 ghost use Rattle.model.specs.Model.{Model};
 ghost use Rattle.model.specs.Questions.{ask};
 ghost use Rattle.model.specs.Sheet.{refused};
 ghost use Rattle.model.specs.Step.{step};
 ghost use Rattle.state.specs.View.{view};
 ghost use Rattle.script.specs.Lines.{Puts, Answers, Turns};
-ghost use Rattle.script.specs.Opening.{opensSession};
 ghost use Rattle.script.specs.Script.{answerText, totalText, obey};
 use lines::Tally;
 use meaning::Meant;
@@ -28,51 +25,17 @@ pub fn answer_text(buf: &mut [u8], answer: u16, results: &[u16]) -> usize
 {
     let first = decimal::put_number(buf, 0, answer);
     let last = decimal::put_numbers(buf, first, results);
-    decimal::put(buf, last, 10)
+    text::put(buf, last, 10)
 }
 
 // Puts the total: the number of lines answered 0, and of the others.
 pub fn total_text(buf: &mut [u8], t: Tally) -> usize
     ensures { λ r. ⌜ Put (now (buf .entry)) 0 (totalText (t .done) (t .others)) (now (buf .exit)) r ⌝ }
 {
-    let first = decimal::put_text(buf, 0, b"total");
+    let first = text::put_text(buf, 0, b"total");
     let counts = [t.done, t.others];
     let last = decimal::put_numbers(buf, first, &counts);
-    decimal::put(buf, last, 10)
-}
-
-// Is it the command that has a result?
-fn opens(c: Command) -> bool
-    ensures { λ b. ⌜ b ≡ opensSession c ⌝ }
-{
-    match c {
-        Command::AddUser(_) => false,
-        Command::AddRole(_) => false,
-        Command::NoUser(_) => false,
-        Command::NoRole(_) => false,
-        Command::Assign(_, _) => false,
-        Command::Deassign(_, _) => false,
-        Command::Grant(_, _, _) => false,
-        Command::Revoke(_, _, _) => false,
-        Command::Inherit(_, _) => false,
-        Command::Disinherit(_, _) => false,
-        Command::MakeSet(_, _, _) => false,
-        Command::DropSet(_, _) => false,
-        Command::AddMember(_, _, _) => false,
-        Command::DropMember(_, _, _) => false,
-        Command::SetCardinality(_, _, _) => false,
-        Command::OpenSession(_) => true,
-        Command::Activate(_, _, _) => false,
-        Command::DropActive(_, _, _) => false,
-        Command::EndSession(_, _) => false,
-    }
-}
-
-// Has it a result: was it done, and is it the command that has one?
-fn has_result(ok: bool, c: Command) -> bool
-    ensures { λ b. ⌜ b ≡ (opensSession c && ok) ⌝ }
-{
-    if opens(c) { ok } else { false }
+    text::put(buf, last, 10)
 }
 
 // Obeys a command, and puts its answer.
@@ -84,12 +47,12 @@ fn obey_command(state: &mut [u64; PLACES], c: Command, list: &[u16], buf: &mut [
     let opened = o.opened;
     let ok = numbers::is_done(answer);
     let number = numbers::number_of(answer);
-    let result = [opened.number];
-    if has_result(ok, c) {
-        let len = answer_text(buf, number, &result);
+    let results = [opened.number];
+    if o.result {
+        let len = answer_text(buf, number, &results);
         return Answered { len, ok };
     }
-    let len = answer_text(buf, number, &result[..0]);
+    let len = answer_text(buf, number, &results[..0]);
     Answered { len, ok }
 }
 

@@ -187,6 +187,8 @@ reviews =
 pub text : promises.Text
 text =
     record {
+      put = λ κs a x y e f vx vy p q. laws.put-one p q;
+      put-text = λ κs a x y e f vx vy p q. laws.put-one p q;
       word-at = λ κs a x y e f vx vy p q. p ∙ sym q;
     }
 
@@ -219,8 +221,6 @@ policyfile =
 pub decimal : promises.Decimal
 decimal =
     record {
-      put = λ κs a x y e f vx vy p q. laws.put-one p q;
-      put-text = λ κs a x y e f vx vy p q. laws.put-one p q;
       put-number = λ κs a x y e f vx vy p q. laws.put-one p q;
       put-numbers = λ κs a x y e f vx vy p q. laws.put-one p q;
       value = λ κs a x y e f vx vy p q. p ∙ sym q;

@@ -126,17 +126,13 @@ first : List ℕ → ℕ
 first [] = 0
 first (a ∷ rest) = a
 
--- Two results, each given where its answer is 0 and 0 where it is not, are one where what is told is.
-results-one : (a b : Answer) (m n : ℕ) → a ≡ b → given (isDone a) m ≡ given (isDone b) n → (isDone a ≡ false → m ≡ 0) → (isDone b ≡ false → n ≡ 0) → m ≡ n
+-- Two results, each given where its flag says so and 0 where it does not, are one where what is told is, and so are the flags.
+results-one : (b d : Bool) (m n : ℕ) → given b m ≡ given d n → (b ≡ false → m ≡ 0) → (d ≡ false → n ≡ 0) → (b ≡ d) × (m ≡ n)
 unfolding first
-results-one a b m n e g sm sn = go (isDone a) refl
-  where
-    same : given (isDone a) m ≡ given (isDone a) n
-    same = g ∙ ap (λ (c : Answer). given (isDone c) n) (sym e)
-
-    go : (d : Bool) → isDone a ≡ d → m ≡ n
-    go true h = ap first (sym (ap (λ (x : Bool). given x m) h) ∙ same ∙ ap (λ (x : Bool). given x n) h)
-    go false h = sm h ∙ sym (sn (ap isDone (sym e) ∙ h))
+results-one true true m n e sm sn = (refl, ap first e)
+results-one true false m n e sm sn = absurd (omega (arith, ap length e))
+results-one false true m n e sm sn = absurd (omega (arith, ap length e))
+results-one false false m n e sm sn = (refl, sm refl ∙ sym (sn refl))
 
 bits-one : (a b : Bool) → bit a ≡ bit b → a ≡ b
 bits-one true true e = refl
@@ -155,11 +151,11 @@ opens-one {x = x} {y} {l} {r} sl sr p q = ((λ i. record { answer = answers i; s
     answers = number-one-to-one (x .answer) (y .answer) (ap (λ (t : Told). t .answer) same)
 
     numbers-one : x .session .number ≡ y .session .number
-    numbers-one = results-one (x .answer) (y .answer) (x .session .number) (y .session .number) answers (ap (λ (t : Told). t .results) same) (p .silent) (q .silent)
+    numbers-one = results-one (isDone (x .answer)) (isDone (y .answer)) (x .session .number) (y .session .number) (ap (λ (t : Told). t .results) same) (p .silent) (q .silent) .1
 
 pub checks-one : {m : Model} {told : Told} {x y : Checked} → Checks m told x → Checks m told y → x ≡ y
 unfolding toldChecked
-checks-one {m} {x = x} {y} p q = λ i. record { answer = answers i; yes = bits-one (x .yes) (y .yes) (results-one (x .answer) (y .answer) (bit (x .yes)) (bit (y .yes)) answers (ap (λ (t : Told). t .results) same) (λ h. ap bit (p .silent h)) (λ h. ap bit (q .silent h))) i }
+checks-one {m} {x = x} {y} p q = λ i. record { answer = answers i; yes = bits-one (x .yes) (y .yes) (results-one (isDone (x .answer)) (isDone (y .answer)) (bit (x .yes)) (bit (y .yes)) (ap (λ (t : Told). t .results) same) (λ h. ap bit (p .silent h)) (λ h. ap bit (q .silent h)) .1) i }
   where
     same : toldChecked m x ≡ toldChecked m y
     same = p .tells ∙ sym (q .tells)
@@ -169,7 +165,7 @@ checks-one {m} {x = x} {y} p q = λ i. record { answer = answers i; yes = bits-o
 
 pub owns-one : {m : Model} {told : Told} {x y : Owned} → Owns m told x → Owns m told y → x ≡ y
 unfolding toldOwned
-owns-one {m} {x = x} {y} p q = λ i. record { answer = answers i; owner = results-one (x .answer) (y .answer) (x .owner) (y .owner) answers (ap (λ (t : Told). t .results) same) (p .silent) (q .silent) i }
+owns-one {m} {x = x} {y} p q = λ i. record { answer = answers i; owner = results-one (isDone (x .answer)) (isDone (y .answer)) (x .owner) (y .owner) (ap (λ (t : Told). t .results) same) (p .silent) (q .silent) .1 i }
   where
     same : toldOwned m x ≡ toldOwned m y
     same = p .tells ∙ sym (q .tells)
@@ -181,9 +177,12 @@ owns-one {m} {x = x} {y} p q = λ i. record { answer = answers i; owner = result
 
 pub steps-one : {t : Told} {x y : Stepped} {l r : List ℕ} → State l → State r → Steps t x l → Steps t y r → (x ≡ y) × (l ≡ r)
 steps-one {x = x} {y} sl sr p q = (
-  (λ i. record { answer = number-one-to-one (x .answer) (y .answer) (p .answer ∙ sym (q .answer)) i; opened = record { number = (p .opened ∙ sym (q .opened)) i } }),
+  (λ i. record { answer = number-one-to-one (x .answer) (y .answer) (p .answer ∙ sym (q .answer)) i; result = results .0 i; opened = record { number = results .1 i } }),
   states sl sr (p .after) (q .after),
 )
+  where
+    results : (x .result ≡ y .result) × (x .opened .number ≡ y .opened .number)
+    results = results-one (x .result) (y .result) (x .opened .number) (y .opened .number) (p .results ∙ sym (q .results)) (p .silent) (q .silent)
 
 -- ---- the reviews, with the buffer lent
 

@@ -168,6 +168,8 @@ pub record Reviews : Type 0 where
   pub ask : UniqueLent reviews.ask.Kinds.ps reviews.ask.Kinds.r reviews.ask.Reads.Post (λ κs e. e .1 .1 .0 .now)
 
 pub record Text : Type 0 where
+  pub put : UniqueLent text.put.Kinds.ps text.put.Kinds.r text.put.Reads.Post (λ κs e. e .0 .now)
+  pub put-text : UniqueLent text.put_text.Kinds.ps text.put_text.Kinds.r text.put_text.Reads.Post (λ κs e. e .0 .now)
   pub word-at : Unique text.word_at.Kinds.ps text.word_at.Kinds.r text.word_at.Reads.Post
 
 pub record Policywrite : Type 0 where
@@ -185,8 +187,6 @@ pub record Policyfile : Type 0 where
   pub load : UniqueState policyfile.load.Kinds.ps policyfile.load.Kinds.r policyfile.load.Reads.Post (λ κs e. e .0 .now)
 
 pub record Decimal : Type 0 where
-  pub put : UniqueLent decimal.put.Kinds.ps decimal.put.Kinds.r decimal.put.Reads.Post (λ κs e. e .0 .now)
-  pub put-text : UniqueLent decimal.put_text.Kinds.ps decimal.put_text.Kinds.r decimal.put_text.Reads.Post (λ κs e. e .0 .now)
   pub put-number : UniqueLent decimal.put_number.Kinds.ps decimal.put_number.Kinds.r decimal.put_number.Reads.Post (λ κs e. e .0 .now)
   pub put-numbers : UniqueLent decimal.put_numbers.Kinds.ps decimal.put_numbers.Kinds.r decimal.put_numbers.Reads.Post (λ κs e. e .0 .now)
   pub value : Unique decimal.value.Kinds.ps decimal.value.Kinds.r decimal.value.Reads.Post

@@ -1,7 +1,7 @@
 // The words of a script: which word a text is, a word put into a buffer, and how many numbers each takes.
 ghost use mathlib.Core.Path.{_≡_};
 ghost use lib.ListN.{take, getD};
-ghost use Rattle.decimal.specs.Putting.{Put};
+ghost use Rattle.text.specs.Putting.{Put};
 ghost use Rattle.words.specs.Bytes.{same};
 ghost use Rattle.words.specs.Rows.{row, letters};
 ghost use Rattle.words.specs.Words.{spelling, takes, which, wordOf};
@@ -121,7 +121,7 @@ pub fn put_word(buf: &mut [u8], at: usize, k: u16) -> usize
         if here == b' ' {
             return next;
         }
-        next = decimal::put(buf, next, here);
+        next = text::put(buf, next, here);
         i += 1;
     }
     next

@@ -5,7 +5,7 @@ use Prim.Native.Nat.{_≤_}
 use native.Mathlib.Omega.{arith}
 use lib.ListN.{length}
 use lib.Seq.{length-take-le}
-use Rattle.decimal.proofs.Laws.{put-length, put-within}
+use Rattle.text.proofs.Putting.{put-length, put-within}
 use Rattle.bench.proofs.refuse.Statement.{statement}
 use Rattle.bench.proofs.refuse.Tie as tie
 

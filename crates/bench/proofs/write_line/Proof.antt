@@ -5,7 +5,7 @@ use Prim.Native.Nat.{_≤_}
 use native.Mathlib.Omega.{arith}
 use lib.ListN.{length}
 use lib.Seq.{length-take-le}
-use Rattle.decimal.proofs.Laws.{put-length, put-within}
+use Rattle.text.proofs.Putting.{put-length, put-within}
 use Rattle.lines.proofs.Laws.{past-more}
 use Rattle.script.specs.Script.{lineFeed}
 use Rattle.bench.proofs.write_line.Statement.{statement}

@@ -1,6 +1,7 @@
 -- A digit is put where the number reaches its place, and nothing otherwise. Assumes nothing.
 use borrow.Author.Needs.{needs}
-use Rattle.decimal.proofs.Laws.{lead-there, lead-gone, put-none}
+use Rattle.text.proofs.Putting.{put-none}
+use Rattle.decimal.proofs.Laws.{lead-there, lead-gone}
 use Rattle.decimal.proofs.put_lead.Statement.{statement}
 use Rattle.decimal.proofs.put_lead.Tie as tie
 

@@ -3,8 +3,8 @@ use borrow.Author.Needs.{needs}
 use mathlib.Core.Path.{_≡_}
 use Prim.Native.Nat.{_/_}
 use native.Mathlib.Omega.{arith}
+use Rattle.text.proofs.Putting.{put-then}
 use Rattle.decimal.specs.Decimal.{decimal}
-use Rattle.decimal.proofs.Laws.{put-then}
 use Rattle.decimal.proofs.put_number.Statement.{statement}
 use Rattle.decimal.proofs.put_number.Tie as tie
 

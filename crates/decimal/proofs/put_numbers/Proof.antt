@@ -4,9 +4,10 @@ use Prim.Native.Nat.{_≤_, _<_, _-_}
 use native.Mathlib.Omega.{arith}
 use lib.ListN.{length, take}
 use lib.Seq.{take-all}
+use Rattle.text.specs.Putting.{Put}
+use Rattle.text.proofs.Putting.{put-then, put-none, put-length}
 use Rattle.decimal.specs.Decimal.{numbered}
-use Rattle.decimal.specs.Putting.{Put}
-use Rattle.decimal.proofs.Laws.{put-then, put-none, numbered-next, put-length}
+use Rattle.decimal.proofs.Laws.{numbered-next}
 use Rattle.decimal.proofs.put_numbers.Statement.{statement}
 use Rattle.decimal.proofs.put_numbers.Tie as tie
 

@@ -6,9 +6,10 @@ use Prim.Native.Nat.{ℕ, _≤_}
 use native.Mathlib.Omega.{arith}
 use lib.ListN.{length, replicate, length-replicate, length-append}
 use lib.Seq.{length-take-le}
+use Rattle.text.specs.Putting.{Put}
+use Rattle.text.proofs.Putting.{put-then, put-front, put-length}
 use Rattle.decimal.specs.Decimal.{numbered}
-use Rattle.decimal.specs.Putting.{Put}
-use Rattle.decimal.proofs.Laws.{put-then, put-front, put-length, numbered-short}
+use Rattle.decimal.proofs.Laws.{numbered-short}
 use Rattle.words.specs.Words.{spelling}
 use Rattle.words.specs.Bytes.{same}
 use Rattle.words.proofs.Tables.{spelling-short}

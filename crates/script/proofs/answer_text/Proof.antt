@@ -1,6 +1,6 @@
 -- The answer's number, its results and LF, one after another. Assumes nothing.
 use borrow.Author.Needs.{needs}
-use Rattle.decimal.proofs.Laws.{put-then}
+use Rattle.text.proofs.Putting.{put-then}
 use Rattle.script.specs.Script.{answerText}
 use Rattle.script.proofs.answer_text.Statement.{statement}
 use Rattle.script.proofs.answer_text.Tie as tie

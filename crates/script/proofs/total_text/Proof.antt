@@ -1,6 +1,6 @@
 -- The word, the two counts and LF, one after another. Assumes nothing.
 use borrow.Author.Needs.{needs}
-use Rattle.decimal.proofs.Laws.{put-then}
+use Rattle.text.proofs.Putting.{put-then}
 use Rattle.script.specs.Script.{totalText}
 use Rattle.script.proofs.total_text.Statement.{statement}
 use Rattle.script.proofs.total_text.Tie as tie

@@ -5,8 +5,8 @@ use mathlib.Core.Path.{_≡_, refl, sym, ap, _∙_}
 use Prim.Native.Nat.{ℕ, _+_, _-_}
 use native.Mathlib.Omega.{arith}
 use lib.ListN.{getD, take, length-take, List·getD-eq-default}
-use Rattle.decimal.specs.Putting.{Put}
-use Rattle.decimal.proofs.Laws.{put-then, put-none, put-length}
+use Rattle.text.specs.Putting.{Put}
+use Rattle.text.proofs.Putting.{put-then, put-none, put-length}
 use Rattle.words.specs.Rows.{letters}
 use Rattle.words.proofs.Rows.{left, row-letters, so-far, one-more, all-put}
 use Rattle.words.proofs.put_word.Statement.{statement}

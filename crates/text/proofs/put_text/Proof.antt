@@ -5,10 +5,10 @@ use native.Mathlib.Numerals.{add-one}
 use native.Mathlib.Omega.{arith}
 use lib.ListN.{length, take}
 use lib.Seq.{take-suc, take-all}
-use Rattle.decimal.specs.Putting.{Put}
-use Rattle.decimal.proofs.Laws.{put-then, put-none, put-length}
-use Rattle.decimal.proofs.put_text.Statement.{statement}
-use Rattle.decimal.proofs.put_text.Tie as tie
+use Rattle.text.specs.Putting.{Put}
+use Rattle.text.proofs.Putting.{put-then, put-none, put-length}
+use Rattle.text.proofs.put_text.Statement.{statement}
+use Rattle.text.proofs.put_text.Tie as tie
 
 abbrev Inv-loop : tie.InvT-loop
 Inv-loop buf₀ at text next₀ i₀ buf next i = (i ≤ length text) × Put buf₀ at (take i text) buf next

@@ -3,8 +3,8 @@ use borrow.Author.Needs.{needs}
 use mathlib.Core.Path.{sym}
 use native.Mathlib.Omega.{arith}
 use lib.Seq.{set-out}
-use Rattle.decimal.proofs.put.Statement.{statement}
-use Rattle.decimal.proofs.put.Tie as tie
+use Rattle.text.proofs.put.Statement.{statement}
+use Rattle.text.proofs.put.Tie as tie
 
 returns-2 : tie.Need-returns-2
 returns-2 c = record { holds = sym (set-out _ _ _ (c .if1 .left)); ends = omega (arith, c .if1 .left) }
