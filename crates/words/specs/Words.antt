@@ -20,7 +20,7 @@ word text n = record { spelling = bytes text; numbers = n; listed = false }
 abbrev listing : String → ℕ → Word
 listing text n = record { spelling = bytes text; numbers = n; listed = true }
 
--- every word, in the order of its number
+-- every word, in the order of its number; a new word comes last
 unfoldable pub words : List Word
 words =
     word "user" 1 ∷

@@ -9,7 +9,7 @@ ghost use Rattle.words.specs.Words.{spelling, takes, which, wordOf};
 // How many words there are.
 pub const WORD_COUNT: u16 = 41;
 
-// A row for each word: its letters in 14 places, how many numbers it takes, and `+` where a list of roles follows them.
+// A row for each word, in the order of its number: its letters in 14 places, how many numbers it takes, and `+` where a list of roles follows them. A new word comes last.
 const WORDS: [[u8; 16]; WORD_COUNT as usize] = [
     *b"user          1 ",
     *b"role          1 ",
