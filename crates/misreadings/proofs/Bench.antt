@@ -7,6 +7,7 @@ use native.Mathlib.Omega.{arith}
 use lib.ListN.{getD}
 use Rattle.roleset.specs.Bounded.{bit, some, every, tally, members}
 use Rattle.roleset.specs.Roles.{has, pack, those, with, without, union, both, minus, subset, isEmpty, count}
+use Rattle.roleset.proofs.BoundedLaws.{some-intro}
 use Rattle.hierarchy.specs.Walks.{juniorsOf, joined, walk, reach}
 use Rattle.model.specs.Lists.{rising, someFrom, listed, setOf}
 use Rattle.model.specs.Model.{Model, empty, put}
@@ -38,9 +39,9 @@ pub record Looked (m : Model) : Type 0 where
   pub passed : brokenByAssigned (lined m 2 1) ≡ false
   pub refused : wouldBreak Static (lined m 2 1) ≡ true
 
--- all of it as numbers, and the answers for access: one computation
+-- all of it as numbers, and the answers for access: one computation. It is user 7 for whom the rule is broken, so the others are not asked
 unfoldable look : Model → Answers
-look m = (bit (m .sessions 0 .live) ∷ bit (has (m .sessions 0 .active) 2) ∷ bit (has (m .roles) 0) ∷ bit (has (m .juniors 2) 0) ∷ bit (has (m .holders (permission 4 30)) 0) ∷ m .holders (permission 4 31) ∷ bit (brokenByAssigned (lined m 2 1)) ∷ bit (wouldBreak Static (lined m 2 1)) ∷ []) ∷ answers m accessAtTheBench
+look m = (bit (m .sessions 0 .live) ∷ bit (has (m .sessions 0 .active) 2) ∷ bit (has (m .roles) 0) ∷ bit (has (m .juniors 2) 0) ∷ bit (has (m .holders (permission 4 30)) 0) ∷ m .holders (permission 4 31) ∷ bit (brokenByAssigned (lined m 2 1)) ∷ bit (staticBroken (lined m 2 1) 7) ∷ []) ∷ answers m accessAtTheBench
 
 computed : look atTheBench ≡ (1 ∷ 1 ∷ 1 ∷ 1 ∷ 1 ∷ 0 ∷ 0 ∷ 1 ∷ []) ∷ (0 ∷ 2 ∷ []) ∷ (0 ∷ 1 ∷ []) ∷ (0 ∷ 0 ∷ []) ∷ []
 unfolding some every tally members has pack those with without union both minus subset isEmpty count juniorsOf joined walk reach rising someFrom listed setOf empty put ask sessionRoles verdict settle step breaks breaksSome staticBroken dynamicBroken sessionsOpen user role assign assigned grant granted inherit lined usersCut broken makeSet freeFrom opened session permitted check answers afterwards atTheBench brokenByAssigned look
@@ -64,7 +65,7 @@ bit-no false e = refl
 
 pub bench : Looked atTheBench
 unfolding look first
-bench = record { live = bit-yes _ (at 0); active = bit-yes _ (at 1); exists = bit-yes _ (at 2); lower = bit-yes _ (at 3); holds = bit-yes _ (at 4); unheld = at 5; passed = bit-no _ (at 6); refused = bit-yes _ (at 7) }
+bench = record { live = bit-yes _ (at 0); active = bit-yes _ (at 1); exists = bit-yes _ (at 2); lower = bit-yes _ (at 3); holds = bit-yes _ (at 4); unheld = at 5; passed = bit-no _ (at 6); refused = some-intro 256 (staticBroken (lined atTheBench 2 1)) 7 (omega arith) (bit-yes _ (at 7)) }
   where
     at : (k : ℕ) → getD (first (look atTheBench)) k 0 ≡ getD (1 ∷ 1 ∷ 1 ∷ 1 ∷ 1 ∷ 0 ∷ 0 ∷ 1 ∷ []) k 0
     at k = ap (λ (x : Answers). getD (first x) k 0) computed
