@@ -1,3 +1,2 @@
 mod Named
 mod Rules
-pub mod Values

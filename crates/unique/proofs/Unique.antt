@@ -42,7 +42,7 @@ use Rattle.reviews.specs.declared.Review.{Review}
 use Rattle.policyform.specs.Promises.{Saves, Loads}
 use Rattle.policyfile.specs.declared.Saved.{Saved}
 use Rattle.policyfile.proofs.Laws as files
-use Rattle.decimal.specs.Putting.{Put}
+use Rattle.text.specs.Putting.{Put}
 use Rattle.text.specs.Places.{Wrote}
 use Rattle.policycheck.specs.Tests.{Tells}
 use Rattle.script.specs.Lines as lines
