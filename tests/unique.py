@@ -19,7 +19,7 @@ ROOT = Path(__file__).resolve().parent.parent
 HOME = ROOT / "crates" / "unique"
 
 # Public functions with no line: they borrow a struct, and a contract over one cannot be cited (docs/DECISIONS.md, 'Exceptions to uniqueness').
-WITHOUT = {"lines.next", "lines.bump"}
+WITHOUT = {"textlines.next", "textlines.bump"}
 
 # Promises that have another's law: they are that promise by definition, or two crates use one name.
 LAW_OF = {
@@ -35,7 +35,7 @@ BY_HAND = {
     "roleset.count": "p .0 ∙ sym (q .0)",
     "roleset.lowest": "laws.lowest-one (a .0) x y p q",
     "hierarchy.turned": "laws.arrays 64 x y _ (vx .1 .1 .0 .1) (vy .1 .1 .0 .1) p q",
-    "lines.next_from": "λ i. ((p .0 ∙ sym (q .0)) i, (p .1 ∙ sym (q .1)) i)",
+    "textlines.next_from": "λ i. ((p .0 ∙ sym (q .0)) i, (p .1 ∙ sym (q .1)) i)",
 }
 
 # The state's type; every other array that is lent to be changed is a buffer.

@@ -3,9 +3,9 @@ ghost use Prim.Native.Nat.{_<_, _≤_};
 ghost use lib.ListN.{length};
 use libc::STDIN_FILENO;
 use libc::STDOUT_FILENO;
-use lines::Tally;
 use script::Progress;
 use state::PLACES;
+use textlines::Tally;
 
 // Writes the total.
 fn write_total(t: Tally) {

@@ -5,7 +5,7 @@ use Prim.Native.Nat.{ℕ}
 use Prim.Native.String.{String}
 use lib.ListN.{getD}
 use Rattle.words.specs.Bytes.{bytes}
-use Rattle.words.specs.Words.{Word, words}
+use Rattle.words.specs.ScriptWords.{Word, words}
 use Rattle.model.specs.declared.Kind.the-variants.{Static, Dynamic}
 use Rattle.model.specs.declared.Command.the-variants.{Activate, AddMember, AddRole, AddUser, Assign, Deassign, Disinherit, DropActive, DropMember, DropSet, EndSession, Grant, Inherit, MakeSet, NoRole, NoUser, OpenSession, Revoke, SetCardinality}
 use Rattle.model.specs.declared.Question.the-variants.{AssignedRoles, AssignedUsers, AuthRoles, AuthUsers, Check, RoleOps, RolePerms, SessionPerms, SessionRoles, SetCount, SetRoles, Sets, UserOps, UserPerms}

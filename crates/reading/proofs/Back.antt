@@ -11,11 +11,11 @@ use lib.Seq.{drop-append-add}
 use borrow.Author.Tests.{ne-eqb, le-leb, leb-true, lt-ltb, ltb-true, not-true}
 use Rattle.decimal.specs.Decimal.{digit, lead, decimal, numbered, value, taken, takenFrom, space}
 use Rattle.decimal.proofs.Laws.{value-decimal, decimal-long}
-use Rattle.words.specs.Words.{spelling, which, wordCount, words}
+use Rattle.words.specs.ScriptWords.{spelling, which, wordCount, words}
 use Rattle.words.proofs.Laws.{and-true, same-equal, same-refl}
 use Rattle.words.proofs.Tables.{which-spelling, lengths, over-words}
-use Rattle.lines.specs.Parts.{joined, partsOf, upTo, placePast}
-use Rattle.lines.proofs.Laws.{after, at-stop, before-stop, cut, kept}
+use Rattle.textlines.specs.Parts.{joined, partsOf, upTo, placePast}
+use Rattle.textlines.proofs.Laws.{after, at-stop, before-stop, cut, kept}
 use Rattle.reading.specs.Form.{render, Small, Written, line, noLine, wordIn, numbersIn, shaped, again, parse}
 
 -- ---- a text without spaces

@@ -11,11 +11,11 @@ use lib.Seq.{take-suc-set, drop-set-lt, drop-cons, length-take-le, take-append-s
 use borrow.Author.Tests.{leb-true, leb-false, le-leb, lt-leb}
 use Rattle.decimal.specs.Decimal.{numbered, value, space}
 use Rattle.decimal.proofs.Laws.{numbered-long}
-use Rattle.words.specs.Words.{spelling}
+use Rattle.words.specs.ScriptWords.{spelling}
 use Rattle.words.specs.Bytes.{same}
 use Rattle.words.proofs.Laws.{same-length}
-use Rattle.lines.specs.Parts.{partsOf, partAt, placePast}
-use Rattle.lines.proofs.Laws.{parts-at, parts-none}
+use Rattle.textlines.specs.Parts.{partsOf, partAt, placePast}
+use Rattle.textlines.proofs.Laws.{parts-at, parts-none}
 use Rattle.reading.specs.Form.{render, wordIn, numbersIn, shaped, parse, noLine}
 use Rattle.reading.specs.Holding.{padded, full, blank, gathered}
 use Rattle.reading.specs.declared.Line.{Line}

@@ -6,9 +6,9 @@ use Prim.Native.Nat.{ℕ, _≤_, _<_}
 use lib.Dec.{leb, ltb}
 use lib.ListN.{length, drop}
 use Rattle.decimal.specs.Decimal.{numbered, value, space}
-use Rattle.words.specs.Words.{wordCount, spelling, takes, which}
+use Rattle.words.specs.ScriptWords.{wordCount, spelling, takes, which}
 use Rattle.words.specs.Bytes.{same}
-use Rattle.lines.specs.Parts.{partsOf, partAt, placePast}
+use Rattle.textlines.specs.Parts.{partsOf, partAt, placePast}
 
 -- "Words are separated by one space."
 unfoldable pub render : ℕ → List ℕ → List ℕ

@@ -31,14 +31,14 @@ fn gather(text: &[u8]) -> Line
     ensures { λ r. ⌜ r ≡ gathered (now (text .entry)) ⌝ }
 {
     let mut at: usize = 0;
-    let word = words::which(lines::next_from(text, &mut at, 32));
+    let word = words::which(textlines::next_from(text, &mut at, 32));
     let mut numbers = [0u16; 256];
     let mut count: usize = 0;
     while at < text.len() {
         if 256 <= count {
             return no_line();
         }
-        numbers[count] = decimal::value(lines::next_from(text, &mut at, 32));
+        numbers[count] = decimal::value(textlines::next_from(text, &mut at, 32));
         count += 1;
     }
     Line {

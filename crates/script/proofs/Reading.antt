@@ -10,7 +10,7 @@ use lib.Seq.{getD-append-add, drop-append-le, take-at}
 use Rattle.model.specs.Model.{Model}
 use Rattle.decimal.specs.Decimal.{numbered}
 use Rattle.decimal.proofs.Laws.{numbered-long}
-use Rattle.words.specs.Words.{wordCount, wordOf, spelling}
+use Rattle.words.specs.ScriptWords.{wordCount, wordOf, spelling}
 use Rattle.words.proofs.Tables.{takes-enough}
 use Rattle.reading.specs.Form.{Parsed, line, noLine, parse, Written, render}
 use Rattle.reading.specs.Holding.{padded, full, blank, held}

@@ -14,18 +14,18 @@ use Rattle.state.specs.View.{view}
 use Rattle.text.proofs.Putting.{put-front}
 use Rattle.decimal.specs.Decimal.{decimal, numbered}
 use Rattle.decimal.proofs.Laws.{decimal-short, numbered-short}
-use Rattle.words.specs.Words.{wordOf}
-use Rattle.lines.specs.Parts.{partsOf, partAt, placePast}
-use Rattle.lines.specs.Tallies.{counted, oneMore}
-use Rattle.lines.specs.declared.Tally.{Tally}
-use Rattle.lines.proofs.Laws.{parts-at, parts-none, past-more}
+use Rattle.words.specs.ScriptWords.{wordOf}
+use Rattle.textlines.specs.Parts.{partsOf, partAt, placePast}
+use Rattle.textlines.specs.Tallies.{counted, oneMore}
+use Rattle.textlines.specs.declared.Tally.{Tally}
+use Rattle.textlines.proofs.Laws.{parts-at, parts-none, past-more}
 use Rattle.reading.specs.Form.{Parsed, line, noLine, parse}
 use Rattle.meaning.specs.declared.Meant.{Meant}
 use Rattle.meaning.specs.declared.Meant.the-variants.{Do, Ask, Nothing}
 use Rattle.meaning.specs.Meaning.{meant}
 use Rattle.reviews.proofs.Promised.{results-fit}
 use Rattle.script.specs.Script.{room, doing, obeyed, obey, answerText, totalText, doneAfter, othersAfter, runLines, runScript, lineFeed, longestScript}
-use Rattle.script.specs.Lines.{Turns, toldAt}
+use Rattle.script.specs.LineAnswers.{Turns, toldAt}
 use Rattle.script.specs.Running.{Runs, ends, goes, bufferLength}
 use Rattle.script.specs.declared.Progress.{Progress}
 use Rattle.script.specs.declared.Turned.{Turned}

@@ -1,3 +1,3 @@
 pub mod Script
-pub mod Lines
+pub mod LineAnswers
 pub mod Running

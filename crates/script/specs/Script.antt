@@ -10,8 +10,8 @@ use Rattle.model.specs.Step.{step}
 use Rattle.model.specs.Questions.{ask}
 use Rattle.decimal.specs.Decimal.{decimal, numbered}
 use Rattle.words.specs.Bytes.{bytes}
-use Rattle.words.specs.Words.{wordOf}
-use Rattle.lines.specs.Parts.{partsOf}
+use Rattle.words.specs.ScriptWords.{wordOf}
+use Rattle.textlines.specs.Parts.{partsOf}
 use Rattle.reading.specs.Form.{Parsed, line, noLine, parse}
 use Rattle.meaning.specs.Meaning.{meant}
 use Rattle.meaning.specs.declared.Meant.{Meant}

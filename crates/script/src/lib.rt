@@ -5,13 +5,13 @@ ghost use Rattle.model.specs.Questions.{ask};
 ghost use Rattle.model.specs.Sheet.{refused};
 ghost use Rattle.model.specs.Step.{step};
 ghost use Rattle.state.specs.View.{view};
-ghost use Rattle.script.specs.Lines.{Puts, Answers, Turns};
+ghost use Rattle.script.specs.LineAnswers.{Puts, Answers, Turns};
 ghost use Rattle.script.specs.Script.{answerText, totalText, obey};
-use lines::Tally;
 use meaning::Meant;
 use model::Command;
 use model::Question;
 use state::PLACES;
+use textlines::Tally;
 
 // The text of an answer stands at the front of the buffer and ends at `len`; whether the answer was 0.
 pub struct Answered {
@@ -117,9 +117,9 @@ pub fn turn(script: &[u8], state: &mut [u64; PLACES], p: Progress, buf: &mut [u8
 {
     let tally = p.tally;
     let mut at = p.at;
-    let text = lines::next_from(script, &mut at, 10);
+    let text = textlines::next_from(script, &mut at, 10);
     let a = answer_line(state, text, buf);
-    let counted = lines::tallied(tally, a.ok);
+    let counted = textlines::tallied(tally, a.ok);
     Turned {
         len: a.len,
         next: Progress { at, tally: counted },

@@ -1,2 +1,2 @@
 mod Named
-mod Rules
+mod DynamicRule

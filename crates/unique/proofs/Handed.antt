@@ -10,9 +10,9 @@ use Rattle.model.specs.declared.Command.{Command}
 use Rattle.model.specs.declared.Command.the-variants as commands
 use Rattle.state.specs.View.{view, told}
 use Rattle.sessions.specs.Answering.{toldOpened}
-use Rattle.lines.specs.Parts.{partAt}
+use Rattle.textlines.specs.Parts.{partAt}
 use Rattle.script.specs.Script.{lineFeed}
-use Rattle.scripts.proofs.Lines.{lines}
+use Rattle.transcripts.proofs.ScriptLines.{script-lines}
 use Rattle.demands.specs.Reachable.{Reachable, start, after, loaded}
 use Rattle.demands.proofs.Demand3.{demand3}
 use Rattle.unique.specs.Handed.{Handed, Owned, empty}
@@ -51,8 +51,8 @@ reachable (end c h) = stepped _ (reachable h) (commands.EndSession (c .given .1 
 -- ---- end of what tests/unique.py writes
 reachable (session c h) = subst Reachable (sym (ap (λ (t : Told). t .after) (c .met .tells))) (after (reachable h) (commands.OpenSession (c .given .1 .0)) (c .given .1 .1 .0 .now))
 reachable (step c h) = subst Reachable (sym (c .met .after)) (after (reachable h) (c .given .1 .0) (c .given .1 .1 .0 .now))
-reachable (answer-line c h) = subst Reachable (sym (c .met .state)) (lines .reachable _ (c .given .1 .0 .now) (reachable h))
-reachable (turn c h) = subst Reachable (sym (c .met .state)) (lines .reachable _ (partAt lineFeed (c .given .0 .now) (c .given .1 .1 .0 .at)) (reachable h))
+reachable (answer-line c h) = subst Reachable (sym (c .met .state)) (script-lines .reachable _ (c .given .1 .0 .now) (reachable h))
+reachable (turn c h) = subst Reachable (sym (c .met .state)) (script-lines .reachable _ (partAt lineFeed (c .given .0 .now) (c .given .1 .1 .0 .at)) (reachable h))
 reachable (load c h) = loaded (reachable h) (c .given .1 .0 .now) _ (c .met)
 
 -- the code's own states keep demand 3

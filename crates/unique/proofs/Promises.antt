@@ -236,8 +236,8 @@ words =
       same = λ κs a x y e f vx vy p q. p ∙ sym q;
     }
 
-pub lines : promises.Lines
-lines =
+pub textlines : promises.Textlines
+textlines =
     record {
       part-at = λ κs a x y e f p q. p ∙ sym q;
       past = λ κs a x y e f vx vy p q. p ∙ sym q;

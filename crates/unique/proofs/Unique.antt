@@ -45,7 +45,7 @@ use Rattle.policyfile.proofs.Laws as files
 use Rattle.text.specs.Putting.{Put}
 use Rattle.text.specs.Places.{Wrote}
 use Rattle.policycheck.specs.Tests.{Tells}
-use Rattle.script.specs.Lines as lines
+use Rattle.script.specs.LineAnswers as lines
 use Rattle.script.specs.declared.Answered.{Answered}
 use Rattle.script.specs.declared.Progress.{Progress}
 use Rattle.script.specs.declared.Turned.{Turned}

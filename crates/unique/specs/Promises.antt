@@ -25,7 +25,7 @@ use Rattle.policycheck.proofs as policycheck
 use Rattle.policyfile.proofs as policyfile
 use Rattle.decimal.proofs as decimal
 use Rattle.words.proofs as words
-use Rattle.lines.proofs as lines
+use Rattle.textlines.proofs as textlines
 use Rattle.reading.proofs as reading
 use Rattle.meaning.proofs as meaning
 use Rattle.script.proofs as script
@@ -198,12 +198,12 @@ pub record Words : Type 0 where
   pub takes : Unique words.takes.Kinds.ps words.takes.Kinds.r words.takes.Reads.Post
   pub same : Unique words.same.Kinds.ps words.same.Kinds.r words.same.Reads.Post
 
-pub record Lines : Type 0 where
-  pub part-at : UniqueSeen lines.part_at.Kinds.ps lines.part_at.Kinds.r lines.part_at.Reads.Post (λ κs x e. x .now)
-  pub past : Unique lines.past.Kinds.ps lines.past.Kinds.r lines.past.Reads.Post
-  pub next-from : UniqueSeen {A = List ℕ × ℕ} lines.next_from.Kinds.ps lines.next_from.Kinds.r lines.next_from.Reads.Post (λ κs x e. (x .now, e .1 .0 .now))
-  pub bumped : Unique lines.bumped.Kinds.ps lines.bumped.Kinds.r lines.bumped.Reads.Post
-  pub tallied : Unique lines.tallied.Kinds.ps lines.tallied.Kinds.r lines.tallied.Reads.Post
+pub record Textlines : Type 0 where
+  pub part-at : UniqueSeen textlines.part_at.Kinds.ps textlines.part_at.Kinds.r textlines.part_at.Reads.Post (λ κs x e. x .now)
+  pub past : Unique textlines.past.Kinds.ps textlines.past.Kinds.r textlines.past.Reads.Post
+  pub next-from : UniqueSeen {A = List ℕ × ℕ} textlines.next_from.Kinds.ps textlines.next_from.Kinds.r textlines.next_from.Reads.Post (λ κs x e. (x .now, e .1 .0 .now))
+  pub bumped : Unique textlines.bumped.Kinds.ps textlines.bumped.Kinds.r textlines.bumped.Reads.Post
+  pub tallied : Unique textlines.tallied.Kinds.ps textlines.tallied.Kinds.r textlines.tallied.Reads.Post
 
 pub record Reading : Type 0 where
   pub read-line : Unique reading.read_line.Kinds.ps reading.read_line.Kinds.r reading.read_line.Reads.Post

@@ -10,7 +10,7 @@ use lib.ListN.{length, getD, drop, drop-of-length-le}
 use lib.Seq.{drop-cons}
 use borrow.Author.Tests.{eqb-true, eq-eqb, ne-eqb}
 use Rattle.words.specs.Bytes.{same}
-use Rattle.words.specs.Words.{Word, words, wordCount, words-count, wordOf, spelling, placeIn, which}
+use Rattle.words.specs.ScriptWords.{Word, words, wordCount, words-count, wordOf, spelling, placeIn, which}
 
 -- ---- the same text
 

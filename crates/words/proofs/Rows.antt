@@ -10,7 +10,7 @@ use lib.ListN.{length, getD, take, drop, drop-of-length-le, List·getD-map, List
 use lib.Seq.{take-suc, getD-append-add, drop-cons}
 use borrow.Author.Tests.{eq-eqb, ne-eqb, ltb-true, ltb-false, eqb-true, eqb-false}
 use Rattle.words.specs.Bytes.{same}
-use Rattle.words.specs.Words.{Word, words, wordCount, wordOf, spelling}
+use Rattle.words.specs.ScriptWords.{Word, words, wordCount, wordOf, spelling}
 use Rattle.words.specs.Rows.{filled, mark, row, upToSpace, letters}
 use Rattle.words.proofs.Laws.{same-equal}
 use Rattle.words.proofs.Tables.{none, past-last, cases, lengths, over-words}

@@ -7,7 +7,7 @@ use native.Mathlib.Omega.{arith}
 use lib.Dec.{T, eqb, ltb, leb}
 use lib.ListN.{length, List·getD-eq-default}
 use borrow.Author.Tests.{ltb-true, ltb-false, leb-true, eqb-true}
-use Rattle.words.specs.Words.{Word, words, wordCount, words-count, wordOf, spelling, fitting, takes, which, placeIn}
+use Rattle.words.specs.ScriptWords.{Word, words, wordCount, words-count, wordOf, spelling, fitting, takes, which, placeIn}
 use Rattle.words.specs.Bytes.{same}
 use Rattle.words.proofs.Table.{at, every}
 

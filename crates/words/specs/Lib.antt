@@ -1,3 +1,3 @@
-pub mod Words
+pub mod ScriptWords
 pub mod Rows
 pub mod Bytes

@@ -4,7 +4,7 @@ use mathlib.Core.List.{List, [], _∷_, _++_}
 use Prim.Native.Nat.{ℕ, zero, suc, _+_}
 use lib.Dec.{eqb}
 use lib.ListN.{take}
-use Rattle.words.specs.Words.{Word}
+use Rattle.words.specs.ScriptWords.{Word}
 
 -- a text filled up with spaces to n places, or cut there
 abbrev pub filled : ℕ → List ℕ → List ℕ

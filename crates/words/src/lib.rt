@@ -4,7 +4,7 @@ ghost use lib.ListN.{take, getD};
 ghost use Rattle.text.specs.Putting.{Put};
 ghost use Rattle.words.specs.Bytes.{same};
 ghost use Rattle.words.specs.Rows.{row, letters};
-ghost use Rattle.words.specs.Words.{spelling, takes, which, wordOf};
+ghost use Rattle.words.specs.ScriptWords.{spelling, takes, which, wordOf};
 
 // How many words there are.
 pub const WORD_COUNT: u16 = 41;

@@ -6,7 +6,7 @@ use native.Mathlib.Omega.{arith}
 use lib.ListN.{length}
 use lib.Seq.{length-take-le}
 use Rattle.text.proofs.Putting.{put-length, put-within}
-use Rattle.lines.proofs.Laws.{past-more}
+use Rattle.textlines.proofs.Laws.{past-more}
 use Rattle.script.specs.Script.{lineFeed}
 use Rattle.bench.proofs.write_line.Statement.{statement}
 use Rattle.bench.proofs.write_line.Tie as tie

@@ -3,7 +3,7 @@ use mathlib.Core.Path.{_≡_, sym, ap}
 use Prim.Native.Nat.{ℕ, zero, suc, _≤_}
 use native.Mathlib.Omega.{arith}
 use lib.ListN.{List·getD-eq-default}
-use Rattle.words.specs.Words.{wordCount}
+use Rattle.words.specs.ScriptWords.{wordCount}
 use Rattle.meaning.specs.Meaning.{Row, meant, meanings}
 use Rattle.meaning.specs.declared.Meant.the-variants.{Nothing}
 use Rattle.meaning.proofs.meaning.Statement.{statement}

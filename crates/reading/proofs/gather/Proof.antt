@@ -5,8 +5,8 @@ use Prim.Native.Nat.{ℕ, _-_}
 use native.Mathlib.Omega.{arith}
 use lib.ListN.{length}
 use Rattle.decimal.specs.Decimal.{space}
-use Rattle.words.specs.Words.{which}
-use Rattle.lines.proofs.Laws.{past-more}
+use Rattle.words.specs.ScriptWords.{which}
+use Rattle.textlines.proofs.Laws.{past-more}
 use Rattle.reading.specs.Form.{wordIn}
 use Rattle.reading.proofs.Gathering.{Gathers, gathers-start, gathers-next, gathers-all, gathers-over}
 use Rattle.reading.proofs.gather.Statement.{statement}

@@ -10,7 +10,7 @@ use Rattle.text.specs.Putting.{Put}
 use Rattle.text.proofs.Putting.{put-then, put-front, put-length}
 use Rattle.decimal.specs.Decimal.{numbered}
 use Rattle.decimal.proofs.Laws.{numbered-short}
-use Rattle.words.specs.Words.{spelling}
+use Rattle.words.specs.ScriptWords.{spelling}
 use Rattle.words.specs.Bytes.{same}
 use Rattle.words.proofs.Tables.{spelling-short}
 use Rattle.reading.specs.Form.{render}

@@ -2,8 +2,8 @@
 use borrow.Author.Needs.{needs}
 use mathlib.Core.Path.{ap, _∙_}
 use mathlib.Core.Bool.{Bool}
-use Rattle.lines.specs.Tallies.{counted}
-use Rattle.script.specs.Lines.{Answers, toldAt}
+use Rattle.textlines.specs.Tallies.{counted}
+use Rattle.script.specs.LineAnswers.{Answers, toldAt}
 use Rattle.script.proofs.turn.Statement.{statement}
 use Rattle.script.proofs.turn.Tie as tie
 

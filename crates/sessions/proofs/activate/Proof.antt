@@ -13,7 +13,7 @@ use Rattle.model.specs.Words.{reached, authorised, dynamicBroken}
 use Rattle.model.specs.commands.Sessions.{activate, activeSet}
 use Rattle.state.specs.View.{view, told}
 use Rattle.sessions.proofs.Named.{Named, refuses, named, stored}
-use Rattle.sessions.proofs.Rules.{active-dynamic}
+use Rattle.sessions.proofs.DynamicRule.{active-dynamic}
 use Rattle.sessions.proofs.activate.Statement.{statement}
 use Rattle.sessions.proofs.activate.Tie as tie
 

@@ -22,7 +22,7 @@ use Rattle.state.specs.View.{view}
 use Rattle.state.proofs.Stored.{in-range}
 use Rattle.sessions.specs.Answering.{toldOpened}
 use Rattle.sweeps.proofs.Free.{full-free}
-use Rattle.sessions.proofs.Rules.{opened-dynamic}
+use Rattle.sessions.proofs.DynamicRule.{opened-dynamic}
 use Rattle.sessions.proofs.session.Statement.{statement}
 use Rattle.sessions.proofs.session.Tie as tie
 

@@ -4,7 +4,7 @@ use mathlib.Core.Path.{_≡_}
 use Prim.Native.Nat.{_+_}
 use native.Mathlib.Omega.{arith}
 use lib.ListN.{getD}
-use Rattle.words.specs.Words.{wordOf}
+use Rattle.words.specs.ScriptWords.{wordOf}
 use Rattle.words.proofs.Rows.{row-digit}
 use Rattle.words.proofs.Tables.{numbers-few}
 use Rattle.words.proofs.before_list.Statement.{statement}

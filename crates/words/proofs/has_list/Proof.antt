@@ -1,6 +1,6 @@
 -- The mark of a word's row. Assumes nothing.
 use borrow.Author.Needs.{needs}
-use Rattle.words.specs.Words.{wordOf}
+use Rattle.words.specs.ScriptWords.{wordOf}
 use Rattle.words.proofs.Rows.{row-mark}
 use Rattle.words.proofs.has_list.Statement.{statement}
 use Rattle.words.proofs.has_list.Tie as tie

@@ -1,7 +1,7 @@
 -- The code's table is the rows of the words: both are computed and compared. Assumes nothing.
 use borrow.Author.Needs.{needs}
 use mathlib.Core.Path.{sym, ap}
-use Rattle.words.specs.Words.{words}
+use Rattle.words.specs.ScriptWords.{words}
 use Rattle.words.specs.Rows.{row}
 use Rattle.words.proofs.Rows.{row-at}
 use Rattle.words.proofs.Tables.{past-last}

@@ -2,7 +2,7 @@
 use borrow.Author.Needs.{needs}
 use mathlib.Core.Bool.{true, false}
 use mathlib.Core.Path.{_≡_, sym, _∙_}
-use Rattle.words.specs.Words.{wordOf, takes}
+use Rattle.words.specs.ScriptWords.{wordOf, takes}
 use Rattle.words.proofs.Tables.{fits}
 use Rattle.words.proofs.takes.Statement.{statement}
 use Rattle.words.proofs.takes.Tie as tie

@@ -6,7 +6,7 @@ use Prim.Native.Nat.{ℕ, _+_, _≤_, _-_}
 use native.Mathlib.Omega.{arith}
 use lib.ListN.{getD, drop}
 use Rattle.words.specs.Bytes.{same}
-use Rattle.words.specs.Words.{words, wordCount, spelling, placeIn, which}
+use Rattle.words.specs.ScriptWords.{words, wordCount, spelling, placeIn, which}
 use Rattle.words.specs.Rows.{row, letters}
 use Rattle.words.proofs.Laws.{found, passed, none-left, which-starts}
 use Rattle.words.proofs.Rows.{table-letters}

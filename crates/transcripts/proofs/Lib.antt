@@ -1,0 +1,2 @@
+pub mod ScriptLines
+pub mod Program

@@ -1,0 +1,4 @@
+pub mod ScriptLines
+pub mod Rows
+pub mod Program
+pub mod Story
