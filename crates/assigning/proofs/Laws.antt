@@ -14,7 +14,7 @@ use Rattle.hierarchy.specs.Lines.{tableOf}
 use Rattle.model.specs.Model.{Model, put, withAssignments, withGrants, withSessions}
 use Rattle.model.specs.Words.{permission, shed, shedCut}
 use Rattle.model.specs.commands.Assigning.{deassigned}
-use Rattle.model.specs.commands.Naming.{noRole, noPermission}
+use Rattle.model.specs.commands.Naming.{roleBeyond, permissionBeyond}
 use Rattle.state.specs.Stores.{inRange, withActive, Table}
 use Rattle.state.specs.View.{part, view}
 use Rattle.state.proofs.Stored.{placed}
@@ -23,9 +23,9 @@ use Rattle.sweeps.specs.declared.Kept.{Kept}
 use Rattle.sweeps.proofs.Changing.{as-part, table-put}
 use Rattle.sweeps.proofs.Shedding.{sheds-same, shed-cut, shed-stored, view-past}
 
-pub permission-within : (op obj r : ℕ) → (noPermission op obj || noRole r) ≡ false → permission op obj < 4096
+pub permission-within : (op obj r : ℕ) → (permissionBeyond op obj || roleBeyond r) ≡ false → permission op obj < 4096
 permission-within op obj r h =
-    let clear = or-clear (leb 16 op) (leb 256 obj) (or-clear (noPermission op obj) (noRole r) h .0) in
+    let clear = or-clear (leb 16 op) (leb 256 obj) (or-clear (permissionBeyond op obj) (roleBeyond r) h .0) in
     omega (arith, leb-false 16 op (clear .0), leb-false 256 obj (clear .1))
 
 -- the roles stored at one place of a table, and the count, are these

@@ -4,7 +4,7 @@ use mathlib.Core.Path.{_≡_, refl}
 use lib.Dec.{eqb}
 use borrow.Author.Tests.{eqb-true}
 use Rattle.roleset.specs.Bounded.{some, every, tally, members}
-use Rattle.roleset.specs.Roles.{has, pack, those, with, without, union, both, minus, subset, isEmpty, count}
+use Rattle.roleset.specs.Roles.{has, pack, those, with, without, union, common, minus, subset, isEmpty, count}
 use Rattle.hierarchy.specs.Walks.{juniorsOf, joined, walk, reach}
 use Rattle.model.specs.Lists.{rising, someFrom, listed, setOf}
 use Rattle.model.specs.Model.{empty, put}
@@ -23,7 +23,7 @@ use Rattle.policyfile.proofs.Laws.{empty-file}
 
 -- P1 to P11
 rows-same : sameBy (sameBy (sameBy eqb)) (answered sheet) (printed sheet) ≡ true
-unfolding sameBy some every tally members has pack those with without union both minus subset isEmpty count juniorsOf joined walk reach rising someFrom listed setOf empty put ask assignedRoles authRoles sessionRoles verdict settle step breaks breaksSome staticBroken dynamicBroken shedded shed shedCut sessionsOpen user role norole inSet withoutRole assign assigned deassign deassigned grant granted inherit lined usersCut disinherit unlined broken makeSet dropMember freeFrom opened session activeSet activate permitted check answers afterwards atTheBench answered printed
+unfolding sameBy some every tally members has pack those with without union common minus subset isEmpty count juniorsOf joined walk reach rising someFrom listed setOf empty put ask assignedRoles authRoles sessionRoles verdict settle step breaks breaksSome staticBroken dynamicBroken shedded shed shedCut sessionsOpen user role norole inSet withoutRole assign assigned deassign deassigned grant granted inherit lined usersCut disinherit unlined broken makeSet dropMember freeFrom opened session activeSet activate permitted check answers afterwards atTheBench answered printed
 rows-same = refl
 
 rows-answered : answered sheet ≡ printed sheet

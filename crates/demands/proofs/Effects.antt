@@ -12,14 +12,14 @@ use Rattle.roleset.specs.Roles.{has, with, without, none}
 use Rattle.roleset.proofs.BoundedLaws.{clash, agree}
 use Rattle.roleset.proofs.Laws.{has-with, has-without, has-beyond, has-none, with-small, without-small}
 use Rattle.model.specs.Lists.{listed, setOf, someFrom}
-use Rattle.model.specs.Model.{Model, RoleSet, Session, noSession, put, withUsers, withLines, withAssignments, withGrants}
+use Rattle.model.specs.Model.{Model, RoleSet, Session, closedSession, put, withUsers, withLines, withAssignments, withGrants}
 use Rattle.model.specs.Model as model
 use Rattle.model.specs.Sheet.{Told, verdict}
 use Rattle.model.specs.Sound.{Sound}
 use Rattle.model.specs.Step.{step}
 use Rattle.model.specs.Words as words
 use Rattle.model.specs.Words.{shed, assignments, grants, linesStanding}
-use Rattle.model.specs.commands.Naming.{noUser, noRole, noSet, userMissing, roleMissing, sessionMissing}
+use Rattle.model.specs.commands.Naming.{userBeyond, roleBeyond, setBeyond, userMissing, roleMissing, sessionMissing}
 use Rattle.model.specs.commands.Naming as naming
 use Rattle.model.specs.commands.Users.{endedOf, allEnded, withoutUser, withoutRole}
 use Rattle.model.specs.commands.Assigning.{assigned, deassigned, granted, revoked}
@@ -116,13 +116,13 @@ user-gone users u v = go (eqb v u) refl
     go true e = ap (put users u false) (eqb-true v u e) ∙ put-same users u false ∙ sym (and-false (users v))
     go false e = put-other users u false v (eqb-false v u e) ∙ sym (and-true (users v))
 
-ended : (u : ℕ) (x : Session) → x .live ≡ true → x .owner ≡ u → endedOf u x ≡ noSession
+ended : (u : ℕ) (x : Session) → x .live ≡ true → x .owner ≡ u → endedOf u x ≡ closedSession
 unfolding endedOf
 ended u x l o = rw (l, eq-eqb (x .owner) u o, endedOf)
 
 not-ended : (u : ℕ) (x : Session) → (x .live ≡ true → x .owner ≡ u → ⊥) → endedOf u x ≡ x
 unfolding endedOf
-not-ended u x h = ap (λ (b : Bool). elim b as (λ _. Session) [ true ↦ noSession | false ↦ x ]) (go (x .live) refl)
+not-ended u x h = ap (λ (b : Bool). elim b as (λ _. Session) [ true ↦ closedSession | false ↦ x ]) (go (x .live) refl)
   where
     go : (b : Bool) → x .live ≡ b → (x .live && eqb (x .owner) u) ≡ false
     go true e = rw e (ne-eqb (x .owner) u (h e))
@@ -168,19 +168,19 @@ changed m (AddUser u) list s t c = record { users = user-there (m .users) (u .nu
 changed m (AddRole r) list s t c = record { roles = λ q. with-each (m .roles) (r .number) q (s .shape .roles) (leb-false 64 (r .number) (c .0)); only = refl }
 changed m (NoUser u) list s t c = record { users = user-gone (m .users) (u .number); assigned = emptied (m .assigned) (u .number); ended = λ k. ended (u .number) (m .sessions k); others = λ k. not-ended (u .number) (m .sessions k); only = ap (λ (n : ℕ). withUsers (withAssignments (allEnded m (u .number)) (withoutUser m (u .number) .assigned) n) (withoutUser m (u .number) .users)) (t .counted .assigned) }
 changed m (NoRole r) list s t c = record { roles = λ q. without-each (m .roles) (r .number) q (s .shape .roles); lines = λ a b. lines-stripped (m .juniors) (r .number) a b (λ k. s .shape .juniors k .small); assigned = λ v q. without-each (m .assigned v) (r .number) q (s .shape .assigned v .small); grants = λ p q. without-each (m .holders p) (r .number) q (s .shape .holders p .small); shedding = shedding m (withoutRole m (r .number)) s t refl; users = refl; ssd = refl; dsd = refl }
-changed m (Assign u r) list s t c = record { assigned = added (m .assigned) (u .number) (r .number) (λ k. s .shape .assigned k .small) (leb-false 64 (r .number) (or-no (noUser (u .number)) (noRole (r .number)) (c .0) .1)); only = ap (withAssignments m (assigned m (u .number) (r .number) .assigned)) (t .counted .assigned) }
+changed m (Assign u r) list s t c = record { assigned = added (m .assigned) (u .number) (r .number) (λ k. s .shape .assigned k .small) (leb-false 64 (r .number) (or-no (userBeyond (u .number)) (roleBeyond (r .number)) (c .0) .1)); only = ap (withAssignments m (assigned m (u .number) (r .number) .assigned)) (t .counted .assigned) }
 changed m (Deassign u r) list s t c = record { assigned = removed (m .assigned) (u .number) (r .number) (λ k. s .shape .assigned k .small); shedding = shedding m (deassigned m (u .number) (r .number)) s t refl; only = ap (λ (n : ℕ). shed (withAssignments m (deassigned m (u .number) (r .number) .assigned) n)) (t .counted .assigned) }
-changed m (Grant op obj r) list s t c = record { grants = added (m .holders) (words.permission op obj) (r .number) (λ k. s .shape .holders k .small) (leb-false 64 (r .number) (or-no (naming.noPermission op obj) (noRole (r .number)) (c .0) .1)); only = ap (withGrants m (granted m (words.permission op obj) (r .number) .holders)) (t .counted .granted) }
+changed m (Grant op obj r) list s t c = record { grants = added (m .holders) (words.permission op obj) (r .number) (λ k. s .shape .holders k .small) (leb-false 64 (r .number) (or-no (naming.permissionBeyond op obj) (roleBeyond (r .number)) (c .0) .1)); only = ap (withGrants m (granted m (words.permission op obj) (r .number) .holders)) (t .counted .granted) }
 changed m (Revoke op obj r) list s t c = record { grants = removed (m .holders) (words.permission op obj) (r .number) (λ k. s .shape .holders k .small); only = ap (withGrants m (revoked m (words.permission op obj) (r .number) .holders)) (t .counted .granted) }
-changed m (Inherit senior junior) list s t c = record { lines = added (m .juniors) (senior .number) (junior .number) (λ k. s .shape .juniors k .small) (leb-false 64 (junior .number) (or-no (noRole (senior .number)) (noRole (junior .number)) (c .0) .1)); only = ap (withLines m (lined m (senior .number) (junior .number) .juniors)) (t .counted .lined) }
+changed m (Inherit senior junior) list s t c = record { lines = added (m .juniors) (senior .number) (junior .number) (λ k. s .shape .juniors k .small) (leb-false 64 (junior .number) (or-no (roleBeyond (senior .number)) (roleBeyond (junior .number)) (c .0) .1)); only = ap (withLines m (lined m (senior .number) (junior .number) .juniors)) (t .counted .lined) }
 changed m (Disinherit senior junior) list s t c = record { lines = removed (m .juniors) (senior .number) (junior .number) (λ k. s .shape .juniors k .small); shedding = shedding m (unlined m (senior .number) (junior .number)) s t refl; only = ap (λ (n : ℕ). shed (withLines m (unlined m (senior .number) (junior .number) .juniors) n)) (t .counted .lined) }
-changed m (MakeSet kind name n) list s t c = set-becomes kind m (name .number) (aSet n (setOf list)) (listed list) (λ q. listed-each list q (or-no (noSet (name .number)) (someFrom 64 list) (c .1 .0) .1))
-changed m (DropSet kind name) list s t c = set-becomes kind m (name .number) model.noSet (λ q. false) has-none
-changed m (AddMember kind name r) list s t c = set-becomes kind m (name .number) _ _ (λ q. with-each (setsOf kind m (name .number) .roles) (r .number) q (shape-of kind m (s .shape) (name .number) .members .small) (leb-false 64 (r .number) (or-no (noSet (name .number)) (noRole (r .number)) (c .0) .1)))
+changed m (MakeSet kind name n) list s t c = set-becomes kind m (name .number) (aSet n (setOf list)) (listed list) (λ q. listed-each list q (or-no (setBeyond (name .number)) (someFrom 64 list) (c .1 .0) .1))
+changed m (DropSet kind name) list s t c = set-becomes kind m (name .number) model.absentSet (λ q. false) has-none
+changed m (AddMember kind name r) list s t c = set-becomes kind m (name .number) _ _ (λ q. with-each (setsOf kind m (name .number) .roles) (r .number) q (shape-of kind m (s .shape) (name .number) .members .small) (leb-false 64 (r .number) (or-no (setBeyond (name .number)) (roleBeyond (r .number)) (c .0) .1)))
 changed m (DropMember kind name r) list s t c = set-becomes kind m (name .number) _ _ (λ q. without-each (setsOf kind m (name .number) .roles) (r .number) q (shape-of kind m (s .shape) (name .number) .members .small))
 changed m (SetCardinality kind name n) list s t c = set-becomes kind m (name .number) _ _ (λ q. refl)
-changed m (OpenSession u) list s t c = session-becomes m (lowestFree m) _ true (u .number) (listed list) refl refl (λ q. listed-each list q (or-no (noUser (u .number)) (someFrom 64 list) (c .1 .0) .1))
-changed m (Activate u k r) list s t c = session-becomes m (k .number) _ true (u .number) _ (live-of c) (eqb-true (m .sessions (k .number) .owner) (u .number) (not-false (eqb (m .sessions (k .number) .owner) (u .number)) (c .1 .1 .0))) (λ q. with-each (m .sessions (k .number) .active) (r .number) q (s .shape .sessions (k .number) .active .small) (leb-false 64 (r .number) (or-no (naming.noSession (k .number)) (noRole (r .number)) (or-no (noUser (u .number)) _ (c .0) .1) .1)))
+changed m (OpenSession u) list s t c = session-becomes m (lowestFree m) _ true (u .number) (listed list) refl refl (λ q. listed-each list q (or-no (userBeyond (u .number)) (someFrom 64 list) (c .1 .0) .1))
+changed m (Activate u k r) list s t c = session-becomes m (k .number) _ true (u .number) _ (live-of c) (eqb-true (m .sessions (k .number) .owner) (u .number) (not-false (eqb (m .sessions (k .number) .owner) (u .number)) (c .1 .1 .0))) (λ q. with-each (m .sessions (k .number) .active) (r .number) q (s .shape .sessions (k .number) .active .small) (leb-false 64 (r .number) (or-no (naming.sessionBeyond (k .number)) (roleBeyond (r .number)) (or-no (userBeyond (u .number)) _ (c .0) .1) .1)))
   where
     live-of : AllClear (refusals m (Activate u k r) list) → m .sessions (k .number) .live ≡ true
     live-of c = not-false (m .sessions (k .number) .live) (or-no (sessionMissing m (k .number)) (roleMissing m (r .number)) (or-no (userMissing m (u .number)) _ (c .1 .0) .1) .0)
@@ -188,7 +188,7 @@ changed m (DropActive u k r) list s t c = session-becomes m (k .number) _ true (
   where
     live-of : AllClear (refusals m (DropActive u k r) list) → m .sessions (k .number) .live ≡ true
     live-of c = not-false (m .sessions (k .number) .live) (or-no (sessionMissing m (k .number)) (roleMissing m (r .number)) (or-no (userMissing m (u .number)) _ (c .1 .0) .1) .0)
-changed m (EndSession u k) list s t c = session-becomes m (k .number) noSession false 0 (λ q. false) refl refl has-none
+changed m (EndSession u k) list s t c = session-becomes m (k .number) closedSession false 0 (λ q. false) refl refl has-none
 
 -- a command that is done on a reachable policy changes what the paper says, member by member, and nothing else
 pub effects : Effects

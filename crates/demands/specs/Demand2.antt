@@ -7,7 +7,7 @@ use mathlib.Core.Path.{_≡_}
 use Prim.Native.Nat.{ℕ, _≤_, _<_}
 use lib.Dec.{eqb, leb}
 use Rattle.roleset.specs.Bounded.{some}
-use Rattle.roleset.specs.Roles.{has, with, without, both, count, subset}
+use Rattle.roleset.specs.Roles.{has, with, without, common, count, subset}
 use Rattle.hierarchy.specs.Lines.{Inherits}
 use Rattle.model.specs.Lists.{ascending, someFrom, setOf}
 use Rattle.model.specs.Lists as lists
@@ -16,7 +16,7 @@ use Rattle.model.specs.Model as model
 use Rattle.model.specs.Sheet.{Refusal, _when_, Told}
 use Rattle.model.specs.Step.{step}
 use Rattle.model.specs.Words.{authorised, staticBroken, dynamicBroken, permission, shed, assignments, grants, linesStanding, sessionsOpen}
-use Rattle.model.specs.commands.Naming.{noUser, noRole, noSession, noSet, noPermission, userMissing, roleMissing, sessionMissing}
+use Rattle.model.specs.commands.Naming.{userBeyond, roleBeyond, sessionBeyond, setBeyond, permissionBeyond, userMissing, roleMissing, sessionMissing}
 use Rattle.model.specs.commands.Users.{inSet, withoutUser, withoutRole}
 use Rattle.model.specs.commands.Assigning.{assigned, deassigned, granted, revoked}
 use Rattle.model.specs.commands.Inheriting.{lined, unlined, wouldCircle}
@@ -55,7 +55,7 @@ effect m (Inherit senior junior) list = lined m (senior .number) (junior .number
 effect m (Disinherit senior junior) list = shed (unlined m (senior .number) (junior .number))
 -- "SSD set: roles and a cardinality n"; "DSD set: the same shape"
 effect m (MakeSet kind name n) list = setMade kind m (name .number) (aSet n (setOf list))
-effect m (DropSet kind name) list = setMade kind m (name .number) model.noSet
+effect m (DropSet kind name) list = setMade kind m (name .number) model.absentSet
 effect m (AddMember kind name r) list = setMade kind m (name .number) (aSet (setsOf kind m (name .number) .card) (with (setsOf kind m (name .number) .roles) (r .number)))
 effect m (DropMember kind name r) list = setMade kind m (name .number) (aSet (setsOf kind m (name .number) .card) (without (setsOf kind m (name .number) .roles) (r .number)))
 effect m (SetCardinality kind name n) list = setMade kind m (name .number) (aSet n (setsOf kind m (name .number) .roles))
@@ -63,7 +63,7 @@ effect m (SetCardinality kind name n) list = setMade kind m (name .number) (aSet
 effect m (OpenSession u) list = opened m (u .number) (setOf list)
 effect m (Activate u s r) list = activeSet m (s .number) (with (m .sessions (s .number) .active) (r .number))
 effect m (DropActive u s r) list = activeSet m (s .number) (without (m .sessions (s .number) .active) (r .number))
-effect m (EndSession u s) list = sessionSet m (s .number) model.noSession
+effect m (EndSession u s) list = sessionSet m (s .number) model.closedSession
 
 -- "`session u r..`: .. the result is the lowest free session number"; no other command has a result
 unfoldable pub results : Model → Command → List ℕ → List ℕ
@@ -103,19 +103,19 @@ wouldBreakOpened after = some 65 (dynamicBroken after)
 -- 13 is on no list: no chain of more than 64 roles is met
 unfoldable pub refusals : Model → Command → List ℕ → List Refusal
 -- "`user u`, `role r` add; 1, 4."
-refusals m (AddUser u) list = 1 when noUser (u .number) ∷ 4 when m .users (u .number) ∷ []
-refusals m (AddRole r) list = 1 when noRole (r .number) ∷ 4 when has (m .roles) (r .number) ∷ []
+refusals m (AddUser u) list = 1 when userBeyond (u .number) ∷ 4 when m .users (u .number) ∷ []
+refusals m (AddRole r) list = 1 when roleBeyond (r .number) ∷ 4 when has (m .roles) (r .number) ∷ []
 -- "`nouser u`: .. 1, 2."
-refusals m (NoUser u) list = 1 when noUser (u .number) ∷ 2 when userMissing m (u .number) ∷ []
+refusals m (NoUser u) list = 1 when userBeyond (u .number) ∷ 2 when userMissing m (u .number) ∷ []
 -- "`norole r`: .. 1, 2, 8."
 refusals m (NoRole r) list =
-    1 when noRole (r .number)
+    1 when roleBeyond (r .number)
     ∷ 2 when roleMissing m (r .number)
     ∷ 8 when (inSet (m .ssd) (r .number) || inSet (m .dsd) (r .number))
     ∷ []
 -- "`assign u r`: 1, 2, 4, 10, 12."
 refusals m (Assign u r) list =
-    1 when (noUser (u .number) || noRole (r .number))
+    1 when (userBeyond (u .number) || roleBeyond (r .number))
     ∷ 2 when (userMissing m (u .number) || roleMissing m (r .number))
     ∷ 4 when has (m .assigned (u .number)) (r .number)
     ∷ 10 when wouldBreak Static (effect m (Assign u r) list)
@@ -123,26 +123,26 @@ refusals m (Assign u r) list =
     ∷ []
 -- "`deassign u r`: 1, 2, 5, then sheds."
 refusals m (Deassign u r) list =
-    1 when (noUser (u .number) || noRole (r .number))
+    1 when (userBeyond (u .number) || roleBeyond (r .number))
     ∷ 2 when (userMissing m (u .number) || roleMissing m (r .number))
     ∷ 5 when not (has (m .assigned (u .number)) (r .number))
     ∷ []
 -- "`grant op obj r`: 1, 2, 4, 12."
 refusals m (Grant op obj r) list =
-    1 when (noPermission op obj || noRole (r .number))
+    1 when (permissionBeyond op obj || roleBeyond (r .number))
     ∷ 2 when roleMissing m (r .number)
     ∷ 4 when has (m .holders (permission op obj)) (r .number)
     ∷ 12 when leb 2048 (grants m)
     ∷ []
 -- "`revoke op obj r`: 1, 2, 5."
 refusals m (Revoke op obj r) list =
-    1 when (noPermission op obj || noRole (r .number))
+    1 when (permissionBeyond op obj || roleBeyond (r .number))
     ∷ 2 when roleMissing m (r .number)
     ∷ 5 when not (has (m .holders (permission op obj)) (r .number))
     ∷ []
 -- "`inherit senior junior`: 1, 2, 4 (this direct line stands), 6 (equal, or the junior inherits the senior), 10, 12."
 refusals m (Inherit senior junior) list =
-    1 when (noRole (senior .number) || noRole (junior .number))
+    1 when (roleBeyond (senior .number) || roleBeyond (junior .number))
     ∷ 2 when (roleMissing m (senior .number) || roleMissing m (junior .number))
     ∷ 4 when has (m .juniors (senior .number)) (junior .number)
     ∷ 6 when wouldCircle m (senior .number) (junior .number)
@@ -151,38 +151,38 @@ refusals m (Inherit senior junior) list =
     ∷ []
 -- "`disinherit senior junior`: 1, 2, 5, then sheds."
 refusals m (Disinherit senior junior) list =
-    1 when (noRole (senior .number) || noRole (junior .number))
+    1 when (roleBeyond (senior .number) || roleBeyond (junior .number))
     ∷ 2 when (roleMissing m (senior .number) || roleMissing m (junior .number))
     ∷ 5 when not (has (m .juniors (senior .number)) (junior .number))
     ∷ []
 -- "`ssd name n r..`: 1, 2 (a role), 4, 7, 10." "The five `dsd` commands are alike with 11 for 10." A list "must be strictly ascending, else 14"
 refusals m (MakeSet kind name n) list =
     14 when not (ascending list)
-    ∷ 1 when (noSet (name .number) || someFrom 64 list)
+    ∷ 1 when (setBeyond (name .number) || someFrom 64 list)
     ∷ 2 when not (subset (setOf list) (m .roles))
     ∷ 4 when setsOf kind m (name .number) .there
     ∷ 7 when badCardinality n (setOf list)
     ∷ ruleNumber kind when wouldBreak kind (effect m (MakeSet kind name n) list)
     ∷ []
 -- "`nossd name`: 1, 2."
-refusals m (DropSet kind name) list = 1 when noSet (name .number) ∷ 2 when setMissing kind m (name .number) ∷ []
+refusals m (DropSet kind name) list = 1 when setBeyond (name .number) ∷ 2 when setMissing kind m (name .number) ∷ []
 -- "`ssd-add name r`: 1, 2, 4, 10."
 refusals m (AddMember kind name r) list =
-    1 when (noSet (name .number) || noRole (r .number))
+    1 when (setBeyond (name .number) || roleBeyond (r .number))
     ∷ 2 when (setMissing kind m (name .number) || roleMissing m (r .number))
     ∷ 4 when has (setsOf kind m (name .number) .roles) (r .number)
     ∷ ruleNumber kind when wouldBreak kind (effect m (AddMember kind name r) list)
     ∷ []
 -- "`ssd-drop name r`: 1, 2, 5, 7."
 refusals m (DropMember kind name r) list =
-    1 when (noSet (name .number) || noRole (r .number))
+    1 when (setBeyond (name .number) || roleBeyond (r .number))
     ∷ 2 when (setMissing kind m (name .number) || roleMissing m (r .number))
     ∷ 5 when not (has (setsOf kind m (name .number) .roles) (r .number))
     ∷ 7 when badCardinality (setsOf kind m (name .number) .card) (without (setsOf kind m (name .number) .roles) (r .number))
     ∷ []
 -- "`ssd-card name n`: 1, 2, 7, 10."
 refusals m (SetCardinality kind name n) list =
-    1 when noSet (name .number)
+    1 when setBeyond (name .number)
     ∷ 2 when setMissing kind m (name .number)
     ∷ 7 when badCardinality n (setsOf kind m (name .number) .roles)
     ∷ ruleNumber kind when wouldBreak kind (effect m (SetCardinality kind name n) list)
@@ -190,7 +190,7 @@ refusals m (SetCardinality kind name n) list =
 -- "`session u r..`: 1, 2, 9, 11, 12"
 refusals m (OpenSession u) list =
     14 when not (ascending list)
-    ∷ 1 when (noUser (u .number) || someFrom 64 list)
+    ∷ 1 when (userBeyond (u .number) || someFrom 64 list)
     ∷ 2 when (userMissing m (u .number) || not (subset (setOf list) (m .roles)))
     ∷ 9 when not (subset (setOf list) (authorised m (u .number)))
     ∷ 11 when wouldBreakOpened (effect m (OpenSession u) list)
@@ -198,7 +198,7 @@ refusals m (OpenSession u) list =
     ∷ []
 -- "`activate u s r`: 1, 2, 3, 4, 9, 11."
 refusals m (Activate u s r) list =
-    1 when (noUser (u .number) || (noSession (s .number) || noRole (r .number)))
+    1 when (userBeyond (u .number) || (sessionBeyond (s .number) || roleBeyond (r .number)))
     ∷ 2 when (userMissing m (u .number) || (sessionMissing m (s .number) || roleMissing m (r .number)))
     ∷ 3 when notOwner m (u .number) (s .number)
     ∷ 4 when has (m .sessions (s .number) .active) (r .number)
@@ -207,14 +207,14 @@ refusals m (Activate u s r) list =
     ∷ []
 -- "`drop u s r`: 1, 2, 3, 5."
 refusals m (DropActive u s r) list =
-    1 when (noUser (u .number) || (noSession (s .number) || noRole (r .number)))
+    1 when (userBeyond (u .number) || (sessionBeyond (s .number) || roleBeyond (r .number)))
     ∷ 2 when (userMissing m (u .number) || (sessionMissing m (s .number) || roleMissing m (r .number)))
     ∷ 3 when notOwner m (u .number) (s .number)
     ∷ 5 when not (has (m .sessions (s .number) .active) (r .number))
     ∷ []
 -- "`end u s`: 1, 2, 3."
 refusals m (EndSession u s) list =
-    1 when (noUser (u .number) || noSession (s .number))
+    1 when (userBeyond (u .number) || sessionBeyond (s .number))
     ∷ 2 when (userMissing m (u .number) || sessionMissing m (s .number))
     ∷ 3 when notOwner m (u .number) (s .number)
     ∷ []
@@ -262,7 +262,7 @@ pub record Granted (m : Model) (s p : ℕ) : Type 0 where
 -- "`check s op obj`: refusals 1 and 2, else answer 0 with the result 1 for yes or 0 for no. Yes exactly when some effective role of the session
 -- holds the grant."
 abbrev pub checkRefusals : Model → ℕ → ℕ → ℕ → List Refusal
-checkRefusals m s op obj = 1 when (noSession s || noPermission op obj) ∷ 2 when sessionMissing m s ∷ []
+checkRefusals m s op obj = 1 when (sessionBeyond s || permissionBeyond op obj) ∷ 2 when sessionMissing m s ∷ []
 
 pub record Checked (m : Model) (s op obj : ℕ) (told : Told) : Type 0 where
   pub refused : (n : ℕ) → (n ≡ 0 → ⊥) → (told .answer ≡ n) ↔ FirstToApply (checkRefusals m s op obj) n
@@ -296,14 +296,14 @@ pub record StaticBroken (m : Model) : Type 0 where
   pub name : ℕ
   pub numbered : (user < 256) × (name < 16)
   pub there : m .ssd name .there ≡ true
-  pub many : m .ssd name .card ≤ count (both (m .ssd name .roles) (authorised m user))
+  pub many : m .ssd name .card ≤ count (common (m .ssd name .roles) (authorised m user))
 
 pub record DynamicBroken (m : Model) : Type 0 where
   pub session : ℕ
   pub name : ℕ
   pub numbered : (session < 64) × (name < 16)
   pub there : m .dsd name .there ≡ true
-  pub many : m .dsd name .card ≤ count (both (m .dsd name .roles) (m .sessions session .active))
+  pub many : m .dsd name .card ≤ count (common (m .dsd name .roles) (m .sessions session .active))
 
 -- Every command does, and every question for access is answered, exactly as the paper says.
 pub record Demand2 : Type 0 where

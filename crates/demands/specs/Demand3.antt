@@ -3,7 +3,7 @@ use mathlib.Core.Bool.{true}
 use mathlib.Core.List.{[], _∷_}
 use mathlib.Core.Path.{_≡_}
 use Prim.Native.Nat.{ℕ, _<_, _≤_}
-use Rattle.roleset.specs.Roles.{has, both, count}
+use Rattle.roleset.specs.Roles.{has, common, count}
 use Rattle.hierarchy.specs.Lines.{Inherits, Chain}
 use Rattle.model.specs.Model.{Model}
 use Rattle.model.specs.Sheet.{done}
@@ -28,9 +28,9 @@ pub record Rules (m : Model) : Type 0 where
   pub access : (s op obj : ℕ) → check m s op obj ≡ done (1 ∷ []) m → Through m s (permission op obj)
   -- "no user is authorised (inheritance counted) for as many roles of a static set as its cardinality". The set `authorised m u` is that of
   -- the roles that u is Authorised for (the law `authorised`, below)
-  pub static : (u n : ℕ) → m .ssd n .there ≡ true → count (both (m .ssd n .roles) (authorised m u)) < m .ssd n .card
+  pub static : (u n : ℕ) → m .ssd n .there ≡ true → count (common (m .ssd n .roles) (authorised m u)) < m .ssd n .card
   -- "no session has that many roles of a dynamic set active"
-  pub dynamic : (s n : ℕ) → m .dsd n .there ≡ true → count (both (m .dsd n .roles) (m .sessions s .active)) < m .dsd n .card
+  pub dynamic : (s n : ℕ) → m .dsd n .there ≡ true → count (common (m .dsd n .roles) (m .sessions s .active)) < m .dsd n .card
   -- the computed set of the roles that a user is authorised for is what the paper's sentence says
   pub authorised : (u r : ℕ) → (has (authorised m u) r ≡ true → Authorised m u r) × (Authorised m u r → has (authorised m u) r ≡ true)
   -- "At most 2,048 assignments, 2,048 grants, 512 direct lines and 64 open sessions stand at once."

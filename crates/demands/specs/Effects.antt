@@ -9,7 +9,7 @@ use lib.Dec.{eqb}
 use Rattle.roleset.specs.Roles.{has}
 use Rattle.hierarchy.specs.Lines.{line}
 use Rattle.model.specs.Lists.{listed}
-use Rattle.model.specs.Model.{Model, noSession, withUsers, withRoles, withJuniors, withAssigned, withHolders, withSessions}
+use Rattle.model.specs.Model.{Model, closedSession, withUsers, withRoles, withJuniors, withAssigned, withHolders, withSessions}
 use Rattle.model.specs.Step.{step}
 use Rattle.model.specs.Words.{permission}
 use Rattle.model.specs.commands.Sets.{setsOf, withSets}
@@ -51,7 +51,7 @@ pub record RoleAdded (m after : Model) (r : ℕ) : Type 0 where
 pub record UserGone (m after : Model) (u : ℕ) : Type 0 where
   pub users : (v : ℕ) → after .users v ≡ (m .users v && not (eqb v u))
   pub assigned : (v q : ℕ) → has (after .assigned v) q ≡ (has (m .assigned v) q && not (eqb v u))
-  pub ended : (s : ℕ) → m .sessions s .live ≡ true → m .sessions s .owner ≡ u → after .sessions s ≡ noSession
+  pub ended : (s : ℕ) → m .sessions s .live ≡ true → m .sessions s .owner ≡ u → after .sessions s ≡ closedSession
   pub others : (s : ℕ) → (m .sessions s .live ≡ true → m .sessions s .owner ≡ u → ⊥) → after .sessions s ≡ m .sessions s
   pub only : after ≡ withUsers (withAssigned (withSessions m (after .sessions)) (after .assigned)) (after .users)
 

@@ -3,9 +3,9 @@ use mathlib.Core.Bool.{true, false, not}
 use mathlib.Core.Logic.{inl, inr}
 use mathlib.Core.Path.{_≡_, sym, _∙_}
 use Prim.Native.Nat.{ℕ, _<_}
-use Rattle.roleset.specs.Roles.{has, none, with, both, isEmpty}
+use Rattle.roleset.specs.Roles.{has, none, with, common, isEmpty}
 use Rattle.roleset.proofs.BoundedLaws.{and-left, and-right, and-both, not-yes, yes-not, agree}
-use Rattle.roleset.proofs.Laws.{has-those, those-member, has-both, isEmpty-false}
+use Rattle.roleset.proofs.Laws.{has-those, those-member, has-common, isEmpty-false}
 use Rattle.hierarchy.specs.Lines.{line, Inherits, Acyclic, Small, AtOrAbove}
 use Rattle.hierarchy.specs.Lines.Inherits.{one, more}
 use Rattle.hierarchy.specs.Walks.{reach, turned, atOrAbove}
@@ -69,22 +69,22 @@ module _ (lines : ℕ → ℕ) (small : Small lines) where
   above-never-cut a r = never-cut (turned lines) (turned-acyclic a) (with none r)
 
   -- A walk from a set meets r exactly where the set and the roles at or above r have a role in common.
-  pub reach-above : (from r : ℕ) → r < 64 → reach lines from .cut ≡ false → atOrAbove lines r .cut ≡ false → has (reach lines from .roles) r ≡ not (isEmpty (both from (atOrAbove lines r .roles)))
-  reach-above from r l down-whole up-whole = agree (has (reach lines from .roles) r) (not (isEmpty common)) to back
+  pub reach-above : (from r : ℕ) → r < 64 → reach lines from .cut ≡ false → atOrAbove lines r .cut ≡ false → has (reach lines from .roles) r ≡ not (isEmpty (common from (atOrAbove lines r .roles)))
+  reach-above from r l down-whole up-whole = agree (has (reach lines from .roles) r) (not (isEmpty shared)) to back
     where
       above : ℕ
       above = atOrAbove lines r .roles
 
-      common : ℕ
-      common = both from above
+      shared : ℕ
+      shared = common from above
 
-      to : has (reach lines from .roles) r ≡ true → not (isEmpty common) ≡ true
+      to : has (reach lines from .roles) r ≡ true → not (isEmpty shared) ≡ true
       to h =
           let u = reach-sound lines from r h in
-          not-yes (isEmpty common) (not-empty common (u .role) (u .small) (has-both from above (u .role) (u .small) ∙ and-both (has from (u .role)) (has above (u .role)) (u .member) (above-complete r (u .role) l up-whole (u .down))))
+          not-yes (isEmpty shared) (not-empty shared (u .role) (u .small) (has-common from above (u .role) (u .small) ∙ and-both (has from (u .role)) (has above (u .role)) (u .member) (above-complete r (u .role) l up-whole (u .down))))
 
-      back : not (isEmpty common) ≡ true → has (reach lines from .roles) r ≡ true
+      back : not (isEmpty shared) ≡ true → has (reach lines from .roles) r ≡ true
       back h =
-          let m = isEmpty-false common (yes-not (isEmpty common) h) in
-          let p = sym (has-both from above (m .0) (m .1)) ∙ m .2 in
+          let m = isEmpty-false shared (yes-not (isEmpty shared) h) in
+          let p = sym (has-common from above (m .0) (m .1)) ∙ m .2 in
           reach-complete lines from small down-whole r (record { role = m .0; small = m .1; member = and-left (has from (m .0)) (has above (m .0)) p; down = above-sound r (m .0) (and-right (has from (m .0)) (has above (m .0)) p) })

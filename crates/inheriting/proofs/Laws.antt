@@ -7,7 +7,7 @@ use lib.ListN.{set}
 use Rattle.roleset.specs.Bounded.{some}
 use Rattle.roleset.specs.Roles.{with, without}
 use Rattle.hierarchy.specs.Lines.{tableOf}
-use Rattle.model.specs.Model.{Model, noSession, put, withLines, withSessions}
+use Rattle.model.specs.Model.{Model, closedSession, put, withLines, withSessions}
 use Rattle.model.specs.Words.{staticBroken, shed, shedCut}
 use Rattle.model.specs.commands.Inheriting.{lined, unlined, usersCut}
 use Rattle.state.specs.Stores.{Table, inRange, withActive}
@@ -43,6 +43,6 @@ module _ (m : Model) (senior junior : ℕ) (h : senior < 64) where
     pub unlined-cut : shedCut (unlined m senior junior) ≡ kept .cut
     unlined-cut = shed-cut (unlined m senior junior) kept fewer
 
-    pub unlined-stored : ((k : ℕ) → 64 ≤ k → m .sessions k ≡ noSession) → (between after : Model) (standing : ℕ) → standing ≡ m .lineCount - 1 → between ≡ inRange 64 senior m (withLines m (put (m .juniors) senior new) standing) → after ≡ withSessions between (withActive (between .sessions) (part (kept .active) 0 64)) → after ≡ shed (unlined m senior junior)
+    pub unlined-stored : ((k : ℕ) → 64 ≤ k → m .sessions k ≡ closedSession) → (between after : Model) (standing : ℕ) → standing ≡ m .lineCount - 1 → between ≡ inRange 64 senior m (withLines m (put (m .juniors) senior new) standing) → after ≡ withSessions between (withActive (between .sessions) (part (kept .active) 0 64)) → after ≡ shed (unlined m senior junior)
     unfolding unlined
     unlined-stored past between after standing n s t = shed-stored (unlined m senior junior) kept fewer past between after (placed 64 senior m _ between h s ∙ ap₂ (λ (roles count : ℕ). withLines m (put (m .juniors) senior roles) count) e n) t

@@ -6,7 +6,7 @@ use Prim.Native.Nat.{ℕ}
 use native.Mathlib.Omega.{arith}
 use lib.ListN.{getD}
 use Rattle.roleset.specs.Bounded.{bit, some, every, tally, members}
-use Rattle.roleset.specs.Roles.{has, pack, those, with, without, union, both, minus, subset, isEmpty, count}
+use Rattle.roleset.specs.Roles.{has, pack, those, with, without, union, common, minus, subset, isEmpty, count}
 use Rattle.roleset.proofs.BoundedLaws.{some-intro}
 use Rattle.hierarchy.specs.Walks.{juniorsOf, joined, walk, reach}
 use Rattle.model.specs.Lists.{rising, someFrom, listed, setOf}
@@ -44,7 +44,7 @@ unfoldable look : Model → Answers
 look m = (bit (m .sessions 0 .live) ∷ bit (has (m .sessions 0 .active) 2) ∷ bit (has (m .roles) 0) ∷ bit (has (m .juniors 2) 0) ∷ bit (has (m .holders (permission 4 30)) 0) ∷ m .holders (permission 4 31) ∷ bit (brokenByAssigned (lined m 2 1)) ∷ bit (staticBroken (lined m 2 1) 7) ∷ []) ∷ answers m accessAtTheBench
 
 computed : look atTheBench ≡ (1 ∷ 1 ∷ 1 ∷ 1 ∷ 1 ∷ 0 ∷ 0 ∷ 1 ∷ []) ∷ (0 ∷ 2 ∷ []) ∷ (0 ∷ 1 ∷ []) ∷ (0 ∷ 0 ∷ []) ∷ []
-unfolding some every tally members has pack those with without union both minus subset isEmpty count juniorsOf joined walk reach rising someFrom listed setOf empty put ask sessionRoles verdict settle step breaks breaksSome staticBroken dynamicBroken sessionsOpen user role assign assigned grant granted inherit lined usersCut broken makeSet freeFrom opened session permitted check answers afterwards atTheBench brokenByAssigned look
+unfolding some every tally members has pack those with without union common minus subset isEmpty count juniorsOf joined walk reach rising someFrom listed setOf empty put ask sessionRoles verdict settle step breaks breaksSome staticBroken dynamicBroken sessionsOpen user role assign assigned grant granted inherit lined usersCut broken makeSet freeFrom opened session permitted check answers afterwards atTheBench brokenByAssigned look
 computed = refl
 
 first : Answers → List ℕ

@@ -36,15 +36,15 @@ pub record Model : Type 0 where
   pub lineCount : ℕ
 
 -- a set that is not there, and a session that is not live
-abbrev pub noSet : RoleSet
-noSet = record { there = false; card = 0; roles = 0 }
+abbrev pub absentSet : RoleSet
+absentSet = record { there = false; card = 0; roles = 0 }
 
-abbrev pub noSession : Session
-noSession = record { live = false; owner = 0; active = 0 }
+abbrev pub closedSession : Session
+closedSession = record { live = false; owner = 0; active = 0 }
 
 -- "starting empty"
 unfoldable pub empty : Model
-empty = record { users = λ u. false; roles = 0; juniors = λ s. 0; assigned = λ u. 0; holders = λ p. 0; ssd = λ n. noSet; dsd = λ n. noSet; sessions = λ s. noSession; assignmentCount = 0; grantCount = 0; lineCount = 0 }
+empty = record { users = λ u. false; roles = 0; juniors = λ s. 0; assigned = λ u. 0; holders = λ p. 0; ssd = λ n. absentSet; dsd = λ n. absentSet; sessions = λ s. closedSession; assignmentCount = 0; grantCount = 0; lineCount = 0 }
 
 -- ---- a table with one place changed, and a model with one part changed
 

@@ -5,13 +5,13 @@ use Prim.Native.Nat.{ℕ, _%_}
 use lib.Dec.{leb, ltb}
 use lib.ListN.{length}
 use Rattle.roleset.specs.Bounded.{members}
-use Rattle.roleset.specs.Roles.{has, with, none, both, isEmpty}
+use Rattle.roleset.specs.Roles.{has, with, none, common, isEmpty}
 use Rattle.hierarchy.specs.Walks.{atOrAbove}
 use Rattle.numbers.specs.Ranges.{objects}
 use Rattle.model.specs.Model.{Model}
 use Rattle.model.specs.Sheet.{Told, Refusal, _when_, settle}
 use Rattle.model.specs.Words.{reached, authorised, effective, permission}
-use Rattle.model.specs.commands.Naming.{noUser, noRole, noSession, noSet, userMissing, roleMissing, sessionMissing}
+use Rattle.model.specs.commands.Naming.{userBeyond, roleBeyond, sessionBeyond, setBeyond, userMissing, roleMissing, sessionMissing}
 use Rattle.model.specs.commands.Sets.{setsOf, setMissing}
 use Rattle.model.specs.commands.Sessions.{check}
 use Rattle.model.specs.declared.Kind.{Kind}
@@ -22,11 +22,11 @@ use Rattle.model.specs.declared.Question.the-variants.{Check, AssignedUs
 
 -- some role of the set holds the permission
 abbrev pub holds : Model → ℕ → ℕ → Bool
-holds m roles p = not (isEmpty (both roles (m .holders p)))
+holds m roles p = not (isEmpty (common roles (m .holders p)))
 
 -- the user is assigned to the role or to one that inherits it
 abbrev pub authorisedBy : Model → ℕ → ℕ → Bool
-authorisedBy m r u = not (isEmpty (both (m .assigned u) (atOrAbove (m .juniors) r .roles)))
+authorisedBy m r u = not (isEmpty (common (m .assigned u) (atOrAbove (m .juniors) r .roles)))
 
 unfoldable pub assignedUsers : Model → ℕ → List ℕ
 assignedUsers m r = members 256 (λ u. has (m .assigned u) r)
@@ -85,16 +85,16 @@ never = false
 -- the question, asked with room for so many results
 unfoldable pub ask : Model → ℕ → Question → Told
 ask m room (Check s op obj) = check m (s .number) op obj
-ask m room (AssignedUsers r) = review m room (noRole (r .number)) (roleMissing m (r .number)) never (assignedUsers m (r .number))
-ask m room (AssignedRoles u) = review m room (noUser (u .number)) (userMissing m (u .number)) never (assignedRoles m (u .number))
-ask m room (AuthUsers r) = review m room (noRole (r .number)) (roleMissing m (r .number)) (atOrAbove (m .juniors) (r .number) .cut) (authUsers m (r .number))
-ask m room (AuthRoles u) = review m room (noUser (u .number)) (userMissing m (u .number)) (reached m (m .assigned (u .number)) .cut) (authRoles m (u .number))
-ask m room (RolePerms r) = review m room (noRole (r .number)) (roleMissing m (r .number)) (reached m (with none (r .number)) .cut) (rolePerms m (r .number))
-ask m room (UserPerms u) = review m room (noUser (u .number)) (userMissing m (u .number)) (reached m (m .assigned (u .number)) .cut) (userPerms m (u .number))
-ask m room (SessionRoles s) = review m room (noSession (s .number)) (sessionMissing m (s .number)) never (sessionRoles m (s .number))
-ask m room (SessionPerms s) = review m room (noSession (s .number)) (sessionMissing m (s .number)) (reached m (m .sessions (s .number) .active) .cut) (sessionPerms m (s .number))
-ask m room (RoleOps r obj) = review m room (noRole (r .number) || leb objects obj) (roleMissing m (r .number)) (reached m (with none (r .number)) .cut) (roleOps m (r .number) obj)
-ask m room (UserOps u obj) = review m room (noUser (u .number) || leb objects obj) (userMissing m (u .number)) (reached m (m .assigned (u .number)) .cut) (userOps m (u .number) obj)
+ask m room (AssignedUsers r) = review m room (roleBeyond (r .number)) (roleMissing m (r .number)) never (assignedUsers m (r .number))
+ask m room (AssignedRoles u) = review m room (userBeyond (u .number)) (userMissing m (u .number)) never (assignedRoles m (u .number))
+ask m room (AuthUsers r) = review m room (roleBeyond (r .number)) (roleMissing m (r .number)) (atOrAbove (m .juniors) (r .number) .cut) (authUsers m (r .number))
+ask m room (AuthRoles u) = review m room (userBeyond (u .number)) (userMissing m (u .number)) (reached m (m .assigned (u .number)) .cut) (authRoles m (u .number))
+ask m room (RolePerms r) = review m room (roleBeyond (r .number)) (roleMissing m (r .number)) (reached m (with none (r .number)) .cut) (rolePerms m (r .number))
+ask m room (UserPerms u) = review m room (userBeyond (u .number)) (userMissing m (u .number)) (reached m (m .assigned (u .number)) .cut) (userPerms m (u .number))
+ask m room (SessionRoles s) = review m room (sessionBeyond (s .number)) (sessionMissing m (s .number)) never (sessionRoles m (s .number))
+ask m room (SessionPerms s) = review m room (sessionBeyond (s .number)) (sessionMissing m (s .number)) (reached m (m .sessions (s .number) .active) .cut) (sessionPerms m (s .number))
+ask m room (RoleOps r obj) = review m room (roleBeyond (r .number) || leb objects obj) (roleMissing m (r .number)) (reached m (with none (r .number)) .cut) (roleOps m (r .number) obj)
+ask m room (UserOps u obj) = review m room (userBeyond (u .number) || leb objects obj) (userMissing m (u .number)) (reached m (m .assigned (u .number)) .cut) (userOps m (u .number) obj)
 ask m room (Sets kind) = review m room never never never (setNames kind m)
-ask m room (SetRoles kind name) = review m room (noSet (name .number)) (setMissing kind m (name .number)) never (setRoles kind m (name .number))
-ask m room (SetCount kind name) = review m room (noSet (name .number)) (setMissing kind m (name .number)) never (setCount kind m (name .number))
+ask m room (SetRoles kind name) = review m room (setBeyond (name .number)) (setMissing kind m (name .number)) never (setRoles kind m (name .number))
+ask m room (SetCount kind name) = review m room (setBeyond (name .number)) (setMissing kind m (name .number)) never (setCount kind m (name .number))

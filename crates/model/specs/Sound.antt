@@ -3,9 +3,9 @@
 use mathlib.Core.Bool.{Bool, true, false}
 use mathlib.Core.Path.{_≡_}
 use Prim.Native.Nat.{ℕ, _≤_, _<_, _^_}
-use Rattle.roleset.specs.Roles.{has, both, count}
+use Rattle.roleset.specs.Roles.{has, common, count}
 use Rattle.hierarchy.specs.Lines.{line, Acyclic}
-use Rattle.model.specs.Model.{Model, RoleSet, Session, noSet, noSession}
+use Rattle.model.specs.Model.{Model, RoleSet, Session, absentSet, closedSession}
 use Rattle.model.specs.Words.{authorised, staticBroken, dynamicBroken, assignments, grants, linesStanding}
 
 -- every member of the set is a role that exists; a set is a number below 2 ^ 64
@@ -15,7 +15,7 @@ pub record Existing (m : Model) (set : ℕ) : Type 0 where
 
 -- "SSD set: roles and a cardinality n, 2 <= n <= number of its roles."
 pub record SetShape (m : Model) (n : ℕ) (set : RoleSet) : Type 0 where
-  pub absent : set .there ≡ false → set ≡ noSet
+  pub absent : set .there ≡ false → set ≡ absentSet
   pub named : set .there ≡ true → n < 16
   pub atLeast : set .there ≡ true → 2 ≤ set .card
   pub atMost : set .there ≡ true → set .card ≤ count (set .roles)
@@ -23,7 +23,7 @@ pub record SetShape (m : Model) (n : ℕ) (set : RoleSet) : Type 0 where
 
 -- a session is open for a user that exists, or all zero
 pub record SessionShape (m : Model) (s : ℕ) (session : Session) : Type 0 where
-  pub closed : session .live ≡ false → session ≡ noSession
+  pub closed : session .live ≡ false → session ≡ closedSession
   pub numbered : session .live ≡ true → s < 64
   pub owned : session .live ≡ true → m .users (session .owner) ≡ true
   pub active : Existing m (session .active)

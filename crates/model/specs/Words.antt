@@ -4,7 +4,7 @@ use mathlib.Core.List.{List}
 use Prim.Native.Nat.{ℕ, _+_, _*_}
 use lib.Dec.{eqb, leb}
 use Rattle.roleset.specs.Bounded.{some, tally}
-use Rattle.roleset.specs.Roles.{has, both, count, with}
+use Rattle.roleset.specs.Roles.{has, common, count, with}
 use Rattle.hierarchy.specs.Walks.{reach}
 use Rattle.hierarchy.specs.declared.Walk.{Walk}
 use Rattle.model.specs.Model.{Model, RoleSet, Session, withSessions, standing}
@@ -27,7 +27,7 @@ effective m s = reached m (m .sessions s .active) .roles
 
 -- this many roles of the set, or more, are among the roles held
 unfoldable pub breaks : RoleSet → ℕ → Bool
-breaks set held = set .there && leb (set .card) (count (both (set .roles) held))
+breaks set held = set .there && leb (set .card) (count (common (set .roles) held))
 
 -- some of the sets is broken by the roles held
 unfoldable pub breaksSome : (ℕ → RoleSet) → ℕ → Bool
@@ -55,7 +55,7 @@ permission op obj = op * 256 + obj
 
 -- the session keeps exactly those active roles that are in the set
 abbrev pub keeping : Session → ℕ → Session
-keeping s held = record { live = s .live; owner = s .owner; active = both (s .active) held }
+keeping s held = record { live = s .live; owner = s .owner; active = common (s .active) held }
 
 -- "Shedding: every session keeps exactly those active roles for which its owner is still authorised. The session stays open, even with none."
 unfoldable pub shedded : (ℕ → ℕ) → (ℕ → ℕ) → Session → Session

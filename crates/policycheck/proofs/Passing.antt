@@ -12,7 +12,7 @@ use Rattle.roleset.specs.Roles.{has}
 use Rattle.roleset.proofs.BoundedLaws.{clash, some-start, some-more, some-intro}
 use Rattle.roleset.proofs.Laws.{has-none}
 use Rattle.hierarchy.specs.Lines.{tableOf}
-use Rattle.model.specs.Model.{noSet, noSession}
+use Rattle.model.specs.Model.{absentSet, closedSession}
 use Rattle.state.specs.Stores.{Table}
 use Rattle.sweeps.specs.Sweeps.{Asks}
 use Rattle.sweeps.specs.declared.Asked.{Asked}
@@ -93,8 +93,8 @@ backed-none there r e = clash (has 0 r) e (has-none r)
 pub inside-none : (roles : ℕ) → Inside roles 0
 inside-none roles = record { small = omega arith; each = λ r e. clash (has 0 r) e (has-none r) }
 
-pub set-none : (roles : ℕ) → SetFine roles noSet
+pub set-none : (roles : ℕ) → SetFine roles absentSet
 set-none roles = record { absent = λ e. refl; small = omega arith; members = inside-none roles }
 
-pub session-none : (users : ℕ → Bool) (roles : ℕ) → SessionFine users roles noSession
+pub session-none : (users : ℕ → Bool) (roles : ℕ) → SessionFine users roles closedSession
 session-none users roles = record { closed = λ e. refl; owned = λ e. clash false e refl; active = inside-none roles }

@@ -8,7 +8,7 @@ use native.Mathlib.Omega.{arith}
 use Rattle.roleset.specs.Roles.{has}
 use Rattle.roleset.proofs.BoundedLaws.{clash}
 use Rattle.roleset.proofs.Laws.{has-none}
-use Rattle.model.specs.Model.{RoleSet, Session, noSet, noSession}
+use Rattle.model.specs.Model.{RoleSet, Session, absentSet, closedSession}
 use Rattle.model.specs.commands.Sets.{setsOf}
 use Rattle.model.specs.declared.Kind.{Kind}
 use Rattle.model.specs.declared.Kind.the-variants.{Static, Dynamic}
@@ -35,10 +35,10 @@ module _ (l : List ℕ) where
   unfolding view
   no-holders p h = part-none l holdersAt 4096 p h
 
-  pub no-set : (kind : Kind) (n : ℕ) → 16 ≤ n → setsOf kind (view l) n ≡ noSet
+  pub no-set : (kind : Kind) (n : ℕ) → 16 ≤ n → setsOf kind (view l) n ≡ absentSet
   no-set kind n h = sym (set-at kind l n) ∙ ap₂ setOf (part-none l (setsAt kind) 16 n h) (part-none l (setsAt kind + 16) 16 n h)
 
-  pub no-session : (s : ℕ) → 64 ≤ s → view l .sessions s ≡ noSession
+  pub no-session : (s : ℕ) → 64 ≤ s → view l .sessions s ≡ closedSession
   unfolding view
   no-session s h = ap₂ sessionOf (part-none l ownersAt 64 s h) (part-none l activeAt 64 s h)
 

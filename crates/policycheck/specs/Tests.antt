@@ -3,7 +3,7 @@ use mathlib.Core.Bool.{Bool, true, false}
 use mathlib.Core.Path.{_≡_}
 use Prim.Native.Nat.{ℕ, _<_, _≤_, _^_}
 use Rattle.roleset.specs.Roles.{has}
-use Rattle.model.specs.Model.{Model, RoleSet, Session, noSet, noSession}
+use Rattle.model.specs.Model.{Model, RoleSet, Session, absentSet, closedSession}
 
 -- b says whether the statement holds
 pub record Tells (b : Bool) (P : Type 0) : Type 0 where
@@ -21,13 +21,13 @@ Backed there set = (r : ℕ) → has set r ≡ true → there ≡ true
 
 -- a set of existing roles with any sixteen-bit cardinality, or all zero
 pub record SetFine (roles : ℕ) (set : RoleSet) : Type 0 where
-  pub absent : set .there ≡ false → set ≡ noSet
+  pub absent : set .there ≡ false → set ≡ absentSet
   pub small : set .card < 65536
   pub members : Inside roles (set .roles)
 
 -- a session of an existing user with existing roles, or all zero
 pub record SessionFine (users : ℕ → Bool) (roles : ℕ) (session : Session) : Type 0 where
-  pub closed : session .live ≡ false → session ≡ noSession
+  pub closed : session .live ≡ false → session ≡ closedSession
   pub owned : session .live ≡ true → users (session .owner) ≡ true
   pub active : Inside roles (session .active)
 

@@ -6,13 +6,13 @@ use mathlib.Core.Path.{_≡_}
 use Prim.Native.Nat.{ℕ, _<_, _^_}
 use Rattle.roleset.specs.Roles.{has}
 use Rattle.hierarchy.specs.Lines.{line}
-use Rattle.model.specs.Model.{Model, RoleSet, noSet}
+use Rattle.model.specs.Model.{Model, RoleSet, absentSet}
 use Rattle.model.specs.Sound.{Existing, SessionShape, Limits, Counted}
 use Rattle.policyform.specs.Encode.{encode}
 
 -- a set with any sixteen-bit cardinality, or all zero
 pub record SetForm (m : Model) (n : ℕ) (set : RoleSet) : Type 0 where
-  pub absent : set .there ≡ false → set ≡ noSet
+  pub absent : set .there ≡ false → set ≡ absentSet
   pub named : set .there ≡ true → n < 16
   pub small : set .card < 65536
   pub members : Existing m (set .roles)

@@ -9,7 +9,7 @@ use lib.ListN.{length}
 use Rattle.roleset.specs.Bounded.{members}
 use Rattle.roleset.specs.Roles.{has, with}
 use Rattle.roleset.proofs.MembersLaws.{members-most}
-use Rattle.model.specs.Model.{Model, RoleSet, Session, noSet, noSession, put, withUsers, withLines, withAssignments, withGrants, withSessions}
+use Rattle.model.specs.Model.{Model, RoleSet, Session, absentSet, closedSession, put, withUsers, withLines, withAssignments, withGrants, withSessions}
 use Rattle.model.specs.Words.{permission}
 use Rattle.model.specs.commands.Sessions.{openFor}
 use Rattle.model.specs.commands.Sets.{setsOf, withSets, aSet}
@@ -152,8 +152,8 @@ module _ (bytes : List ℕ) where
   sets-part Static = record { got = λ m t. refl; over = λ m t u. refl }
   sets-part Dynamic = record { got = λ m t. refl; over = λ m t u. refl }
 
-  pub sets-read : (kind : Kind) (sets : ℕ → RoleSet) → ((n : ℕ) → sets n .there ≡ false → sets n ≡ noSet) → ((n : ℕ) → sets n .there ≡ true → n < 16) → ((n : ℕ) → sets n .card < 65536) → ((n : ℕ) → sets n .roles < 2 ^ 64) → (m : Model) (at : ℕ) (rest : List ℕ) → Stands bytes at (setsPart sets) rest → readSection bytes 16 (readSet kind bytes) at (withSets kind m (λ n. noSet)) ≡ (at + length (setsPart sets), withSets kind m sets)
-  sets-read kind sets absent named card roles = records-read (setsOf kind) (withSets kind) (sets-part kind) noSet aSet 16 (omega arith) (λ n. sets n .there) (λ n. sets n .card) (λ n. sets n .roles) sets (λ n e. ap (λ (b : Bool). record { there = b; card = sets n .card; roles = sets n .roles }) (sym e)) absent named card roles
+  pub sets-read : (kind : Kind) (sets : ℕ → RoleSet) → ((n : ℕ) → sets n .there ≡ false → sets n ≡ absentSet) → ((n : ℕ) → sets n .there ≡ true → n < 16) → ((n : ℕ) → sets n .card < 65536) → ((n : ℕ) → sets n .roles < 2 ^ 64) → (m : Model) (at : ℕ) (rest : List ℕ) → Stands bytes at (setsPart sets) rest → readSection bytes 16 (readSet kind bytes) at (withSets kind m (λ n. absentSet)) ≡ (at + length (setsPart sets), withSets kind m sets)
+  sets-read kind sets absent named card roles = records-read (setsOf kind) (withSets kind) (sets-part kind) absentSet aSet 16 (omega arith) (λ n. sets n .there) (λ n. sets n .card) (λ n. sets n .roles) sets (λ n e. ap (λ (b : Bool). record { there = b; card = sets n .card; roles = sets n .roles }) (sym e)) absent named card roles
 
-  pub sessions-read : (sessions : ℕ → Session) → ((n : ℕ) → sessions n .live ≡ false → sessions n ≡ noSession) → ((n : ℕ) → sessions n .live ≡ true → n < 64) → ((n : ℕ) → sessions n .owner < 65536) → ((n : ℕ) → sessions n .active < 2 ^ 64) → (m : Model) (at : ℕ) (rest : List ℕ) → Stands bytes at (sessionsPart sessions) rest → readSection bytes 64 (readSession bytes) at (withSessions m (λ n. noSession)) ≡ (at + length (sessionsPart sessions), withSessions m sessions)
-  sessions-read sessions closed numbered owner active = records-read (λ m. m .sessions) withSessions (record { got = λ m t. refl; over = λ m t u. refl }) noSession openFor 64 (omega arith) (λ n. sessions n .live) (λ n. sessions n .owner) (λ n. sessions n .active) sessions (λ n e. ap (λ (b : Bool). record { live = b; owner = sessions n .owner; active = sessions n .active }) (sym e)) closed numbered owner active
+  pub sessions-read : (sessions : ℕ → Session) → ((n : ℕ) → sessions n .live ≡ false → sessions n ≡ closedSession) → ((n : ℕ) → sessions n .live ≡ true → n < 64) → ((n : ℕ) → sessions n .owner < 65536) → ((n : ℕ) → sessions n .active < 2 ^ 64) → (m : Model) (at : ℕ) (rest : List ℕ) → Stands bytes at (sessionsPart sessions) rest → readSection bytes 64 (readSession bytes) at (withSessions m (λ n. closedSession)) ≡ (at + length (sessionsPart sessions), withSessions m sessions)
+  sessions-read sessions closed numbered owner active = records-read (λ m. m .sessions) withSessions (record { got = λ m t. refl; over = λ m t u. refl }) closedSession openFor 64 (omega arith) (λ n. sessions n .live) (λ n. sessions n .owner) (λ n. sessions n .active) sessions (λ n e. ap (λ (b : Bool). record { live = b; owner = sessions n .owner; active = sessions n .active }) (sym e)) closed numbered owner active

@@ -9,9 +9,9 @@ use native.Mathlib.Decide.{decLt}
 use lib.Dec.{eqb, ltb}
 use lib.ListN.{length}
 use borrow.Author.Tests.{lt-ltb, le-ltb, eqb-true}
-use Rattle.roleset.specs.Roles.{has, with, none, both, isEmpty}
+use Rattle.roleset.specs.Roles.{has, with, none, common, isEmpty}
 use Rattle.roleset.proofs.BoundedLaws.{never, and-left, and-right, yes-not}
-use Rattle.roleset.proofs.Laws.{has-both, member-small, isEmpty-false}
+use Rattle.roleset.proofs.Laws.{has-common, member-small, isEmpty-false}
 use Rattle.hierarchy.specs.Lines.{Small, AtOrAbove}
 use Rattle.hierarchy.specs.Walks.{atOrAbove}
 use Rattle.hierarchy.proofs.InheritsLaws.{ends-small}
@@ -60,21 +60,21 @@ lines-small m shape = record { within = λ s j h. (member-small (m .roles) s (sh
 module _ (m : Model) (sound : Sound m) where
   -- no user but 0 to 255 is authorised for anything
   beyond-users : (r u : ℕ) → 256 ≤ u → authorisedBy m r u ≡ false
-  beyond-users r u h = never (authorisedBy m r u) (λ e. out (isEmpty-false (both (m .assigned u) above) (yes-not (isEmpty (both (m .assigned u) above)) e)))
+  beyond-users r u h = never (authorisedBy m r u) (λ e. out (isEmpty-false (common (m .assigned u) above) (yes-not (isEmpty (common (m .assigned u) above)) e)))
     where
       above : ℕ
       above = atOrAbove (m .juniors) r .roles
 
-      out : (k : ℕ) × (k < 64) × (has (both (m .assigned u) above) k ≡ true) → ⊥
+      out : (k : ℕ) × (k < 64) × (has (common (m .assigned u) above) k ≡ true) → ⊥
       out (k, l, e) =
-          let p = and-left (has (m .assigned u) k) (has above k) (sym (has-both (m .assigned u) above k l) ∙ e) in
+          let p = and-left (has (m .assigned u) k) (has above k) (sym (has-common (m .assigned u) above k l) ∙ e) in
           let q : u < 256 = sound .shape .users u (sound .shape .assignees u k p) in
           omega arith
 
   -- nor is anybody for a role but 0 to 63
   beyond-roles : (r u : ℕ) → 64 ≤ r → authorisedBy m r u ≡ false
   unfolding atOrAbove
-  beyond-roles r u h = never (authorisedBy m r u) (λ e. out (isEmpty-false (both (m .assigned u) above) (yes-not (isEmpty (both (m .assigned u) above)) e)))
+  beyond-roles r u h = never (authorisedBy m r u) (λ e. out (isEmpty-false (common (m .assigned u) above) (yes-not (isEmpty (common (m .assigned u) above)) e)))
     where
       above : ℕ
       above = atOrAbove (m .juniors) r .roles
@@ -86,8 +86,8 @@ module _ (m : Model) (sound : Sound m) where
       none-above k l (inl e) = omega arith
       none-above k l (inr i) = let p : r < 64 = ends-small small i .1 in omega arith
 
-      out : (k : ℕ) × (k < 64) × (has (both (m .assigned u) above) k ≡ true) → ⊥
-      out (k, l, e) = none-above k l (above-sound (m .juniors) small r k (and-right (has (m .assigned u) k) (has above k) (sym (has-both (m .assigned u) above k l) ∙ e)))
+      out : (k : ℕ) × (k < 64) × (has (common (m .assigned u) above) k ≡ true) → ⊥
+      out (k, l, e) = none-above k l (above-sound (m .juniors) small r k (and-right (has (m .assigned u) k) (has above k) (sym (has-common (m .assigned u) above k l) ∙ e)))
 
   -- `auth-users` lists a user for a role exactly if `auth-roles` lists the role for the user
   pub auth-agree : (u r : ℕ) → listed (authUsers m r) u ≡ listed (authRoles m u) r

@@ -9,9 +9,9 @@ use lib.ListN.{length, set, length-set}
 use lib.Seq.{getD-set-same, getD-set-other}
 use borrow.Author.Tests.{eq-eqb, eqb-true}
 use Rattle.roleset.specs.Bounded.{bit, some, members}
-use Rattle.roleset.specs.Roles.{has, pack, those, none, with, both, isEmpty}
+use Rattle.roleset.specs.Roles.{has, pack, those, none, with, common, isEmpty}
 use Rattle.roleset.proofs.BoundedLaws.{last-or-below, and-left, and-right, and-both, not-yes, yes-not, agree}
-use Rattle.roleset.proofs.Laws.{has-both, has-with, has-none, those-ext, isEmpty-false}
+use Rattle.roleset.proofs.Laws.{has-common, has-with, has-none, those-ext, isEmpty-false}
 use Rattle.roleset.proofs.MembersLaws.{members-ext}
 use Rattle.hierarchy.specs.Lines.{tableOf}
 use Rattle.hierarchy.proofs.WalkLaws.{not-empty}
@@ -44,7 +44,7 @@ meeting-members roles table n f h e = members-ext n f (touched roles table) e �
 
 -- which set comes first does not matter
 pub meets-turned : (a b : ℕ) → meets a b ≡ meets b a
-unfolding both
+unfolding common
 meets-turned a b = ap (λ (s : ℕ). not (isEmpty s)) (those-ext (λ k. has a k && has b k) (λ k. has b k && has a k) (λ k l. turn (has a k) (has b k)))
   where
     turn : (x y : Bool) → (x && y) ≡ (y && x)
@@ -57,21 +57,21 @@ meets-turned a b = ap (λ (s : ℕ). not (isEmpty s)) (those-ext (λ k. has a k 
 pub has-meets : (s r : ℕ) → r < 64 → has s r ≡ meets (with none r) s
 has-meets s r l = agree (has s r) (meets (with none r) s) to back
   where
-    common : ℕ
-    common = both (with none r) s
+    shared : ℕ
+    shared = common (with none r) s
 
-    to : has s r ≡ true → not (isEmpty common) ≡ true
-    to h = not-yes (isEmpty common) (not-empty common r l (has-both (with none r) s r l ∙ and-both (has (with none r) r) (has s r) (has-with none r r l ∙ rw (has-none r) (eq-eqb r r refl)) h))
+    to : has s r ≡ true → not (isEmpty shared) ≡ true
+    to h = not-yes (isEmpty shared) (not-empty shared r l (has-common (with none r) s r l ∙ and-both (has (with none r) r) (has s r) (has-with none r r l ∙ rw (has-none r) (eq-eqb r r refl)) h))
 
-    back : not (isEmpty common) ≡ true → has s r ≡ true
+    back : not (isEmpty shared) ≡ true → has s r ≡ true
     back h =
-        let m = isEmpty-false common (yes-not (isEmpty common) h) in
-        let p = sym (has-both (with none r) s (m .0) (m .1)) ∙ m .2 in
+        let m = isEmpty-false shared (yes-not (isEmpty shared) h) in
+        let p = sym (has-common (with none r) s (m .0) (m .1)) ∙ m .2 in
         let q : m .0 ≡ r = eqb-true (m .0) r (rw (has-none (m .0)) at (sym (has-with none r (m .0) (m .1)) ∙ and-left (has (with none r) (m .0)) (has s (m .0)) p)) in
         rw (← q) (and-right (has (with none r) (m .0)) (has s (m .0)) p)
 
 -- role 0, or no role
 pub meets-bit : (b : Bool) → b ≡ meets 1 (bit b)
-unfolding both isEmpty those pack some has
+unfolding common isEmpty those pack some has
 meets-bit true = refl
 meets-bit false = refl

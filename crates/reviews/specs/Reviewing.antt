@@ -6,7 +6,7 @@ use Prim.Native.Nat.{ℕ}
 use lib.Dec.{ltb}
 use lib.ListN.{length, drop}
 use Rattle.roleset.specs.Bounded.{members}
-use Rattle.roleset.specs.Roles.{both, isEmpty}
+use Rattle.roleset.specs.Roles.{common, isEmpty}
 use Rattle.hierarchy.specs.Lines.{tableOf}
 use Rattle.numbers.specs.Answers.{numberOf}
 use Rattle.model.specs.Model.{Model}
@@ -47,7 +47,7 @@ Lists beyond missing cut list before after x = (m : Model) → Reviewed (review 
 
 -- some role is in both sets
 abbrev pub meets : ℕ → ℕ → Bool
-meets roles set = not (isEmpty (both roles set))
+meets roles set = not (isEmpty (common roles set))
 
 -- place k of the table has one of the roles
 abbrev pub touched : ℕ → List ℕ → ℕ → Bool

@@ -25,7 +25,7 @@ use state::reads::set_named;
 pub(crate) fn meet(roles: u64, set: u64) -> bool
     ensures { λ b. ⌜ b ≡ meets roles set ⌝ }
 {
-    !roleset::is_empty(roleset::both(roles, set))
+    !roleset::is_empty(roleset::common(roles, set))
 }
 
 // How many places are to be listed.

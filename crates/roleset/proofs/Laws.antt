@@ -11,7 +11,7 @@ use lib.Pow.{high, low, split, field, mod-mod-pow, pow-pos, pow-mono}
 use lib.Bits.{bitAnd, bitOr, or-shr, and-shr, or-step, and-step}
 use borrow.Author.Tests.{eq-eqb, ne-eqb}
 use Rattle.roleset.specs.Bounded.{bit, some, tally}
-use Rattle.roleset.specs.Roles.{has, pack, those, with, without, union, both, minus, subset, isEmpty, count}
+use Rattle.roleset.specs.Roles.{has, pack, those, with, without, union, common, minus, subset, isEmpty, count}
 use Rattle.roleset.proofs.BoundedLaws.{clash, and-left, and-right, or-left, or-right, not-yes, yes-not, last-or-below, some-elim, some-none, some-false, every-intro, every-elim, tally-le, tally-mono, tally-ext, tally-none, tally-change, tally-either}
 
 -- ---- bit k of a number
@@ -147,9 +147,9 @@ pub has-union : (a b k : ℕ) → k < 64 → has (union a b) k ≡ (has a k || h
 unfolding union
 has-union a b k h = has-those (λ j. has a j || has b j) k h
 
-pub has-both : (a b k : ℕ) → k < 64 → has (both a b) k ≡ (has a k && has b k)
-unfolding both
-has-both a b k h = has-those (λ j. has a j && has b j) k h
+pub has-common : (a b k : ℕ) → k < 64 → has (common a b) k ≡ (has a k && has b k)
+unfolding common
+has-common a b k h = has-those (λ j. has a j && has b j) k h
 
 pub has-minus : (a b k : ℕ) → k < 64 → has (minus a b) k ≡ (has a k && not (has b k))
 unfolding minus
@@ -167,9 +167,9 @@ pub union-small : (a b : ℕ) → union a b < 2 ^ 64
 unfolding union
 union-small a b = those-small (λ j. has a j || has b j)
 
-pub both-small : (a b : ℕ) → both a b < 2 ^ 64
-unfolding both
-both-small a b = those-small (λ j. has a j && has b j)
+pub common-small : (a b : ℕ) → common a b < 2 ^ 64
+unfolding common
+common-small a b = those-small (λ j. has a j && has b j)
 
 pub minus-small : (a b : ℕ) → minus a b < 2 ^ 64
 unfolding minus
@@ -253,9 +253,9 @@ count-without s r l e = omega (arith, step, ap bit e, ap bit gone)
     step : tally 64 (has s) + bit (has (without s r) r) ≡ tally 64 (has (without s r)) + bit (has s r)
     step = tally-change 64 (has s) (has (without s r)) r l (λ k h n. sym (has-without s r k h ∙ rw (ne-eqb k r n) (and-true (has s k))))
 
-pub count-union : (a b : ℕ) → count (union a b) + count (both a b) ≡ count a + count b
+pub count-union : (a b : ℕ) → count (union a b) + count (common a b) ≡ count a + count b
 unfolding count
-count-union a b = ap₂ (λ (x y : ℕ). x + y) (tally-ext 64 (has (union a b)) (λ k. has a k || has b k) (has-union a b)) (tally-ext 64 (has (both a b)) (λ k. has a k && has b k) (has-both a b)) ∙ tally-either 64 (has a) (has b)
+count-union a b = ap₂ (λ (x y : ℕ). x + y) (tally-ext 64 (has (union a b)) (λ k. has a k || has b k) (has-union a b)) (tally-ext 64 (has (common a b)) (λ k. has a k && has b k) (has-common a b)) ∙ tally-either 64 (has a) (has b)
 
 pub count-none : count 0 ≡ 0
 unfolding count

@@ -12,7 +12,7 @@ use lib.Bits.{bitAnd, bitOr, bitXor, xor-shr, xor-step, or-lt, and-lt, xor-lt, d
 use lib.Count.{ones, ones-cat, trailingZeros, under, trailing-of-zero}
 use borrow.Author.Tests.{eq-eqb, ne-eqb, eqb-true, lt-ltb}
 use Rattle.roleset.specs.Bounded.{bit, tally}
-use Rattle.roleset.specs.Roles.{has, those, with, without, union, both, minus, subset, isEmpty, count}
+use Rattle.roleset.specs.Roles.{has, those, with, without, union, common, minus, subset, isEmpty, count}
 use Rattle.roleset.specs.Promises.{Made, Answers, Lowest}
 use Rattle.roleset.proofs.BoundedLaws.{clash, and-left, and-right, agree, never, tally-ext}
 use Rattle.roleset.proofs.Laws.{digit, digit-bit, has-mod, has-top, has-low, has-none, is-those, has-or, has-and, ext, subset-true, subset-intro, member-small, isEmpty-zero, isEmpty-false, isEmpty-none}
@@ -27,8 +27,8 @@ pub or-made : (a b : ℕ) → a < 2 ^ 64 → b < 2 ^ 64 → Made (bitOr a b) (un
 unfolding union
 or-made a b ha hb = made (bitOr a b) (λ k. has a k || has b k) (λ k. has a k || has b k) (or-lt 64 a b ha hb) (has-or a b) (λ k l. refl)
 
-pub and-made : (a b : ℕ) → a < 2 ^ 64 → b < 2 ^ 64 → Made (bitAnd a b) (both a b) (λ k. has a k && has b k)
-unfolding both
+pub and-made : (a b : ℕ) → a < 2 ^ 64 → b < 2 ^ 64 → Made (bitAnd a b) (common a b) (λ k. has a k && has b k)
+unfolding common
 and-made a b ha hb = made (bitAnd a b) (λ k. has a k && has b k) (λ k. has a k && has b k) (and-lt 64 a b ha hb) (has-and a b) (λ k l. refl)
 
 xor-digit : (x y : ℕ) → eqb (bitXor x y % 2) 1 ≡ eqb (differ (x % 2) (y % 2)) 1

@@ -35,8 +35,8 @@ unfoldable pub union : ℕ → ℕ → ℕ
 union a b = those (λ k. has a k || has b k)
 
 -- the roles in a and in b
-unfoldable pub both : ℕ → ℕ → ℕ
-both a b = those (λ k. has a k && has b k)
+unfoldable pub common : ℕ → ℕ → ℕ
+common a b = those (λ k. has a k && has b k)
 
 -- the roles in a and not in b
 unfoldable pub minus : ℕ → ℕ → ℕ

@@ -3,7 +3,7 @@ ghost use mathlib.Core.Bool.{Bool, true, false, _&&_, _||_, not};
 ghost use mathlib.Core.Path.{_≡_};
 ghost use Prim.Native.Nat.{ℕ, _<_, _≤_};
 ghost use lib.Dec.{eqb, ltb};
-ghost use Rattle.roleset.specs.Roles.{has, with, without, union, both, minus, subset, isEmpty, count};
+ghost use Rattle.roleset.specs.Roles.{has, with, without, union, common, minus, subset, isEmpty, count};
 ghost use Rattle.roleset.specs.Promises.{Made, Answers, Lowest};
 
 // Is role r in s?
@@ -35,8 +35,8 @@ pub fn union(a: u64, b: u64) -> u64
 }
 
 // The roles in a and in b.
-pub fn both(a: u64, b: u64) -> u64
-    ensures { λ t. ⌜ Made t (both a b) (λ k. has a k && has b k) ⌝ }
+pub fn common(a: u64, b: u64) -> u64
+    ensures { λ t. ⌜ Made t (common a b) (λ k. has a k && has b k) ⌝ }
 {
     a & b
 }

@@ -5,9 +5,9 @@ use Prim.Native.Nat.{ℕ, _<_}
 use native.Mathlib.Omega.{arith}
 use lib.Dec.{eqb, leb}
 use borrow.Author.Tests.{eqb-true, eq-eqb, leb-true, le-leb}
-use Rattle.roleset.specs.Roles.{has, both, count}
+use Rattle.roleset.specs.Roles.{has, common, count}
 use Rattle.roleset.proofs.BoundedLaws.{clash, agree, and-left, and-right, and-both, some-intro, some-elim}
-use Rattle.roleset.proofs.Laws.{has-both, has-none, count-mono, count-none}
+use Rattle.roleset.proofs.Laws.{has-common, has-none, count-mono, count-none}
 use Rattle.model.specs.Model.{RoleSet}
 use Rattle.model.specs.Words.{breaks, breaksSome}
 
@@ -21,18 +21,18 @@ none-common card common e =
 
 module _ (held more : ℕ) (grows : (k : ℕ) → k < 64 → has held k ≡ true → has more k ≡ true) where
   -- more roles held share as many with a set, or more
-  both-grows : (roles : ℕ) (k : ℕ) → k < 64 → has (both roles held) k ≡ true → has (both roles more) k ≡ true
-  both-grows roles k l h =
-      let e = sym (has-both roles held k l) ∙ h in
-      has-both roles more k l ∙ and-both (has roles k) (has more k) (and-left (has roles k) (has held k) e) (grows k l (and-right (has roles k) (has held k) e))
+  common-grows : (roles : ℕ) (k : ℕ) → k < 64 → has (common roles held) k ≡ true → has (common roles more) k ≡ true
+  common-grows roles k l h =
+      let e = sym (has-common roles held k l) ∙ h in
+      has-common roles more k l ∙ and-both (has roles k) (has more k) (and-left (has roles k) (has held k) e) (grows k l (and-right (has roles k) (has held k) e))
 
   -- so they break the set, or some of the sets, that fewer break
   pub breaks-grows : (set : RoleSet) → breaks set held ≡ true → breaks set more ≡ true
   unfolding breaks
   breaks-grows set h =
-      let there = and-left (set .there) (leb (set .card) (count (both (set .roles) held))) h in
-      let reached = leb-true (set .card) (count (both (set .roles) held)) (and-right (set .there) _ h) in
-      and-both (set .there) _ there (le-leb (set .card) (count (both (set .roles) more)) (omega (arith, count-mono (both (set .roles) held) (both (set .roles) more) (both-grows (set .roles)))))
+      let there = and-left (set .there) (leb (set .card) (count (common (set .roles) held))) h in
+      let reached = leb-true (set .card) (count (common (set .roles) held)) (and-right (set .there) _ h) in
+      and-both (set .there) _ there (le-leb (set .card) (count (common (set .roles) more)) (omega (arith, count-mono (common (set .roles) held) (common (set .roles) more) (common-grows (set .roles)))))
 
   pub some-grows : (sets : ℕ → RoleSet) → breaksSome sets held ≡ true → breaksSome sets more ≡ true
   unfolding breaksSome

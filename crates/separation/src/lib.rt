@@ -14,11 +14,11 @@ pub fn breaks(set: RoleSet, held: u64) -> bool
     ensures { λ b. ⌜ b ≡ breaks set held ⌝ }
 {
     if set.there {
-        let common = roleset::both(set.roles, held);
-        if common == 0 {
+        let shared = roleset::common(set.roles, held);
+        if shared == 0 {
             set.card == 0
         } else {
-            set.card <= roleset::count(common) as u64
+            set.card <= roleset::count(shared) as u64
         }
     } else {
         false

@@ -9,7 +9,7 @@ use lib.Dec.{eqb}
 use Rattle.roleset.proofs.BoundedLaws.{clash, or-clear}
 use Rattle.model.specs.Model.{Model}
 use Rattle.model.specs.Sheet.{Refusal, _when_, verdict, settle, done, refused}
-use Rattle.model.specs.commands.Naming.{noUser, noRole, noSession, userMissing, roleMissing, sessionMissing}
+use Rattle.model.specs.commands.Naming.{userBeyond, roleBeyond, sessionBeyond, userMissing, roleMissing, sessionMissing}
 use Rattle.model.specs.commands.Sessions.{notOwner, activeSet}
 use Rattle.state.specs.Stores.{inRange}
 use Rattle.state.proofs.Stored.{in-range}
@@ -17,7 +17,7 @@ use Rattle.sessions.specs.First.{firstRefusals}
 
 -- the conditions of refusals 1 and 2
 abbrev pub beyond : ℕ → ℕ → ℕ → Bool
-beyond u s r = noUser u || (noSession s || noRole r)
+beyond u s r = userBeyond u || (sessionBeyond s || roleBeyond r)
 
 abbrev pub missing : Model → ℕ → ℕ → ℕ → Bool
 missing m u s r = userMissing m u || (sessionMissing m s || roleMissing m r)
@@ -55,7 +55,7 @@ pub record Named (m : Model) (u s r : ℕ) : Type 0 where
 pub named : (m : Model) (u s r n : ℕ) → n ≡ verdict (firstRefusals m u s r) → eqb n 0 ≡ true → Named m u s r
 named m u s r n p h =
     let all = clear (beyond u s r) (missing m u s r) (notOwner m u s) (sym p ∙ eqb-true n 0 h) in
-    record { within = all .0; there = all .1 .0; own = all .1 .1; place = leb-false 64 s (or-clear (noSession s) (noRole r) (or-clear (noUser u) (noSession s || noRole r) (all .0) .1) .0) }
+    record { within = all .0; there = all .1 .0; own = all .1 .1; place = leb-false 64 s (or-clear (sessionBeyond s) (roleBeyond r) (or-clear (userBeyond u) (sessionBeyond s || roleBeyond r) (all .0) .1) .0) }
 
 -- what is told where the session's active roles are stored
 pub stored : (m after : Model) (s roles kept : ℕ) → after ≡ inRange 64 s m (activeSet m s kept) → s < 64 → roles ≡ kept → done [] after ≡ done [] (activeSet m s roles)

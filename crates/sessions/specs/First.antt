@@ -4,12 +4,12 @@ use mathlib.Core.List.{List, [], _∷_}
 use Prim.Native.Nat.{ℕ}
 use Rattle.model.specs.Model.{Model}
 use Rattle.model.specs.Sheet.{Refusal, _when_}
-use Rattle.model.specs.commands.Naming.{noUser, noRole, noSession, userMissing, roleMissing, sessionMissing}
+use Rattle.model.specs.commands.Naming.{userBeyond, roleBeyond, sessionBeyond, userMissing, roleMissing, sessionMissing}
 use Rattle.model.specs.commands.Sessions.{notOwner}
 
 abbrev pub firstRefusals : Model → ℕ → ℕ → ℕ → List Refusal
 firstRefusals m u s r =
-    1 when (noUser u || (noSession s || noRole r))
+    1 when (userBeyond u || (sessionBeyond s || roleBeyond r))
     ∷ 2 when (userMissing m u || (sessionMissing m s || roleMissing m r))
     ∷ 3 when notOwner m u s
     ∷ []

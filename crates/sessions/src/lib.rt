@@ -223,7 +223,7 @@ pub fn check(state: &[u64; PLACES], x: Session, op: u16, obj: u16) -> Checked
         };
     }
     let holders = holders_of(state, op as usize * 256 + obj as usize);
-    let holding = roleset::both(walk.roles, holders);
+    let holding = roleset::common(walk.roles, holders);
     Checked {
         answer: Answer::Done,
         yes: !roleset::is_empty(holding),

@@ -10,7 +10,7 @@ use Rattle.numbers.specs.Answers.{numberOf}
 use Rattle.numbers.specs.declared.Answer.{Answer}
 use Rattle.model.specs.Model.{Model}
 use Rattle.model.specs.Sheet.{Refusal, verdict, done, refused, settle}
-use Rattle.model.specs.commands.Naming.{noSet}
+use Rattle.model.specs.commands.Naming.{setBeyond}
 use Rattle.model.specs.commands.Sets.{setsOf, setMissing, aSet}
 use Rattle.model.specs.declared.Kind.{Kind}
 use Rattle.state.specs.Stores.{inRange, setStored, withMembers}

@@ -6,29 +6,29 @@ use Prim.Native.Nat.{ℕ, _≤_, _<_}
 use native.Mathlib.Omega.{arith}
 use lib.Dec.{leb}
 use borrow.Author.Tests.{leb-true, leb-false, le-leb}
-use Rattle.roleset.specs.Roles.{has, both, count}
+use Rattle.roleset.specs.Roles.{has, common, count}
 use Rattle.roleset.proofs.BoundedLaws.{clash, and-left, and-right, and-both, never, some-intro, some-none, some-false, tally-none}
 use Rattle.roleset.proofs.Laws.{count-mono}
 use Rattle.model.specs.Model.{RoleSet}
 use Rattle.model.specs.Words.{breaks, breaksSome}
-use Rattle.sound.proofs.Members.{Within, both-within, both-member}
+use Rattle.sound.proofs.Members.{Within, common-within, common-member}
 
 -- A set is broken exactly where it is there and at least as many of its roles are held as its cardinality.
-pub breaks-exact : (set : RoleSet) (held : ℕ) → (breaks set held ≡ true) ↔ ((set .there ≡ true) × (set .card ≤ count (both (set .roles) held)))
+pub breaks-exact : (set : RoleSet) (held : ℕ) → (breaks set held ≡ true) ↔ ((set .there ≡ true) × (set .card ≤ count (common (set .roles) held)))
 unfolding breaks
 breaks-exact set held = (
-  (λ h. (and-left (set .there) enough h, leb-true (set .card) (count (both (set .roles) held)) (and-right (set .there) enough h))),
-  (λ p. and-both (set .there) enough (p .0) (le-leb (set .card) (count (both (set .roles) held)) (p .1))),
+  (λ h. (and-left (set .there) enough h, leb-true (set .card) (count (common (set .roles) held)) (and-right (set .there) enough h))),
+  (λ p. and-both (set .there) enough (p .0) (le-leb (set .card) (count (common (set .roles) held)) (p .1))),
 )
   where
     enough : Bool
-    enough = leb (set .card) (count (both (set .roles) held))
+    enough = leb (set .card) (count (common (set .roles) held))
 
 -- It is not broken exactly where fewer are held, if it is there.
-pub unbroken-exact : (set : RoleSet) (held : ℕ) → (breaks set held ≡ false) ↔ (set .there ≡ true → count (both (set .roles) held) < set .card)
+pub unbroken-exact : (set : RoleSet) (held : ℕ) → (breaks set held ≡ false) ↔ (set .there ≡ true → count (common (set .roles) held) < set .card)
 unfolding breaks
 unbroken-exact set held = (
-  (λ h t. leb-false (set .card) (count (both (set .roles) held)) (sym (rw t) ∙ h)),
+  (λ h t. leb-false (set .card) (count (common (set .roles) held)) (sym (rw t) ∙ h)),
   (λ h. never (breaks set held) (λ e. let y = breaks-exact set held .0 e in let l = h (y .0) in omega arith)),
 )
 
@@ -36,7 +36,7 @@ unbroken-exact set held = (
 pub breaks-fewer : (set set′ : RoleSet) (held held′ : ℕ) → (set .there ≡ true → set′ .there ≡ true) → set′ .card ≤ set .card → Within (set .roles) (set′ .roles) → Within held held′ → breaks set′ held′ ≡ false → breaks set held ≡ false
 breaks-fewer set set′ held held′ t c f g h = unbroken-exact set held .1
     (λ e. let l = unbroken-exact set′ held′ .0 h (t e) in
-    let fewer = count-mono (both (set .roles) held) (both (set′ .roles) held′) (both-within (set .roles) held (set′ .roles) held′ f g) in
+    let fewer = count-mono (common (set .roles) held) (common (set′ .roles) held′) (common-within (set .roles) held (set′ .roles) held′ f g) in
     omega arith)
 
 -- Holding no role breaks no set whose cardinality is above 0.
@@ -44,8 +44,8 @@ pub nothing-breaks : (set : RoleSet) (held : ℕ) → (set .there ≡ true → 0
 unfolding count
 nothing-breaks set held c h = unbroken-exact set held .1 (λ e. let p = c e in let z = nobody in omega arith)
   where
-    nobody : count (both (set .roles) held) ≡ 0
-    nobody = tally-none 64 (has (both (set .roles) held)) (λ k l. never (has (both (set .roles) held) k) (λ e. clash (has held k) (both-member (set .roles) held k e .2) (h k l)))
+    nobody : count (common (set .roles) held) ≡ 0
+    nobody = tally-none 64 (has (common (set .roles) held)) (λ k l. never (has (common (set .roles) held) k) (λ e. clash (has held k) (common-member (set .roles) held k e .2) (h k l)))
 
 -- ---- some set of a table
 

@@ -13,7 +13,7 @@ use Rattle.hierarchy.specs.Lines.Inherits.{one, more}
 use Rattle.hierarchy.specs.Walks.{reach}
 use Rattle.hierarchy.proofs.WalkLaws.{reach-sound, reach-small}
 use Rattle.hierarchy.proofs.CircleLaws.{never-cut}
-use Rattle.model.specs.Model.{Model, RoleSet, Session, noSet, noSession, put}
+use Rattle.model.specs.Model.{Model, RoleSet, Session, absentSet, closedSession, put}
 use Rattle.model.specs.Words.{reached}
 use Rattle.model.specs.Sound.{Existing, SetShape, SessionShape, Shape, Sound}
 use Rattle.sound.proofs.Put.{put-all}
@@ -38,11 +38,11 @@ pub existing-without : (m : Model) (set r : ℕ) → Existing m set → Existing
 existing-without m set r x = record { small = without-small set r; exist = λ k e. x .exist k (without-member set r k e .1) }
 
 -- A set that is not there has its shape,
-pub set-none : (m : Model) (n : ℕ) → SetShape m n noSet
+pub set-none : (m : Model) (n : ℕ) → SetShape m n absentSet
 set-none m n = record { absent = λ e. refl; named = λ e. clash false e refl; atLeast = λ e. clash false e refl; atMost = λ e. clash false e refl; members = existing-none m }
 
 -- and so has a session that is not live.
-pub session-none : (m : Model) (k : ℕ) → SessionShape m k noSession
+pub session-none : (m : Model) (k : ℕ) → SessionShape m k closedSession
 session-none m k = record { closed = λ e. refl; numbered = λ e. clash false e refl; owned = λ e. clash false e refl; active = existing-none m }
 
 -- A set with a member is there.
@@ -105,7 +105,7 @@ module _ (m : Model) (x : Shape m) where
   no-user-beyond u l = never (m .users u) (λ e. let h = x .users u e in let z : ⊥ = omega arith in z)
 
   -- A session number of 64 or more has no active roles.
-  pub no-session-beyond : (s : ℕ) → 64 ≤ s → m .sessions s ≡ noSession
+  pub no-session-beyond : (s : ℕ) → 64 ≤ s → m .sessions s ≡ closedSession
   no-session-beyond s l = x .sessions s .closed (never (m .sessions s .live) (λ e. let h = x .sessions s .numbered e in let z : ⊥ = omega arith in z))
 
   -- A session that is not live has none either.

@@ -8,7 +8,7 @@ use Rattle.roleset.proofs.BoundedLaws.{clash, total-le}
 use Rattle.roleset.proofs.Laws.{has-none, count-none}
 use Rattle.hierarchy.specs.Lines.{Inherits}
 use Rattle.hierarchy.specs.Lines.Inherits.{one, more}
-use Rattle.model.specs.Model.{empty, noSet, standing}
+use Rattle.model.specs.Model.{empty, absentSet, standing}
 use Rattle.model.specs.Words.{breaks, staticBroken, dynamicBroken, assignments, grants, linesStanding}
 use Rattle.model.specs.Sound.{Sound}
 use Rattle.sound.proofs.Breaking.{none-breaks}
@@ -48,7 +48,7 @@ empty-sound =
           record {
             acyclic = record { never = λ r p. no-lines p };
             active = λ s r e. clash (has 0 r) e (has-none r);
-            static = λ u. none-breaks (λ n. noSet) _ (λ n l. refl);
-            dynamic = λ s. none-breaks (λ n. noSet) _ (λ n l. refl);
+            static = λ u. none-breaks (λ n. absentSet) _ (λ n l. refl);
+            dynamic = λ s. none-breaks (λ n. absentSet) _ (λ n l. refl);
           };
     }

@@ -5,9 +5,9 @@ use mathlib.Core.Path.{_≡_, refl, _∙_}
 use Prim.Native.Nat.{ℕ, _^_, _<_}
 use lib.Dec.{eqb}
 use borrow.Author.Tests.{eqb-true, eqb-false, eq-eqb, ne-eqb, not-true}
-use Rattle.roleset.specs.Roles.{has, with, without, both, none}
+use Rattle.roleset.specs.Roles.{has, with, without, common, none}
 use Rattle.roleset.proofs.BoundedLaws.{clash, and-left, and-right, and-both, or-left, or-right, or-cases, not-yes}
-use Rattle.roleset.proofs.Laws.{has-none, has-with, has-without, has-both, those-member, without-small}
+use Rattle.roleset.proofs.Laws.{has-none, has-with, has-without, has-common, those-member, without-small}
 use Rattle.model.specs.Model.{put}
 use Rattle.sound.proofs.Put.{put-all}
 
@@ -64,21 +64,21 @@ pub without-other : (s r k : ℕ) → k < 64 → has s k ≡ true → (k ≡ r �
 without-other s r k l h n = has-without s r k l ∙ and-both (has s k) (not (eqb k r)) h (not-yes (eqb k r) (ne-eqb k r n))
 
 -- A member of two sets is one of each,
-pub both-member : (a b k : ℕ) → has (both a b) k ≡ true → (k < 64) × (has a k ≡ true) × (has b k ≡ true)
-unfolding both
-both-member a b k h =
+pub common-member : (a b k : ℕ) → has (common a b) k ≡ true → (k < 64) × (has a k ≡ true) × (has b k ≡ true)
+unfolding common
+common-member a b k h =
     let m = those-member (λ j. has a j && has b j) k h in
     (m .0, and-left (has a k) (has b k) (m .1), and-right (has a k) (has b k) (m .1))
 
 -- and a member of each is one of both;
-pub both-intro : (a b k : ℕ) → k < 64 → has a k ≡ true → has b k ≡ true → has (both a b) k ≡ true
-both-intro a b k l p q = has-both a b k l ∙ and-both (has a k) (has b k) p q
+pub common-intro : (a b k : ℕ) → k < 64 → has a k ≡ true → has b k ≡ true → has (common a b) k ≡ true
+common-intro a b k l p q = has-common a b k l ∙ and-both (has a k) (has b k) p q
 
 -- so what two sets share grows with them.
-pub both-within : (a b a′ b′ : ℕ) → Within a a′ → Within b b′ → Within (both a b) (both a′ b′)
-both-within a b a′ b′ f g k l h =
-    let m = both-member a b k h in
-    both-intro a′ b′ k l (f k l (m .1)) (g k l (m .2))
+pub common-within : (a b a′ b′ : ℕ) → Within a a′ → Within b b′ → Within (common a b) (common a′ b′)
+common-within a b a′ b′ f g k l h =
+    let m = common-member a b k h in
+    common-intro a′ b′ k l (f k l (m .1)) (g k l (m .2))
 
 -- A table with a role taken away at one place holds no more than it did,
 pub fewer-at : (table : ℕ → ℕ) (i r : ℕ) → (k j : ℕ) → has (put table i (without (table i) r) k) j ≡ true → has (table k) j ≡ true

@@ -12,7 +12,7 @@ use Rattle.roleset.specs.Bounded.{bit, tally}
 use Rattle.roleset.specs.Roles.{has, with, without, subset}
 use Rattle.roleset.proofs.BoundedLaws.{clash}
 use Rattle.roleset.proofs.Laws.{has-none, member-small, subset-true}
-use Rattle.model.specs.Model.{Model, Session, noSession, put}
+use Rattle.model.specs.Model.{Model, Session, closedSession, put}
 use Rattle.model.specs.Words.{authorised, breaksSome, dynamicBroken, sessionsOpen}
 use Rattle.model.specs.Lists.{setOf}
 use Rattle.model.specs.Sound.{SessionShape, Sound}
@@ -159,7 +159,7 @@ drop-sound m u k r s =
 pub end-sound : (m : Model) (u k : ℕ) → Sound m → Sound (end m u k .after)
 unfolding end dynamicBroken
 end-sound m u k s =
-    kept Sound _ m _ _ refl s (λ c. session-put-sound m k noSession s (session-none m k)
+    kept Sound _ m _ _ refl s (λ c. session-put-sound m k closedSession s (session-none m k)
     (λ r e. clash (has 0 r) e (has-none r))
     (some-breaks-fewer (m .dsd) 0 (m .sessions k .active) (λ r l e. clash (has 0 r) e (has-none r)) (s .rules .dynamic k)))
 

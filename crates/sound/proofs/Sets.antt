@@ -11,7 +11,7 @@ use Rattle.roleset.specs.Bounded.{some}
 use Rattle.roleset.specs.Roles.{has, with, without, subset, count}
 use Rattle.roleset.proofs.BoundedLaws.{clash, some-false}
 use Rattle.roleset.proofs.Laws.{has-none, those-small, member-small, subset-true, count-mono}
-use Rattle.model.specs.Model.{Model, RoleSet, Session, noSet, put}
+use Rattle.model.specs.Model.{Model, RoleSet, Session, absentSet, put}
 use Rattle.model.specs.Words.{breaks, breaksSome, staticBroken, dynamicBroken}
 use Rattle.model.specs.Lists.{listed, setOf, someFrom}
 use Rattle.model.specs.Sound.{Existing, SetShape, Shape, Sound}
@@ -103,7 +103,7 @@ makeSet-sound kind m name n list s =
 -- `nossd name` and `nodsd name` keep a sound model sound.
 pub dropSet-sound : (kind : Kind) (m : Model) (name : ℕ) → Sound m → Sound (dropSet kind m name .after)
 unfolding dropSet breaks
-dropSet-sound kind m name s = kept Sound _ m _ _ refl s (λ c. set-put-sound kind m name noSet s (set-none m name) (λ i. refl))
+dropSet-sound kind m name s = kept Sound _ m _ _ refl s (λ c. set-put-sound kind m name absentSet s (set-none m name) (λ i. refl))
 
 -- `ssd-add name r` and `dsd-add name r` keep a sound model sound.
 pub addMember-sound : (kind : Kind) (m : Model) (name r : ℕ) → Sound m → Sound (addMember kind m name r .after)

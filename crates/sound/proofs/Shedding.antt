@@ -8,7 +8,7 @@ use lib.Dec.{leb}
 use borrow.Author.Tests.{leb-false, not-false}
 use Rattle.roleset.specs.Roles.{has, without, none}
 use Rattle.roleset.proofs.BoundedLaws.{clash, never, some-intro, some-elim}
-use Rattle.roleset.proofs.Laws.{has-none, without-small, both-small}
+use Rattle.roleset.proofs.Laws.{has-none, without-small, common-small}
 use Rattle.hierarchy.specs.Lines.{line}
 use Rattle.hierarchy.specs.Walks.{reach}
 use Rattle.hierarchy.proofs.WalkLaws.{reach-sound}
@@ -20,7 +20,7 @@ use Rattle.model.specs.commands.Assigning.{deassigned, deassign}
 use Rattle.model.specs.commands.Inheriting.{unlined, disinherit}
 use Rattle.sound.proofs.Sheet.{kept}
 use Rattle.sound.proofs.Put.{put-all}
-use Rattle.sound.proofs.Members.{without-member, without-other, both-member, or-no, fewer-at, small-at, stripped-fewer}
+use Rattle.sound.proofs.Members.{without-member, without-other, common-member, or-no, fewer-at, small-at, stripped-fewer}
 use Rattle.sound.proofs.Counting.{one-less, stripped, stripped-emptied}
 use Rattle.sound.proofs.Carried.{existing-none, existing-in, set-in, session-none, role-small, below-exists, closed-idle, member-there}
 use Rattle.sound.proofs.Changing.{fewer-sound}
@@ -89,7 +89,7 @@ module _ (m m′ : Model) where
         live : (k : ℕ) → SessionShape m k (m .sessions k) → m .sessions k .live ≡ true → SessionShape after k (keeping (m .sessions k) (reach (m′ .juniors) (m′ .assigned (m .sessions k .owner)) .roles))
         live k y l =
             let held = reach (m′ .juniors) (m′ .assigned (m .sessions k .owner)) .roles in
-            record { closed = λ e. clash (m .sessions k .live) l e; numbered = y .numbered; owned = y .owned; active = record { small = both-small (m .sessions k .active) held; exist = λ r h. authorised-exist (m .sessions k .owner) r (both-member (m .sessions k .active) held r h .2) } }
+            record { closed = λ e. clash (m .sessions k .live) l e; numbered = y .numbered; owned = y .owned; active = record { small = common-small (m .sessions k .active) held; exist = λ r h. authorised-exist (m .sessions k .owner) r (common-member (m .sessions k .active) held r h .2) } }
 
     -- and is sound: a rule that held before still does, and shedding leaves no active role without its authorisation.
     pub shed-sound : Sound (shed (left m m′))
@@ -98,8 +98,8 @@ module _ (m m′ : Model) where
         fewer-sound m s (shed (left m m′)) shed-shape
         (record { assigned = t .counted .assigned; granted = t .counted .granted; lined = t .counted .lined })
         (t .lines) (t .assigned-before) (t .held-before)
-        (λ k r. shedded-all (λ y. has (y .active) r ≡ true → has (m .sessions k .active) r ≡ true) (m′ .juniors) (m′ .assigned) (m .sessions k) (λ l h. both-member (m .sessions k .active) (reach (m′ .juniors) (m′ .assigned (m .sessions k .owner)) .roles) r h .1) (λ l h. h))
-        (λ k r. shedded-all (λ y. has (y .active) r ≡ true → has (reach (m′ .juniors) (m′ .assigned (y .owner)) .roles) r ≡ true) (m′ .juniors) (m′ .assigned) (m .sessions k) (λ l h. both-member (m .sessions k .active) (reach (m′ .juniors) (m′ .assigned (m .sessions k .owner)) .roles) r h .2) (λ l h. clash (has (m .sessions k .active) r) h (closed-idle m (s .shape) k l r)))
+        (λ k r. shedded-all (λ y. has (y .active) r ≡ true → has (m .sessions k .active) r ≡ true) (m′ .juniors) (m′ .assigned) (m .sessions k) (λ l h. common-member (m .sessions k .active) (reach (m′ .juniors) (m′ .assigned (m .sessions k .owner)) .roles) r h .1) (λ l h. h))
+        (λ k r. shedded-all (λ y. has (y .active) r ≡ true → has (reach (m′ .juniors) (m′ .assigned (y .owner)) .roles) r ≡ true) (m′ .juniors) (m′ .assigned) (m .sessions k) (λ l h. common-member (m .sessions k .active) (reach (m′ .juniors) (m′ .assigned (m .sessions k .owner)) .roles) r h .2) (λ l h. clash (has (m .sessions k .active) r) h (closed-idle m (s .shape) k l r)))
 
 -- ---- the commands
 

@@ -9,7 +9,7 @@ use Rattle.roleset.specs.Roles.{has, with, none}
 use Rattle.roleset.proofs.BoundedLaws.{clash}
 use Rattle.roleset.proofs.Laws.{with-small, has-none}
 use Rattle.hierarchy.specs.Walks.{reach}
-use Rattle.model.specs.Model.{Model, Session, noSession, put}
+use Rattle.model.specs.Model.{Model, Session, closedSession, put}
 use Rattle.model.specs.Words.{assignments, grants, linesStanding}
 use Rattle.model.specs.Sound.{Existing, SessionShape, Shape, Counted, Sound}
 use Rattle.model.specs.commands.Users.{user, role, nouser, withoutUser, allEnded, endedOf}
@@ -44,7 +44,7 @@ role-sound m r s =
     (λ k e. with-old (m .roles) r k (role-small m (s .shape) k e) e))
 
 -- what holds of a session that is not live, and of one that the user does not own, holds of the session that is left
-ended-all : (P : Session → Type 0) (u : ℕ) (x : Session) → P noSession → ((x .live && eqb (x .owner) u) ≡ false → P x) → P (endedOf u x)
+ended-all : (P : Session → Type 0) (u : ℕ) (x : Session) → P closedSession → ((x .live && eqb (x .owner) u) ≡ false → P x) → P (endedOf u x)
 unfolding endedOf
 ended-all P u x closed other = go (x .live && eqb (x .owner) u) refl
   where

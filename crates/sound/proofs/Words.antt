@@ -7,7 +7,7 @@ use Prim.Native.Nat.{ℕ, _≤_, _<_}
 use lib.Dec.{eqb, leb}
 use native.Mathlib.Omega.{arith}
 use borrow.Author.Tests.{not-true, eqb-true, leb-false}
-use Rattle.roleset.specs.Roles.{has, both, count, isEmpty, subset}
+use Rattle.roleset.specs.Roles.{has, common, count, isEmpty, subset}
 use Rattle.roleset.proofs.BoundedLaws.{clash, never, not-yes, or-cases, tally-le}
 use Rattle.roleset.proofs.Laws.{member-small, has-those, those-member, subset-true, subset-intro, isEmpty-true, isEmpty-false}
 use Rattle.hierarchy.specs.Lines.{Inherits, AtOrAbove}
@@ -20,7 +20,7 @@ use Rattle.model.specs.commands.Sets.{setsOf}
 use Rattle.model.specs.commands.Sessions.{permitted}
 use Rattle.model.specs.declared.Kind.{Kind}
 use Rattle.model.specs.declared.Kind.the-variants.{Static, Dynamic}
-use Rattle.sound.proofs.Members.{or-no, both-member, both-intro}
+use Rattle.sound.proofs.Members.{or-no, common-member, common-intro}
 use Rattle.sound.proofs.Breaking.{unbroken-exact, none-breaks, each-unbroken}
 use Rattle.sound.proofs.Carried.{reached-exist, lines-small, sound-never-cut}
 use Rattle.sound.proofs.Changing.{held}
@@ -69,22 +69,22 @@ pub permitted-exact : (m : Model) (k p : ℕ) → (permitted m k p ≡ true) ↔
 unfolding permitted
 permitted-exact m k p = (to, back)
   where
-    to : not (isEmpty (both (effective m k) (m .holders p))) ≡ true → (r : ℕ) × (has (effective m k) r ≡ true) × (has (m .holders p) r ≡ true)
+    to : not (isEmpty (common (effective m k) (m .holders p))) ≡ true → (r : ℕ) × (has (effective m k) r ≡ true) × (has (m .holders p) r ≡ true)
     to e =
-        let found = isEmpty-false (both (effective m k) (m .holders p)) (not-true (isEmpty (both (effective m k) (m .holders p))) e) in
-        let member = both-member (effective m k) (m .holders p) (found .0) (found .2) in
+        let found = isEmpty-false (common (effective m k) (m .holders p)) (not-true (isEmpty (common (effective m k) (m .holders p))) e) in
+        let member = common-member (effective m k) (m .holders p) (found .0) (found .2) in
         (found .0, member .1, member .2)
 
-    back : (r : ℕ) × (has (effective m k) r ≡ true) × (has (m .holders p) r ≡ true) → not (isEmpty (both (effective m k) (m .holders p))) ≡ true
+    back : (r : ℕ) × (has (effective m k) r ≡ true) × (has (m .holders p) r ≡ true) → not (isEmpty (common (effective m k) (m .holders p))) ≡ true
     back q =
         let small : q .0 < 64 = member-small (effective m k) (q .0) (reach-small (m .juniors) (m .sessions k .active)) (q .1) in
-        not-yes (isEmpty (both (effective m k) (m .holders p))) (never (isEmpty (both (effective m k) (m .holders p))) (λ e. clash (has (both (effective m k) (m .holders p)) (q .0)) (both-intro (effective m k) (m .holders p) (q .0) small (q .1) (q .2)) (isEmpty-true (both (effective m k) (m .holders p)) e (q .0) small)))
+        not-yes (isEmpty (common (effective m k) (m .holders p))) (never (isEmpty (common (effective m k) (m .holders p))) (λ e. clash (has (common (effective m k) (m .holders p)) (q .0)) (common-intro (effective m k) (m .holders p) (q .0) small (q .1) (q .2)) (isEmpty-true (common (effective m k) (m .holders p)) e (q .0) small)))
 
 -- ---- separation
 
 -- every set of the kind has fewer than its cardinality of its roles among those held
 abbrev pub Separated : Kind → Model → ℕ → Type 0
-Separated kind m i = (n : ℕ) → setsOf kind m n .there ≡ true → count (both (setsOf kind m n .roles) (held kind m i)) < setsOf kind m n .card
+Separated kind m i = (n : ℕ) → setsOf kind m n .there ≡ true → count (common (setsOf kind m n .roles) (held kind m i)) < setsOf kind m n .card
 
 -- The rule of a kind is not broken exactly where every set of the kind keeps the roles held separated.
 pub separated-exact : (kind : Kind) (m : Model) → Shape m → (i : ℕ) → (breaksSome (setsOf kind m) (held kind m i) ≡ false) ↔ Separated kind m i
@@ -94,12 +94,12 @@ separated-exact kind m x i = (
 )
 
 -- "SSD set: .. Every user is authorised for fewer than n of them."
-pub static-exact : (m : Model) → Shape m → (u : ℕ) → (staticBroken m u ≡ false) ↔ ((n : ℕ) → m .ssd n .there ≡ true → count (both (m .ssd n .roles) (authorised m u)) < m .ssd n .card)
+pub static-exact : (m : Model) → Shape m → (u : ℕ) → (staticBroken m u ≡ false) ↔ ((n : ℕ) → m .ssd n .there ≡ true → count (common (m .ssd n .roles) (authorised m u)) < m .ssd n .card)
 unfolding staticBroken
 static-exact m x u = separated-exact Static m x u
 
 -- "Every session has fewer than n of them active"
-pub dynamic-exact : (m : Model) → Shape m → (k : ℕ) → (dynamicBroken m k ≡ false) ↔ ((n : ℕ) → m .dsd n .there ≡ true → count (both (m .dsd n .roles) (counted m k)) < m .dsd n .card)
+pub dynamic-exact : (m : Model) → Shape m → (k : ℕ) → (dynamicBroken m k ≡ false) ↔ ((n : ℕ) → m .dsd n .there ≡ true → count (common (m .dsd n .roles) (counted m k)) < m .dsd n .card)
 unfolding dynamicBroken
 dynamic-exact m x k = separated-exact Dynamic m x k
 
@@ -118,7 +118,7 @@ shed-stays m k = shedded-all (λ y. (y .live ≡ m .sessions k .live) × (y .own
 pub shed-exact : (m : Model) (k r : ℕ) → m .sessions k .live ≡ true → (has (shed m .sessions k .active) r ≡ true) ↔ ((has (m .sessions k .active) r ≡ true) × (has (authorised m (m .sessions k .owner)) r ≡ true))
 unfolding shed
 shed-exact m k r live = shedded-all (λ y. (has (y .active) r ≡ true) ↔ ((has (m .sessions k .active) r ≡ true) × (has held-by-owner r ≡ true))) (m .juniors) (m .assigned) (m .sessions k)
-    (λ e. ((λ h. let b = both-member (m .sessions k .active) held-by-owner r h in (b .1, b .2)), (λ p. both-intro (m .sessions k .active) held-by-owner r (member-small held-by-owner r (reach-small (m .juniors) (m .assigned (m .sessions k .owner))) (p .1)) (p .0) (p .1))))
+    (λ e. ((λ h. let b = common-member (m .sessions k .active) held-by-owner r h in (b .1, b .2)), (λ p. common-intro (m .sessions k .active) held-by-owner r (member-small held-by-owner r (reach-small (m .juniors) (m .assigned (m .sessions k .owner))) (p .1)) (p .0) (p .1))))
     (λ e. clash (m .sessions k .live) live e)
   where
     held-by-owner : ℕ

@@ -108,8 +108,8 @@ second-put {A} make a b s y k = go (eqb k s) refl
 
 -- the tables of n numbers each stand at o and at o + n
 module _ {A : Type 0} (make : ℕ → ℕ → A) (o n : ℕ) (l : List ℕ) (s : ℕ) (h : s < n) (fits : o + n + n ≤ length l) where
-  pub both-stored : (x y : ℕ) → Within o (n + n) l (set (set l (o + s) x) (o + n + s) y) × _≡_ {A = ℕ → A} (paired make (part (set (set l (o + s) x) (o + n + s) y) o n) (part (set (set l (o + s) x) (o + n + s) y) (o + n) n)) (put (paired make (part l o n) (part l (o + n) n)) s (make x y))
-  both-stored x y = (then (wider first o (n + n) (omega arith) (omega arith)) (wider second o (n + n) (omega arith) (omega arith)), ap₂ (paired make) heads roles ∙ fun-ext (pair-put make (part l o n) (part l (o + n) n) s x y))
+  pub common-stored : (x y : ℕ) → Within o (n + n) l (set (set l (o + s) x) (o + n + s) y) × _≡_ {A = ℕ → A} (paired make (part (set (set l (o + s) x) (o + n + s) y) o n) (part (set (set l (o + s) x) (o + n + s) y) (o + n) n)) (put (paired make (part l o n) (part l (o + n) n)) s (make x y))
+  common-stored x y = (then (wider first o (n + n) (omega arith) (omega arith)) (wider second o (n + n) (omega arith) (omega arith)), ap₂ (paired make) heads roles ∙ fun-ext (pair-put make (part l o n) (part l (o + n) n) s x y))
     where
       between : List ℕ
       between = set l (o + s) x
@@ -153,7 +153,7 @@ set-at kind l n = ap (λ (f : ℕ → RoleSet). f n) (sets-viewed kind l)
 module _ (kind : Kind) (l : List ℕ) (n : ℕ) (long : length l ≡ places) (h : n < 16) where
   pub set-stored : (card roles : ℕ) → view (set (set l (setsAt kind + n) card) (setsAt kind + 16 + n) roles) ≡ setStored kind (view l) n (setOf card roles)
   set-stored card roles =
-      let b = both-stored setOf (setsAt kind) 16 l n h (omega (arith, sets-fit kind)) card roles in
+      let b = common-stored setOf (setsAt kind) 16 l n h (omega (arith, sets-fit kind)) card roles in
       sets-changed kind l _ (b .0) _ (b .1 ∙ ap (λ (f : ℕ → RoleSet). put f n (setOf card roles)) (sets-viewed kind l))
 
   pub members-stored : (roles : ℕ) → view (set l (setsAt kind + 16 + n) roles) ≡ setStored kind (view l) n (record { there = setsOf kind (view l) n .there; card = setsOf kind (view l) n .card; roles = roles })
@@ -176,7 +176,7 @@ one-more-session u active =
 module _ (l : List ℕ) (s : ℕ) (long : length l ≡ places) (h : s < 64) where
   pub session-stored : (owner active : ℕ) → view (set (set l (ownersAt + s) owner) (activeAt + s) active) ≡ withSessions (view l) (put (view l .sessions) s (sessionOf owner active))
   unfolding view
-  session-stored owner active = let b = both-stored sessionOf ownersAt 64 l s h (omega arith) owner active in sessions-changed l _ (b .0) _ (b .1)
+  session-stored owner active = let b = common-stored sessionOf ownersAt 64 l s h (omega arith) owner active in sessions-changed l _ (b .0) _ (b .1)
 
   pub active-stored : (active : ℕ) → view (set l (activeAt + s) active) ≡ withSessions (view l) (put (view l .sessions) s (record { live = view l .sessions s .live; owner = view l .sessions s .owner; active = active }))
   unfolding view

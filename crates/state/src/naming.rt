@@ -2,7 +2,7 @@
 ghost use mathlib.Core.Bool.{_||_};
 ghost use mathlib.Core.Path.{_≡_};
 ghost use Prim.Native.Nat.{_-_};
-ghost use Rattle.model.specs.commands.Naming.{noPermission};
+ghost use Rattle.model.specs.commands.Naming.{permissionBeyond};
 
 // Does one of two refusals' conditions hold?
 pub fn either(a: bool, b: bool) -> bool
@@ -13,7 +13,7 @@ pub fn either(a: bool, b: bool) -> bool
 
 // Is the operation or the object beyond its range?
 pub fn permission_beyond(op: u16, obj: u16) -> bool
-    ensures { λ b. ⌜ b ≡ noPermission op obj ⌝ }
+    ensures { λ b. ⌜ b ≡ permissionBeyond op obj ⌝ }
 {
     either(16 <= op, 256 <= obj)
 }

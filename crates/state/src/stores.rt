@@ -1,6 +1,6 @@
 // One thing of the state, stored. At a place beyond its range nothing is.
 ghost use mathlib.Core.Path.{_≡_};
-ghost use Rattle.model.specs.Model.{empty, noSet, noSession, put, withUsers, withRoles, withLines, withAssignments, withGrants, withSessions};
+ghost use Rattle.model.specs.Model.{empty, absentSet, closedSession, put, withUsers, withRoles, withLines, withAssignments, withGrants, withSessions};
 ghost use Rattle.model.specs.commands.Sessions.{openFor, sessionSet, activeSet};
 ghost use Rattle.model.specs.commands.Sets.{setsOf, aSet};
 ghost use Rattle.state.specs.Stores.{inRange, pickMember, setStored, withMembers, withActive};
@@ -171,7 +171,7 @@ pub fn put_members(state: &mut [u64; PLACES], kind: Kind, name: SetName, roles: 
 
 // The set of this kind is not there.
 pub fn clear_set(state: &mut [u64; PLACES], kind: Kind, name: SetName)
-    ensures { λ _. ⌜ view (now (state .exit)) ≡ inRange 16 (name .number) (view (now (state .entry))) (setStored kind (view (now (state .entry))) (name .number) noSet) ⌝ }
+    ensures { λ _. ⌜ view (now (state .exit)) ≡ inRange 16 (name .number) (view (now (state .entry))) (setStored kind (view (now (state .entry))) (name .number) absentSet) ⌝ }
 {
     let at = name.number as usize;
     if 16 <= at {
@@ -210,7 +210,7 @@ pub fn put_active(state: &mut [u64; PLACES], x: Session, active: u64)
 
 // The session is closed.
 pub fn close_session(state: &mut [u64; PLACES], x: Session)
-    ensures { λ _. ⌜ view (now (state .exit)) ≡ inRange 64 (x .number) (view (now (state .entry))) (sessionSet (view (now (state .entry))) (x .number) noSession) ⌝ }
+    ensures { λ _. ⌜ view (now (state .exit)) ≡ inRange 64 (x .number) (view (now (state .entry))) (sessionSet (view (now (state .entry))) (x .number) closedSession) ⌝ }
 {
     let at = x.number as usize;
     if 64 <= at {

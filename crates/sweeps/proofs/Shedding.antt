@@ -7,7 +7,7 @@ use native.Mathlib.Omega.{arith}
 use native.Mathlib.Decide.{decLt}
 use lib.Seq.{getD-take}
 use Rattle.hierarchy.specs.Walks.{reach}
-use Rattle.model.specs.Model.{Model, Session, noSession, withSessions}
+use Rattle.model.specs.Model.{Model, Session, closedSession, withSessions}
 use Rattle.model.specs.Words.{shed, shedCut, shedded, keeping}
 use Rattle.state.specs.Places.{ownersAt, activeAt}
 use Rattle.state.specs.Stores.{withActive}
@@ -17,7 +17,7 @@ use Rattle.sweeps.specs.Sweeps.{ShedsAll}
 use Rattle.sweeps.specs.declared.Kept.{Kept}
 
 -- past the 64 sessions of a state there is none
-pub view-past : (l : List ℕ) (k : ℕ) → 64 ≤ k → view l .sessions k ≡ noSession
+pub view-past : (l : List ℕ) (k : ℕ) → 64 ≤ k → view l .sessions k ≡ closedSession
 unfolding view
 view-past l k h = rw (part-none l ownersAt 64 k h, part-none l activeAt 64 k h)
 
@@ -38,7 +38,7 @@ shedded-active juniors assigned s = go (s .live)
     go false = refl
 
 -- no session sheds nothing
-shedded-none : (juniors assigned : ℕ → ℕ) → shedded juniors assigned noSession ≡ noSession
+shedded-none : (juniors assigned : ℕ → ℕ) → shedded juniors assigned closedSession ≡ closedSession
 unfolding shedded
 shedded-none juniors assigned = refl
 
@@ -49,7 +49,7 @@ module _ (m : Model) (kept : Kept) (sheds : ShedsAll (m .juniors) (m .assigned) 
   shed-cut = sym (sheds .cut)
 
   -- the sessions that it leaves are those of the model after shedding
-  pub shed-after : ((k : ℕ) → 64 ≤ k → m .sessions k ≡ noSession) → shed m ≡ withSessions m (withActive (m .sessions) (part (kept .active) 0 64))
+  pub shed-after : ((k : ℕ) → 64 ≤ k → m .sessions k ≡ closedSession) → shed m ≡ withSessions m (withActive (m .sessions) (part (kept .active) 0 64))
   unfolding shed
   shed-after past = ap (withSessions m) (fun-ext (λ k. go k (decLt k 64)))
     where
@@ -58,5 +58,5 @@ module _ (m : Model) (kept : Kept) (sheds : ShedsAll (m .juniors) (m .assigned) 
       go k (no p) = let z : 64 ≤ k = omega arith in rw (past k z, part-none (kept .active) 0 64 k z) (shedded-none (m .juniors) (m .assigned))
 
   -- a state that holds the model, and then stores what each session keeps, holds the model after shedding
-  pub shed-stored : ((k : ℕ) → 64 ≤ k → m .sessions k ≡ noSession) → (between after : Model) → between ≡ m → after ≡ withSessions between (withActive (between .sessions) (part (kept .active) 0 64)) → after ≡ shed m
+  pub shed-stored : ((k : ℕ) → 64 ≤ k → m .sessions k ≡ closedSession) → (between after : Model) → between ≡ m → after ≡ withSessions between (withActive (between .sessions) (part (kept .active) 0 64)) → after ≡ shed m
   shed-stored past between after stored e = e ∙ ap (λ (x : Model). withSessions x (withActive (x .sessions) (part (kept .active) 0 64))) stored ∙ sym (shed-after past)

@@ -6,11 +6,11 @@ use Prim.Native.Nat.{ℕ, _+_, _≤_, _<_}
 use native.Mathlib.Omega.{arith}
 use native.Mathlib.Decide.{decLt}
 use lib.Dec.{eqb}
-use Rattle.roleset.specs.Roles.{both}
+use Rattle.roleset.specs.Roles.{common}
 use Rattle.roleset.proofs.BoundedLaws.{last-or-below}
 use Rattle.hierarchy.specs.Walks.{reach}
 use Rattle.hierarchy.specs.declared.Walk.{Walk}
-use Rattle.model.specs.Model.{Model, Session, noSession, put, withSessions}
+use Rattle.model.specs.Model.{Model, Session, closedSession, put, withSessions}
 use Rattle.model.specs.Words.{shedded}
 use Rattle.model.specs.commands.Sessions.{sessionSet}
 use Rattle.model.specs.commands.Users.{endedOf, allEnded}
@@ -19,7 +19,7 @@ use Rattle.sweeps.specs.Sweeps.{Keeps}
 
 module _ (juniors assigned : ℕ → ℕ) (s : Session) where
   -- a live session keeps what its owner's walk meets
-  pub keeps-live : (w : Walk) (x : ℕ) → s .live ≡ true → w ≡ reach juniors (assigned (s .owner)) → x ≡ both (s .active) (w .roles) → Keeps juniors assigned s (record { roles = x; cut = w .cut })
+  pub keeps-live : (w : Walk) (x : ℕ) → s .live ≡ true → w ≡ reach juniors (assigned (s .owner)) → x ≡ common (s .active) (w .roles) → Keeps juniors assigned s (record { roles = x; cut = w .cut })
   unfolding shedded
   keeps-live w x h e f = record { roles = f ∙ rw (e, shedded, h); cut = rw (h, e) }
 
@@ -29,17 +29,17 @@ module _ (juniors assigned : ℕ → ℕ) (s : Session) where
   keeps-dead h = record { roles = rw (shedded, h); cut = rw h }
 
 -- a live session of the user ends; one that is not live, or another's, is as it was
-pub end-own : (u : ℕ) (s : Session) → s .live ≡ true → eqb (s .owner) u ≡ true → noSession ≡ endedOf u s
+pub end-own : (u : ℕ) (s : Session) → s .live ≡ true → eqb (s .owner) u ≡ true → closedSession ≡ endedOf u s
 unfolding endedOf
 end-own u s h e = rw (h, e, endedOf)
 
 pub end-dead : (u : ℕ) (s : Session) → s .live ≡ false → s ≡ endedOf u s
 unfolding endedOf
-end-dead u s h = sym (ap (λ (b : Bool). elim (b && eqb (s .owner) u) [ true ↦ noSession | false ↦ s ]) h)
+end-dead u s h = sym (ap (λ (b : Bool). elim (b && eqb (s .owner) u) [ true ↦ closedSession | false ↦ s ]) h)
 
 pub end-other : (u : ℕ) (s : Session) → eqb (s .owner) u ≡ false → s ≡ endedOf u s
 unfolding endedOf
-end-other u s e = sym (ap (λ (b : Bool). elim b [ true ↦ noSession | false ↦ s ]) (ap (λ (b : Bool). s .live && b) e ∙ and-false (s .live)))
+end-other u s e = sym (ap (λ (b : Bool). elim b [ true ↦ closedSession | false ↦ s ]) (ap (λ (b : Bool). s .live && b) e ∙ and-false (s .live)))
 
 -- the sessions of the user below n have ended, and all else is as it was
 module _ (m : Model) (u : ℕ) where
@@ -52,15 +52,15 @@ module _ (m : Model) (u : ℕ) where
   ended-start = record { rest = refl; done = λ k p. absurd (omega arith); left = λ k p. refl }
 
   -- the next session ends
-  pub ended-one : (n : ℕ) (before after : Model) → Ended n before → after ≡ sessionSet before n noSession → noSession ≡ endedOf u (m .sessions n) → Ended (n + 1) after
-  ended-one n before after d e h = record { rest = e ∙ ap (λ (x : Model). withSessions x (put (before .sessions) n noSession)) (d .rest) ∙ sym (ap (λ (x : Model). withSessions m (x .sessions)) e); done = λ k p. at k ∙ go k (last-or-below k n (omega arith)); left = λ k p. at k ∙ put-other (before .sessions) n noSession k (λ q. omega arith) ∙ d .left k (omega arith) }
+  pub ended-one : (n : ℕ) (before after : Model) → Ended n before → after ≡ sessionSet before n closedSession → closedSession ≡ endedOf u (m .sessions n) → Ended (n + 1) after
+  ended-one n before after d e h = record { rest = e ∙ ap (λ (x : Model). withSessions x (put (before .sessions) n closedSession)) (d .rest) ∙ sym (ap (λ (x : Model). withSessions m (x .sessions)) e); done = λ k p. at k ∙ go k (last-or-below k n (omega arith)); left = λ k p. at k ∙ put-other (before .sessions) n closedSession k (λ q. omega arith) ∙ d .left k (omega arith) }
     where
-      at : (k : ℕ) → after .sessions k ≡ put (before .sessions) n noSession k
+      at : (k : ℕ) → after .sessions k ≡ put (before .sessions) n closedSession k
       at k = ap (λ (x : Model). x .sessions k) e
 
-      go : (k : ℕ) → (k ≡ n) ⊎ (k < n) → put (before .sessions) n noSession k ≡ endedOf u (m .sessions k)
-      go k (inl p) = rw p (put-same (before .sessions) n noSession ∙ h)
-      go k (inr p) = put-other (before .sessions) n noSession k (λ q. omega arith) ∙ d .done k p
+      go : (k : ℕ) → (k ≡ n) ⊎ (k < n) → put (before .sessions) n closedSession k ≡ endedOf u (m .sessions k)
+      go k (inl p) = rw p (put-same (before .sessions) n closedSession ∙ h)
+      go k (inr p) = put-other (before .sessions) n closedSession k (λ q. omega arith) ∙ d .done k p
 
   -- the next session stays
   pub ended-none : (n : ℕ) (after : Model) → Ended n after → m .sessions n ≡ endedOf u (m .sessions n) → Ended (n + 1) after
@@ -71,7 +71,7 @@ module _ (m : Model) (u : ℕ) where
       go k (inr p) = d .done k p
 
   -- all are passed, and there are none past them
-  pub ended-all : (n : ℕ) (after : Model) → ((k : ℕ) → n ≤ k → m .sessions k ≡ noSession) → Ended n after → after ≡ allEnded m u
+  pub ended-all : (n : ℕ) (after : Model) → ((k : ℕ) → n ≤ k → m .sessions k ≡ closedSession) → Ended n after → after ≡ allEnded m u
   unfolding allEnded
   ended-all n after past d = d .rest ∙ ap (withSessions m) (fun-ext (λ k. go k (decLt k n)))
     where

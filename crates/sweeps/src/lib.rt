@@ -135,7 +135,7 @@ fn left_to<'a>(juniors: &'a [u64; 64], assigned: &'a [u64; 256], session: Sessio
         held = assigned[owner as usize];
     }
     let walk = hierarchy::reach(juniors, held);
-    let roles = roleset::both(session.active, walk.roles);
+    let roles = roleset::common(session.active, walk.roles);
     Walk {
         roles,
         cut: walk.cut,

@@ -38,7 +38,7 @@ pub record Roleset : Type 0 where
   pub with : Unique roleset.with.Kinds.ps roleset.with.Kinds.r roleset.with.Reads.Post
   pub without : Unique roleset.without.Kinds.ps roleset.without.Kinds.r roleset.without.Reads.Post
   pub union : Unique roleset.union.Kinds.ps roleset.union.Kinds.r roleset.union.Reads.Post
-  pub both : Unique roleset.both.Kinds.ps roleset.both.Kinds.r roleset.both.Reads.Post
+  pub common : Unique roleset.common.Kinds.ps roleset.common.Kinds.r roleset.common.Reads.Post
   pub minus : Unique roleset.minus.Kinds.ps roleset.minus.Kinds.r roleset.minus.Reads.Post
   pub subset : Unique roleset.subset.Kinds.ps roleset.subset.Kinds.r roleset.subset.Reads.Post
   pub is-empty : Unique roleset.is_empty.Kinds.ps roleset.is_empty.Kinds.r roleset.is_empty.Reads.Post

@@ -13,7 +13,7 @@ use Rattle.model.specs.Model.{Model}
 use Rattle.model.specs.Sheet.{verdict, settle, done}
 use Rattle.model.specs.Words.{reached, breaksSome, staticBroken}
 use Rattle.model.specs.commands.Assigning.{assign, assigned}
-use Rattle.model.specs.commands.Naming.{noUser, noRole, userMissing, roleMissing}
+use Rattle.model.specs.commands.Naming.{userBeyond, roleBeyond, userMissing, roleMissing}
 use Rattle.model.proofs.Puts.{assigned-static}
 use Rattle.state.specs.View.{view, told}
 use Rattle.state.proofs.Stored.{within}
@@ -48,10 +48,10 @@ abbrev to-4 : tie.Else5 → tie.Else4
 to-4 c = c .before .before .before
 
 -- what the tests find, and what is known past them
-found-1 : (c : tie.After-either) → let s = c .before .before .before in (noUser (user s) || noRole (role s)) ≡ c .either .result
+found-1 : (c : tie.After-either) → let s = c .before .before .before in (userBeyond (user s) || roleBeyond (role s)) ≡ c .either .result
 found-1 c = rw (← c .before .before .user-beyond .ensures, ← c .before .role-beyond .ensures) (sym (c .either .ensures))
 
-clear-1 : (c : tie.Else1) → (noUser (user (to-start c)) || noRole (role (to-start c))) ≡ false
+clear-1 : (c : tie.Else1) → (userBeyond (user (to-start c)) || roleBeyond (role (to-start c))) ≡ false
 clear-1 c = found-1 (c .before) ∙ c .if1 .left
 
 found-2 : (c : tie.After-either2) → let s = to-start (c .before .before .before .before .before) in (userMissing (m s) (user s) || roleMissing (m s) (role s)) ≡ c .either2 .result
@@ -141,7 +141,7 @@ returns-7 c =
     (assigned-stored (m s) _ (user s) _ _ _ _
     (new (c4 .before .before .before .before .before))
     (ap (λ (n : ℕ). n + 1) (c5 .before .assignment-count .ensures))
-    (within 256 (user s) (noRole (role s)) (clear-1 (to-1 c2)))
+    (within 256 (user s) (roleBeyond (role s)) (clear-1 (to-1 c2)))
     (c .put-assigned .ensures)))
 
 pub assign-spec : {M : Type 1} → statement M

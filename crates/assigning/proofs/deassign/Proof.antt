@@ -9,7 +9,7 @@ use Rattle.model.specs.Model.{Model}
 use Rattle.model.specs.Sheet.{verdict, settle, done}
 use Rattle.model.specs.Words.{shed, shedCut}
 use Rattle.model.specs.commands.Assigning.{deassign, deassigned}
-use Rattle.model.specs.commands.Naming.{noUser, noRole, userMissing, roleMissing}
+use Rattle.model.specs.commands.Naming.{userBeyond, roleBeyond, userMissing, roleMissing}
 use Rattle.state.specs.View.{view, told}
 use Rattle.state.proofs.Stored.{within}
 use Rattle.assigning.proofs.Laws.{assigned-stored, deassigned-cut, deassigned-shed}
@@ -40,14 +40,14 @@ abbrev to-3 : tie.After-shed → tie.Else3
 to-3 c = c .before .before .before .before .before .before .before .before .before .before
 
 -- what the tests find, and what is known past them
-found-1 : (c : tie.After-either) → let s = c .before .before .before in (noUser (user s) || noRole (role s)) ≡ c .either .result
+found-1 : (c : tie.After-either) → let s = c .before .before .before in (userBeyond (user s) || roleBeyond (role s)) ≡ c .either .result
 found-1 c = rw (← c .before .before .user-beyond .ensures, ← c .before .role-beyond .ensures) (sym (c .either .ensures))
 
-clear-1 : (c : tie.Else1) → (noUser (user (to-start c)) || noRole (role (to-start c))) ≡ false
+clear-1 : (c : tie.Else1) → (userBeyond (user (to-start c)) || roleBeyond (role (to-start c))) ≡ false
 clear-1 c = found-1 (c .before) ∙ c .if1 .left
 
 within-range : (c : tie.Else1) → user (to-start c) < 256
-within-range c = within 256 (user (to-start c)) (noRole (role (to-start c))) (clear-1 c)
+within-range c = within 256 (user (to-start c)) (roleBeyond (role (to-start c))) (clear-1 c)
 
 found-2 : (c : tie.After-either2) → let s = to-start (c .before .before .before .before .before) in (userMissing (m s) (user s) || roleMissing (m s) (role s)) ≡ c .either2 .result
 found-2 c = rw (← c .before .before .before .has-user .ensures, ← c .before .has-role .ensures) (sym (c .either2 .ensures))

@@ -9,7 +9,7 @@ use Rattle.model.specs.Model.{Model}
 use Rattle.model.specs.Sheet.{verdict, settle, done}
 use Rattle.model.specs.Words.{shed, shedCut}
 use Rattle.model.specs.commands.Inheriting.{disinherit, unlined}
-use Rattle.model.specs.commands.Naming.{noRole, roleMissing}
+use Rattle.model.specs.commands.Naming.{roleBeyond, roleMissing}
 use Rattle.state.specs.View.{view, told}
 use Rattle.sweeps.proofs.Shedding.{view-past}
 use Rattle.state.proofs.Stored.{within}
@@ -54,14 +54,14 @@ abbrev start-3 : tie.Else3 → tie.Start
 start-3 c = start-2 (to-2 c)
 
 -- what the tests find, and what is known past them
-found-1 : (c : tie.After-either) → let s = c .before .before .before in (noRole (senior s) || noRole (junior s)) ≡ c .either .result
+found-1 : (c : tie.After-either) → let s = c .before .before .before in (roleBeyond (senior s) || roleBeyond (junior s)) ≡ c .either .result
 found-1 c = rw (← c .before .before .role-beyond .ensures, ← c .before .role-beyond2 .ensures) (sym (c .either .ensures))
 
-clear-1 : (c : tie.Else1) → (noRole (senior (to-start c)) || noRole (junior (to-start c))) ≡ false
+clear-1 : (c : tie.Else1) → (roleBeyond (senior (to-start c)) || roleBeyond (junior (to-start c))) ≡ false
 clear-1 c = found-1 (c .before) ∙ c .if1 .left
 
 within-range : (c : tie.Else1) → senior (to-start c) < 64
-within-range c = within 64 (senior (to-start c)) (noRole (junior (to-start c))) (clear-1 c)
+within-range c = within 64 (senior (to-start c)) (roleBeyond (junior (to-start c))) (clear-1 c)
 
 found-2 : (c : tie.After-either2) → let s = to-start (c .before .before .before .before .before) in (roleMissing (m s) (senior s) || roleMissing (m s) (junior s)) ≡ c .either2 .result
 found-2 c = rw (← c .before .before .before .has-role .ensures, ← c .before .has-role2 .ensures) (sym (c .either2 .ensures))

@@ -14,7 +14,7 @@ use Rattle.model.specs.Model.{Model}
 use Rattle.model.specs.Sheet.{verdict, settle, done}
 use Rattle.model.specs.Words.{reached, staticBroken}
 use Rattle.model.specs.commands.Inheriting.{inherit, lined, wouldCircle, usersCut}
-use Rattle.model.specs.commands.Naming.{noRole, roleMissing}
+use Rattle.model.specs.commands.Naming.{roleBeyond, roleMissing}
 use Rattle.state.specs.View.{view, told}
 use Rattle.sweeps.specs.Sweeps.{Asks}
 use Rattle.state.proofs.Stored.{within}
@@ -62,14 +62,14 @@ abbrev start-4 : tie.Else4 → tie.Start
 start-4 c = start-3 (to-3 c)
 
 -- what the tests find, and what is known past them
-found-1 : (c : tie.After-either) → let s = c .before .before .before in (noRole (senior s) || noRole (junior s)) ≡ c .either .result
+found-1 : (c : tie.After-either) → let s = c .before .before .before in (roleBeyond (senior s) || roleBeyond (junior s)) ≡ c .either .result
 found-1 c = rw (← c .before .before .role-beyond .ensures, ← c .before .role-beyond2 .ensures) (sym (c .either .ensures))
 
-clear-1 : (c : tie.Else1) → (noRole (senior (to-start c)) || noRole (junior (to-start c))) ≡ false
+clear-1 : (c : tie.Else1) → (roleBeyond (senior (to-start c)) || roleBeyond (junior (to-start c))) ≡ false
 clear-1 c = found-1 (c .before) ∙ c .if1 .left
 
 within-range : (c : tie.Else1) → senior (to-start c) < 64
-within-range c = within 64 (senior (to-start c)) (noRole (junior (to-start c))) (clear-1 c)
+within-range c = within 64 (senior (to-start c)) (roleBeyond (junior (to-start c))) (clear-1 c)
 
 found-2 : (c : tie.After-either2) → let s = to-start (c .before .before .before .before .before) in (roleMissing (m s) (senior s) || roleMissing (m s) (junior s)) ≡ c .either2 .result
 found-2 c = rw (← c .before .before .before .has-role .ensures, ← c .before .has-role2 .ensures) (sym (c .either2 .ensures))

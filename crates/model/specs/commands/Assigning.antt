@@ -8,7 +8,7 @@ use Rattle.numbers.specs.Ranges.{mostAssignments, mostGrants}
 use Rattle.model.specs.Model.{Model, put, withAssignments, withGrants}
 use Rattle.model.specs.Sheet.{Told, _when_, settle}
 use Rattle.model.specs.Words.{reached, staticBroken, permission, shed, shedCut}
-use Rattle.model.specs.commands.Naming.{noUser, noRole, noPermission, userMissing, roleMissing}
+use Rattle.model.specs.commands.Naming.{userBeyond, roleBeyond, permissionBeyond, userMissing, roleMissing}
 
 -- the role r is assigned to the user u, one assignment more; it no longer is, one less
 unfoldable pub assigned : Model → ℕ → ℕ → Model
@@ -21,7 +21,7 @@ deassigned m u r = withAssignments m (put (m .assigned) u (without (m .assigned 
 unfoldable pub assign : Model → ℕ → ℕ → Told
 assign m u r =
     settle
-    (1 when (noUser u || noRole r)
+    (1 when (userBeyond u || roleBeyond r)
     ∷ 2 when (userMissing m u || roleMissing m r)
     ∷ 4 when has (m .assigned u) r
     ∷ 10 when staticBroken (assigned m u r) u
@@ -36,7 +36,7 @@ assign m u r =
 unfoldable pub deassign : Model → ℕ → ℕ → Told
 deassign m u r =
     settle
-    (1 when (noUser u || noRole r)
+    (1 when (userBeyond u || roleBeyond r)
     ∷ 2 when (userMissing m u || roleMissing m r)
     ∷ 5 when not (has (m .assigned u) r)
     ∷ 13 when shedCut (deassigned m u r)
@@ -56,7 +56,7 @@ revoked m p r = withGrants m (put (m .holders) p (without (m .holders p) r)) (m 
 unfoldable pub grant : Model → ℕ → ℕ → ℕ → Told
 grant m op obj r =
     settle
-    (1 when (noPermission op obj || noRole r)
+    (1 when (permissionBeyond op obj || roleBeyond r)
     ∷ 2 when roleMissing m r
     ∷ 4 when has (m .holders (permission op obj)) r
     ∷ 12 when leb mostGrants (m .grantCount)
@@ -69,7 +69,7 @@ grant m op obj r =
 unfoldable pub revoke : Model → ℕ → ℕ → ℕ → Told
 revoke m op obj r =
     settle
-    (1 when (noPermission op obj || noRole r)
+    (1 when (permissionBeyond op obj || roleBeyond r)
     ∷ 2 when roleMissing m r
     ∷ 5 when not (has (m .holders (permission op obj)) r)
     ∷ [])

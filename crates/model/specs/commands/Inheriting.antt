@@ -9,7 +9,7 @@ use Rattle.numbers.specs.Ranges.{mostLines}
 use Rattle.model.specs.Model.{Model, put, withLines}
 use Rattle.model.specs.Sheet.{Told, _when_, settle}
 use Rattle.model.specs.Words.{reached, staticBroken, shed, shedCut}
-use Rattle.model.specs.commands.Naming.{noRole, roleMissing}
+use Rattle.model.specs.commands.Naming.{roleBeyond, roleMissing}
 
 -- the line (senior, junior) stands, one line more; it no longer does, one less
 unfoldable pub lined : Model → ℕ → ℕ → Model
@@ -31,7 +31,7 @@ usersCut m = some 256 (λ u. reached m (m .assigned u) .cut)
 unfoldable pub inherit : Model → ℕ → ℕ → Told
 inherit m senior junior =
     settle
-    (1 when (noRole senior || noRole junior)
+    (1 when (roleBeyond senior || roleBeyond junior)
     ∷ 2 when (roleMissing m senior || roleMissing m junior)
     ∷ 4 when has (m .juniors senior) junior
     ∷ 6 when wouldCircle m senior junior
@@ -47,7 +47,7 @@ inherit m senior junior =
 unfoldable pub disinherit : Model → ℕ → ℕ → Told
 disinherit m senior junior =
     settle
-    (1 when (noRole senior || noRole junior)
+    (1 when (roleBeyond senior || roleBeyond junior)
     ∷ 2 when (roleMissing m senior || roleMissing m junior)
     ∷ 5 when not (has (m .juniors senior) junior)
     ∷ 13 when shedCut (unlined m senior junior)

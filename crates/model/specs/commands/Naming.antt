@@ -9,20 +9,20 @@ use Rattle.model.specs.Model.{Model}
 use Rattle.model.specs.Sheet.{Refusal, _when_}
 
 -- beyond its range
-abbrev pub noUser : ℕ → Bool
-noUser u = leb users u
+abbrev pub userBeyond : ℕ → Bool
+userBeyond u = leb users u
 
-abbrev pub noRole : ℕ → Bool
-noRole r = leb roles r
+abbrev pub roleBeyond : ℕ → Bool
+roleBeyond r = leb roles r
 
-abbrev pub noSession : ℕ → Bool
-noSession s = leb sessions s
+abbrev pub sessionBeyond : ℕ → Bool
+sessionBeyond s = leb sessions s
 
-abbrev pub noSet : ℕ → Bool
-noSet n = leb sets n
+abbrev pub setBeyond : ℕ → Bool
+setBeyond n = leb sets n
 
-abbrev pub noPermission : ℕ → ℕ → Bool
-noPermission op obj = leb operations op || leb objects obj
+abbrev pub permissionBeyond : ℕ → ℕ → Bool
+permissionBeyond op obj = leb operations op || leb objects obj
 
 -- does not exist
 abbrev pub userMissing : Model → ℕ → Bool

@@ -4,14 +4,14 @@ use mathlib.Core.List.{List, [], _∷_}
 use Prim.Native.Nat.{ℕ, zero, suc}
 use lib.Dec.{eqb, leb}
 use Rattle.roleset.specs.Bounded.{bit}
-use Rattle.roleset.specs.Roles.{has, with, without, both, subset, isEmpty}
+use Rattle.roleset.specs.Roles.{has, with, without, common, subset, isEmpty}
 use Rattle.numbers.specs.Ranges.{sessions}
 use Rattle.model.specs.Model.{Model, Session, put, withSessions}
 use Rattle.model.specs.Model as model
 use Rattle.model.specs.Sheet.{Told, _when_, settle}
 use Rattle.model.specs.Words.{reached, authorised, effective, dynamicBroken, permission, sessionsOpen}
 use Rattle.model.specs.Lists.{ascending, someFrom, setOf}
-use Rattle.model.specs.commands.Naming.{noUser, noRole, noSession, noPermission, userMissing, roleMissing, sessionMissing}
+use Rattle.model.specs.commands.Naming.{userBeyond, roleBeyond, sessionBeyond, permissionBeyond, userMissing, roleMissing, sessionMissing}
 
 -- the first number from k on, among so many, that no live session has; the one past them where all are live
 unfoldable pub freeFrom : (ℕ → Session) → ℕ → ℕ → ℕ
@@ -38,7 +38,7 @@ unfoldable pub session : Model → ℕ → List ℕ → Told
 session m u list =
     settle
     (14 when not (ascending list)
-    ∷ 1 when (noUser u || someFrom 64 list)
+    ∷ 1 when (userBeyond u || someFrom 64 list)
     ∷ 2 when (userMissing m u || not (subset (setOf list) (m .roles)))
     ∷ 9 when not (subset (setOf list) (authorised m u))
     ∷ 11 when dynamicBroken (opened m u (setOf list)) (lowestFree m)
@@ -61,7 +61,7 @@ notOwner m u s = not (eqb (m .sessions s .owner) u)
 unfoldable pub activate : Model → ℕ → ℕ → ℕ → Told
 activate m u s r =
     settle
-    (1 when (noUser u || (noSession s || noRole r))
+    (1 when (userBeyond u || (sessionBeyond s || roleBeyond r))
     ∷ 2 when (userMissing m u || (sessionMissing m s || roleMissing m r))
     ∷ 3 when notOwner m u s
     ∷ 4 when has (m .sessions s .active) r
@@ -77,7 +77,7 @@ activate m u s r =
 unfoldable pub drop : Model → ℕ → ℕ → ℕ → Told
 drop m u s r =
     settle
-    (1 when (noUser u || (noSession s || noRole r))
+    (1 when (userBeyond u || (sessionBeyond s || roleBeyond r))
     ∷ 2 when (userMissing m u || (sessionMissing m s || roleMissing m r))
     ∷ 3 when notOwner m u s
     ∷ 5 when not (has (m .sessions s .active) r)
@@ -90,20 +90,20 @@ drop m u s r =
 unfoldable pub end : Model → ℕ → ℕ → Told
 end m u s =
     settle
-    (1 when (noUser u || noSession s) ∷ 2 when (userMissing m u || sessionMissing m s) ∷ 3 when notOwner m u s ∷ [])
+    (1 when (userBeyond u || sessionBeyond s) ∷ 2 when (userMissing m u || sessionMissing m s) ∷ 3 when notOwner m u s ∷ [])
     m
     []
-    (sessionSet m s model.noSession)
+    (sessionSet m s model.closedSession)
 
 -- "Yes exactly when some effective role of the session holds the grant."
 unfoldable pub permitted : Model → ℕ → ℕ → Bool
-permitted m s p = not (isEmpty (both (effective m s) (m .holders p)))
+permitted m s p = not (isEmpty (common (effective m s) (m .holders p)))
 
 -- "`check s op obj`: refusals 1 and 2, else answer 0 with the result 1 for yes or 0 for no."
 unfoldable pub check : Model → ℕ → ℕ → ℕ → Told
 check m s op obj =
     settle
-    (1 when (noSession s || noPermission op obj)
+    (1 when (sessionBeyond s || permissionBeyond op obj)
     ∷ 2 when sessionMissing m s
     ∷ 13 when reached m (m .sessions s .active) .cut
     ∷ [])
@@ -113,4 +113,4 @@ check m s op obj =
 
 -- whose session s is; 1, 2
 unfoldable pub owner : Model → ℕ → Told
-owner m s = settle (1 when noSession s ∷ 2 when sessionMissing m s ∷ []) m (m .sessions s .owner ∷ []) m
+owner m s = settle (1 when sessionBeyond s ∷ 2 when sessionMissing m s ∷ []) m (m .sessions s .owner ∷ []) m

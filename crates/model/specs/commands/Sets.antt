@@ -10,7 +10,7 @@ use Rattle.model.specs.Model as model
 use Rattle.model.specs.Sheet.{Told, Refusal, _when_, settle}
 use Rattle.model.specs.Words.{authorised, breaks, counted}
 use Rattle.model.specs.Lists.{ascending, someFrom, setOf}
-use Rattle.model.specs.commands.Naming.{noRole, noSet, roleMissing}
+use Rattle.model.specs.commands.Naming.{roleBeyond, setBeyond, roleMissing}
 use Rattle.model.specs.commands.Inheriting.{usersCut}
 use Rattle.model.specs.declared.Kind.{Kind}
 use Rattle.model.specs.declared.Kind.the-variants.{Static, Dynamic}
@@ -56,7 +56,7 @@ unfoldable pub makeSet : Kind → Model → ℕ → ℕ → List ℕ → Told
 makeSet kind m name n list =
     settle
     (14 when not (ascending list)
-    ∷ 1 when (noSet name || someFrom 64 list)
+    ∷ 1 when (setBeyond name || someFrom 64 list)
     ∷ 2 when not (subset (setOf list) (m .roles))
     ∷ 4 when setsOf kind m name .there
     ∷ 7 when badCardinality n (setOf list)
@@ -70,7 +70,7 @@ makeSet kind m name n list =
 -- "`nossd name`: 1, 2."
 unfoldable pub dropSet : Kind → Model → ℕ → Told
 dropSet kind m name =
-    settle (1 when noSet name ∷ 2 when setMissing kind m name ∷ []) m [] (withSets kind m (put (setsOf kind m) name model.noSet))
+    settle (1 when setBeyond name ∷ 2 when setMissing kind m name ∷ []) m [] (withSets kind m (put (setsOf kind m) name model.absentSet))
 
 -- "`ssd-add name r`: 1, 2, 4, 10."
 unfoldable pub addMember : Kind → Model → ℕ → ℕ → Told
@@ -78,7 +78,7 @@ addMember kind m name r =
     let old = setsOf kind m name in
     let new = aSet (old .card) (with (old .roles) r) in
     settle
-    (1 when (noSet name || noRole r)
+    (1 when (setBeyond name || roleBeyond r)
     ∷ 2 when (setMissing kind m name || roleMissing m r)
     ∷ 4 when has (old .roles) r
     ∷ ruleNumber kind when broken kind m new
@@ -94,7 +94,7 @@ dropMember kind m name r =
     let old = setsOf kind m name in
     let new = aSet (old .card) (without (old .roles) r) in
     settle
-    (1 when (noSet name || noRole r)
+    (1 when (setBeyond name || roleBeyond r)
     ∷ 2 when (setMissing kind m name || roleMissing m r)
     ∷ 5 when not (has (old .roles) r)
     ∷ 7 when badCardinality (new .card) (new .roles)
@@ -109,7 +109,7 @@ setCardinality kind m name n =
     let old = setsOf kind m name in
     let new = aSet n (old .roles) in
     settle
-    (1 when noSet name
+    (1 when setBeyond name
     ∷ 2 when setMissing kind m name
     ∷ 7 when badCardinality n (new .roles)
     ∷ ruleNumber kind when broken kind m new

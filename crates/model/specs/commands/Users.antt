@@ -9,18 +9,18 @@ use Rattle.model.specs.Model.{Model, RoleSet, Session, put, withUsers, w
 use Rattle.model.specs.Model as model
 use Rattle.model.specs.Sheet.{Told, _when_, settle}
 use Rattle.model.specs.Words.{shed, shedCut}
-use Rattle.model.specs.commands.Naming.{noUser, noRole, userMissing, roleMissing}
+use Rattle.model.specs.commands.Naming.{userBeyond, roleBeyond, userMissing, roleMissing}
 
 -- "`user u`, `role r` add; 1, 4."
 unfoldable pub user : Model → ℕ → Told
-user m u = settle (1 when noUser u ∷ 4 when m .users u ∷ []) m [] (withUsers m (put (m .users) u true))
+user m u = settle (1 when userBeyond u ∷ 4 when m .users u ∷ []) m [] (withUsers m (put (m .users) u true))
 
 unfoldable pub role : Model → ℕ → Told
-role m r = settle (1 when noRole r ∷ 4 when has (m .roles) r ∷ []) m [] (withRoles m (with (m .roles) r))
+role m r = settle (1 when roleBeyond r ∷ 4 when has (m .roles) r ∷ []) m [] (withRoles m (with (m .roles) r))
 
 -- the session of the user u ends; another's stays
 unfoldable pub endedOf : ℕ → Session → Session
-endedOf u s = elim (s .live && eqb (s .owner) u) [ true ↦ model.noSession | false ↦ s ]
+endedOf u s = elim (s .live && eqb (s .owner) u) [ true ↦ model.closedSession | false ↦ s ]
 
 -- "`nouser u`: ends the user's sessions, removes assignments; 1, 2."
 unfoldable pub allEnded : Model → ℕ → Model
@@ -30,7 +30,7 @@ unfoldable pub withoutUser : Model → ℕ → Model
 withoutUser m u = withUsers (withAssignments (allEnded m u) (put (m .assigned) u none) (m .assignmentCount - count (m .assigned u))) (put (m .users) u false)
 
 unfoldable pub nouser : Model → ℕ → Told
-nouser m u = settle (1 when noUser u ∷ 2 when userMissing m u ∷ []) m [] (withoutUser m u)
+nouser m u = settle (1 when userBeyond u ∷ 2 when userMissing m u ∷ []) m [] (withoutUser m u)
 
 -- "the role to be deleted stands in an SSD or DSD set"
 unfoldable pub inSet : (ℕ → RoleSet) → ℕ → Bool
@@ -50,4 +50,4 @@ withoutRole m r = record { users = m .users; roles = without (m .roles) r; junio
 
 -- "`norole r`: removes its assignments, grants and direct lines at either end, then sheds; 1, 2, 8. Roles above and below it are not joined up."
 unfoldable pub norole : Model → ℕ → Told
-norole m r = settle (1 when noRole r ∷ 2 when roleMissing m r ∷ 8 when (inSet (m .ssd) r || inSet (m .dsd) r) ∷ 13 when shedCut (withoutRole m r) ∷ []) m [] (shed (withoutRole m r))
+norole m r = settle (1 when roleBeyond r ∷ 2 when roleMissing m r ∷ 8 when (inSet (m .ssd) r || inSet (m .dsd) r) ∷ 13 when shedCut (withoutRole m r) ∷ []) m [] (shed (withoutRole m r))

@@ -6,14 +6,14 @@ use Prim.Native.Nat.{ℕ}
 use native.Mathlib.Omega.{arith}
 use borrow.Author.Tests.{eqb-true, eq-eqb}
 use Rattle.roleset.proofs.BoundedLaws.{clash}
-use Rattle.model.specs.Model.{Session, noSession}
+use Rattle.model.specs.Model.{Session, closedSession}
 use Rattle.state.specs.View.{view}
 use Rattle.policycheck.proofs.Passing.{tells-no, session-none}
 use Rattle.policycheck.proofs.session_fine.Statement.{statement}
 use Rattle.policycheck.proofs.session_fine.Tie as tie
 
 -- a session that is not live, with no owner and no roles
-nothing : (s : Session) → s .live ≡ false → s .owner ≡ 0 → s .active ≡ 0 → s ≡ noSession
+nothing : (s : Session) → s .live ≡ false → s .owner ≡ 0 → s .active ≡ 0 → s ≡ closedSession
 nothing s p q r =
     ap {B = Session} (λ (b : Bool). record { live = b; owner = s .owner; active = s .active }) p
     ∙ ap {B = Session} (λ (n : ℕ). record { live = false; owner = n; active = s .active }) q

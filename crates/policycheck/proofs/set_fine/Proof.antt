@@ -6,13 +6,13 @@ use Prim.Native.Nat.{ℕ}
 use native.Mathlib.Omega.{arith}
 use borrow.Author.Tests.{eqb-true, eq-eqb}
 use Rattle.roleset.proofs.BoundedLaws.{clash}
-use Rattle.model.specs.Model.{RoleSet, noSet}
+use Rattle.model.specs.Model.{RoleSet, absentSet}
 use Rattle.policycheck.proofs.Passing.{tells-no, set-none}
 use Rattle.policycheck.proofs.set_fine.Statement.{statement}
 use Rattle.policycheck.proofs.set_fine.Tie as tie
 
 -- a set that is not there, with no cardinality and no roles
-nothing : (set : RoleSet) → set .there ≡ false → set .card ≡ 0 → set .roles ≡ 0 → set ≡ noSet
+nothing : (set : RoleSet) → set .there ≡ false → set .card ≡ 0 → set .roles ≡ 0 → set ≡ absentSet
 nothing set p q r =
     ap {B = RoleSet} (λ (b : Bool). record { there = b; card = set .card; roles = set .roles }) p
     ∙ ap {B = RoleSet} (λ (n : ℕ). record { there = false; card = n; roles = set .roles }) q

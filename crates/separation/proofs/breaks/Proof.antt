@@ -7,11 +7,11 @@ use Rattle.separation.proofs.breaks.Tie as tie
 
 returns : tie.Need-returns
 unfolding breaks
-returns c = rw (breaks, c .before .before .before .if1 .taken, ← c .before .before .both .ensures .is) (none-common _ (c .before .before .both .result) (c .before .if2 .taken))
+returns c = rw (breaks, c .before .before .before .if1 .taken, ← c .before .before .common .ensures .is) (none-common _ (c .before .before .common .result) (c .before .if2 .taken))
 
 returns-2 : tie.Need-returns-2
 unfolding breaks
-returns-2 c = rw (breaks, c .before .before .before .before .if1 .taken, ← c .before .before .before .both .ensures .is, ← c .before .count .ensures .0)
+returns-2 c = rw (breaks, c .before .before .before .before .if1 .taken, ← c .before .before .before .common .ensures .is, ← c .before .count .ensures .0)
 
 returns-3 : tie.Need-returns-3
 unfolding breaks

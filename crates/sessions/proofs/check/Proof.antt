@@ -5,13 +5,13 @@ use mathlib.Core.List.{[], _∷_}
 use mathlib.Core.Path.{_≡_, refl, sym, ap, ap₂, _∙_}
 use Prim.Native.Nat.{ℕ}
 use Rattle.roleset.specs.Bounded.{bit}
-use Rattle.roleset.specs.Roles.{both, isEmpty}
+use Rattle.roleset.specs.Roles.{common, isEmpty}
 use Rattle.roleset.proofs.BoundedLaws.{clash}
 use Rattle.hierarchy.specs.declared.Walk.{Walk}
 use Rattle.model.specs.Model.{Model, Session}
 use Rattle.model.specs.Sheet.{verdict, settle, done}
 use Rattle.model.specs.Words.{permission, reached}
-use Rattle.model.specs.commands.Naming.{noSession, noPermission, sessionMissing}
+use Rattle.model.specs.commands.Naming.{sessionBeyond, permissionBeyond, sessionMissing}
 use Rattle.model.specs.commands.Sessions.{check, permitted}
 use Rattle.state.specs.View.{view}
 use Rattle.sessions.specs.Answering.{toldChecked}
@@ -29,7 +29,7 @@ abbrev perm : tie.Start → ℕ
 perm c = permission (c .args .op) (c .args .obj)
 
 abbrev beyond : tie.Start → Bool
-beyond c = noSession (number c) || noPermission (c .args .op) (c .args .obj)
+beyond c = sessionBeyond (number c) || permissionBeyond (c .args .op) (c .args .obj)
 
 -- from the place past each refusal back to the one before it
 abbrev to-start : tie.Else1 → tie.Start
@@ -74,7 +74,7 @@ returns-3 c =
 -- yes or no, in the words of the definition
 answered : (c : tie.After-is-empty) → let s = to-start (to-1 (to-2 (c .before .before .before))) in not (c .is-empty .result) ≡ permitted (m s) (number s) (perm s)
 unfolding permitted
-answered c = ap not (c .is-empty .ensures .is ∙ ap isEmpty (c .before .both .ensures .is ∙ ap₂ (λ (w : Walk) (h : ℕ). both (w .roles) h) (sym (walked (c .before .before .before .before))) (c .before .before .holders-of .ensures)))
+answered c = ap not (c .is-empty .ensures .is ∙ ap isEmpty (c .before .common .ensures .is ∙ ap₂ (λ (w : Walk) (h : ℕ). common (w .roles) h) (sym (walked (c .before .before .before .before))) (c .before .before .holders-of .ensures)))
 
 returns-4 : tie.Need-returns-4
 unfolding toldChecked check settle verdict

@@ -8,7 +8,7 @@ use Prim.Native.Nat.{ℕ}
 use Rattle.roleset.proofs.BoundedLaws.{or-clear}
 use Rattle.model.specs.Model.{Model, Session}
 use Rattle.model.specs.Sheet.{verdict, settle, done}
-use Rattle.model.specs.commands.Naming.{noUser, noSession, userMissing, sessionMissing}
+use Rattle.model.specs.commands.Naming.{userBeyond, sessionBeyond, userMissing, sessionMissing}
 use Rattle.model.specs.commands.Sessions.{end}
 use Rattle.state.specs.View.{view, told}
 use Rattle.state.proofs.Stored.{in-range}
@@ -27,7 +27,7 @@ number c = c .args .x .number
 
 -- the refusals' conditions, in the words of the definition
 abbrev beyond : tie.Start → Bool
-beyond s = noUser (user s) || noSession (number s)
+beyond s = userBeyond (user s) || sessionBeyond (number s)
 
 abbrev missing : tie.Start → Bool
 missing s = userMissing (m s) (user s) || sessionMissing (m s) (number s)
@@ -77,7 +77,7 @@ returns-4 c =
     let c1 = to-1 c2 in
     let s = to-start c1 in
     rw (clear-1 c1, clear-2 c2, owner c2, eq-eqb _ _ (c .before .before .if3 .left))
-    (ap (done []) (c .close-session .ensures ∙ in-range 64 (number s) _ _ (leb-false 64 (number s) (or-clear (noUser (user s)) _ (clear-1 c1) .1))))
+    (ap (done []) (c .close-session .ensures ∙ in-range 64 (number s) _ _ (leb-false 64 (number s) (or-clear (userBeyond (user s)) _ (clear-1 c1) .1))))
 
 pub end-spec : {M : Type 1} → statement M
 end-spec =

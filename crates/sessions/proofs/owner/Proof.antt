@@ -7,7 +7,7 @@ use Prim.Native.Nat.{ℕ}
 use Rattle.roleset.proofs.BoundedLaws.{clash}
 use Rattle.model.specs.Model.{Model, Session}
 use Rattle.model.specs.Sheet.{verdict, settle, done}
-use Rattle.model.specs.commands.Naming.{noSession, sessionMissing}
+use Rattle.model.specs.commands.Naming.{sessionBeyond, sessionMissing}
 use Rattle.model.specs.commands.Sessions.{owner}
 use Rattle.state.specs.View.{view}
 use Rattle.sessions.specs.Answering.{toldOwned}
@@ -24,10 +24,10 @@ abbrev to-start : tie.After-session-at → tie.Start
 to-start c = c .before .before .before
 
 -- what each test finds, in the words of the definition
-found-1 : (c : tie.After-session-beyond) → noSession (number (c .before)) ≡ c .session-beyond .result
+found-1 : (c : tie.After-session-beyond) → sessionBeyond (number (c .before)) ≡ c .session-beyond .result
 found-1 c = sym (c .session-beyond .ensures)
 
-clear-1 : (c : tie.Else1) → noSession (number (c .before .before)) ≡ false
+clear-1 : (c : tie.Else1) → sessionBeyond (number (c .before .before)) ≡ false
 clear-1 c = found-1 (c .before) ∙ c .if1 .left
 
 -- the session, as read

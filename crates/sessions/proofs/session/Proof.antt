@@ -15,7 +15,7 @@ use Rattle.model.specs.Model.{Model}
 use Rattle.model.specs.Sheet.{verdict, settle, done}
 use Rattle.model.specs.Words.{reached, authorised, breaksSome, dynamicBroken, sessionsOpen}
 use Rattle.model.specs.Lists.{ascending, someFrom, setOf}
-use Rattle.model.specs.commands.Naming.{noUser, userMissing}
+use Rattle.model.specs.commands.Naming.{userBeyond, userMissing}
 use Rattle.model.specs.commands.Sessions.{session, opened, openFor, sessionSet, lowestFree}
 use Rattle.state.specs.Stores.{inRange}
 use Rattle.state.specs.View.{view}
@@ -41,7 +41,7 @@ abbrev unordered : tie.Start → Bool
 unordered s = not (ascending (list s))
 
 abbrev beyond : tie.Start → Bool
-beyond s = noUser (user s) || someFrom 64 (list s)
+beyond s = userBeyond (user s) || someFrom 64 (list s)
 
 abbrev missing : tie.Start → Bool
 missing s = userMissing (m s) (user s) || not (subset (setOf (list s)) (m s .roles))

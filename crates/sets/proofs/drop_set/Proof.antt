@@ -7,7 +7,7 @@ use mathlib.Core.Path.{_≡_, sym, ap, _∙_}
 use Prim.Native.Nat.{ℕ}
 use Rattle.model.specs.Model.{Model}
 use Rattle.model.specs.Sheet.{verdict, settle, done}
-use Rattle.model.specs.commands.Naming.{noSet}
+use Rattle.model.specs.commands.Naming.{setBeyond}
 use Rattle.model.specs.commands.Sets.{setsOf, dropSet}
 use Rattle.model.specs.declared.Kind.{Kind}
 use Rattle.state.specs.View.{view, told}
@@ -30,7 +30,7 @@ abbrev to-start : tie.After-set-named → tie.Start
 to-start c = c .before .before .before .before
 
 -- past refusal 1 the name is within its range; the set by the name is the one looked up
-clear-1 : (c : tie.Else1) → noSet (name (c .before .before)) ≡ false
+clear-1 : (c : tie.Else1) → setBeyond (name (c .before .before)) ≡ false
 clear-1 c = sym (c .before .set-beyond .ensures) ∙ c .if1 .left
 
 old : (c : tie.After-set-named) → let s = to-start c in setsOf (kind s) (m s) (name s) ≡ c .set-named .result

@@ -9,7 +9,7 @@ use Rattle.numbers.specs.Answers.{numberOf}
 use Rattle.model.specs.Lists.{ascending, someFrom, setOf}
 use Rattle.model.specs.Model.{Model}
 use Rattle.model.specs.Sheet.{Refusal, verdict, settle}
-use Rattle.model.specs.commands.Naming.{noSet}
+use Rattle.model.specs.commands.Naming.{setBeyond}
 use Rattle.model.specs.commands.Sets.{setsOf, aSet, badCardinality, makeSet}
 use Rattle.model.specs.declared.Kind.{Kind}
 use Rattle.state.specs.Stores.{setStored}
@@ -68,10 +68,10 @@ clear-1 c = ap not (sym (c .before .before .read .ensures .ascending)) ∙ c .if
 asked-of : (c : tie.Else1) → setOf (list (to-start c)) ≡ c .before .before .read .result .roles
 asked-of c = sym (c .before .before .read .ensures .roles)
 
-found-2 : (c : tie.After-either) → let s = to-start (c .before .before) in (noSet (name s) || someFrom 64 (list s)) ≡ c .either .result
+found-2 : (c : tie.After-either) → let s = to-start (c .before .before) in (setBeyond (name s) || someFrom 64 (list s)) ≡ c .either .result
 found-2 c = rw (← c .before .set-beyond .ensures, ← c .before .before .before .before .read .ensures .beyond) (sym (c .either .ensures))
 
-clear-2 : (c : tie.Else2) → let s = to-start (to-1 c) in (noSet (name s) || someFrom 64 (list s)) ≡ false
+clear-2 : (c : tie.Else2) → let s = to-start (to-1 c) in (setBeyond (name s) || someFrom 64 (list s)) ≡ false
 clear-2 c = found-2 (c .before) ∙ c .if2 .left
 
 found-3 : (c : tie.After-subset) → let s = to-start (to-1 (c .before .before .before)) in not (subset (setOf (list s)) (m s .roles)) ≡ not (c .subset .result)

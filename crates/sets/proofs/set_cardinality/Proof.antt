@@ -8,7 +8,7 @@ use Prim.Native.Nat.{ℕ}
 use Rattle.numbers.specs.Answers.{numberOf}
 use Rattle.model.specs.Model.{Model, RoleSet}
 use Rattle.model.specs.Sheet.{Refusal, verdict, settle}
-use Rattle.model.specs.commands.Naming.{noSet}
+use Rattle.model.specs.commands.Naming.{setBeyond}
 use Rattle.model.specs.commands.Sets.{setsOf, aSet, badCardinality, setCardinality}
 use Rattle.model.specs.declared.Kind.{Kind}
 use Rattle.state.specs.Stores.{setStored}
@@ -49,7 +49,7 @@ abbrev to-2 : tie.After-rule-refusal → tie.Else2
 to-2 c = c .before .before .before .before
 
 -- what the tests find, and what is known past them
-clear-1 : (c : tie.Else1) → noSet (name (to-start c)) ≡ false
+clear-1 : (c : tie.Else1) → setBeyond (name (to-start c)) ≡ false
 clear-1 c = sym (c .before .set-beyond .ensures) ∙ c .if1 .left
 
 old : (c : tie.After-set-named) → set (to-start (to-1 c)) ≡ c .set-named .result

@@ -9,7 +9,7 @@ use native.Mathlib.Omega.{arith}
 use Rattle.model.specs.Model.{Model}
 use Rattle.model.specs.Sheet.{verdict, settle, done}
 use Rattle.model.specs.Words.{shed, shedCut}
-use Rattle.model.specs.commands.Naming.{noRole, roleMissing}
+use Rattle.model.specs.commands.Naming.{roleBeyond, roleMissing}
 use Rattle.model.specs.commands.Users.{norole, withoutRole, inSet}
 use Rattle.state.specs.View.{view, told}
 use Rattle.users.proofs.Laws.{few, role-cut, role-gone}
@@ -40,7 +40,7 @@ abbrev to-strip : tie.After-shed → tie.After-strip
 to-strip c = c .before .before .before .before .before .before .before .before .before .before .before
 
 -- what the tests find, and what is known past them
-clear-1 : (c : tie.Else1) → noRole (name (to-start c)) ≡ false
+clear-1 : (c : tie.Else1) → roleBeyond (name (to-start c)) ≡ false
 clear-1 c = sym (c .before .role-beyond .ensures) ∙ c .if1 .left
 
 within : (c : tie.Else1) → name (to-start c) < 64

@@ -8,7 +8,7 @@ use Prim.Native.Nat.{ℕ, _-_}
 use Rattle.roleset.specs.Roles.{count}
 use Rattle.model.specs.Model.{Model}
 use Rattle.model.specs.Sheet.{verdict, settle, done}
-use Rattle.model.specs.commands.Naming.{noUser, userMissing}
+use Rattle.model.specs.commands.Naming.{userBeyond, userMissing}
 use Rattle.model.specs.commands.Users.{nouser}
 use Rattle.state.specs.View.{view, told}
 use Rattle.users.proofs.Laws.{user-gone}
@@ -26,7 +26,7 @@ name c = c .args .u .number
 abbrev to-start : tie.Else1 → tie.Start
 to-start c = c .before .before
 
-clear-1 : (c : tie.Else1) → noUser (name (to-start c)) ≡ false
+clear-1 : (c : tie.Else1) → userBeyond (name (to-start c)) ≡ false
 clear-1 c = sym (c .before .user-beyond .ensures) ∙ c .if1 .left
 
 found-2 : (c : tie.After-has-user) → let s = to-start (c .before .before) in userMissing (m s) (name s) ≡ not (c .has-user .result)

@@ -7,7 +7,7 @@ use Prim.Native.Nat.{ℕ}
 use Rattle.roleset.specs.Roles.{has, with}
 use Rattle.model.specs.Model.{Model, withRoles}
 use Rattle.model.specs.Sheet.{verdict, settle, done}
-use Rattle.model.specs.commands.Naming.{noRole}
+use Rattle.model.specs.commands.Naming.{roleBeyond}
 use Rattle.model.specs.commands.Users.{role}
 use Rattle.state.specs.View.{view, told}
 use Rattle.users.proofs.role.Statement.{statement}
@@ -24,7 +24,7 @@ name c = c .args .r .number
 abbrev to-start : tie.Else1 → tie.Start
 to-start c = c .before .before
 
-clear-1 : (c : tie.Else1) → noRole (name (to-start c)) ≡ false
+clear-1 : (c : tie.Else1) → roleBeyond (name (to-start c)) ≡ false
 clear-1 c = sym (c .before .role-beyond .ensures) ∙ c .if1 .left
 
 found-2 : (c : tie.After-has-role) → let s = to-start (c .before .before) in has (m s .roles) (name s) ≡ c .has-role .result

@@ -7,7 +7,7 @@ use mathlib.Core.Path.{_≡_, sym, ap, _∙_}
 use Prim.Native.Nat.{ℕ}
 use Rattle.model.specs.Model.{Model}
 use Rattle.model.specs.Sheet.{verdict, settle, done}
-use Rattle.model.specs.commands.Naming.{noUser}
+use Rattle.model.specs.commands.Naming.{userBeyond}
 use Rattle.model.specs.commands.Users.{user}
 use Rattle.state.specs.View.{view, told}
 use Rattle.state.proofs.Stored.{in-range}
@@ -25,7 +25,7 @@ name c = c .args .u .number
 abbrev to-start : tie.Else1 → tie.Start
 to-start c = c .before .before
 
-clear-1 : (c : tie.Else1) → noUser (name (to-start c)) ≡ false
+clear-1 : (c : tie.Else1) → userBeyond (name (to-start c)) ≡ false
 clear-1 c = sym (c .before .user-beyond .ensures) ∙ c .if1 .left
 
 found-2 : (c : tie.After-has-user) → let s = to-start (c .before .before) in m s .users (name s) ≡ c .has-user .result

@@ -1,10 +1,10 @@
 -- The machine's `&` is the intersection. Assumes nothing.
 use Rattle.roleset.proofs.Machine.{and-made}
-use Rattle.roleset.proofs.both.Statement.{statement}
-use Rattle.roleset.proofs.both.Tie as tie
+use Rattle.roleset.proofs.common.Statement.{statement}
+use Rattle.roleset.proofs.common.Tie as tie
 
 returns : tie.Need-returns
 returns c = and-made (c .args .a) (c .args .b) (c .fits .a .fits) (c .fits .b .fits)
 
-pub both-spec : {M : Type 1} → statement M
-both-spec = tie.close (tie.spec returns)
+pub common-spec : {M : Type 1} → statement M
+common-spec = tie.close (tie.spec returns)
