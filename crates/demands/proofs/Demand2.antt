@@ -9,39 +9,30 @@ use lib.Dec.{eqb}
 use borrow.Author.Tests.{eqb-true}
 use Rattle.roleset.specs.Bounded.{bit}
 use Rattle.roleset.specs.Roles.{has}
-use Rattle.roleset.proofs.BoundedLaws.{clash, never, some-intro, some-elim}
+use Rattle.roleset.proofs.BoundedLaws.{clash, never}
 use Rattle.model.specs.Model.{Model}
 use Rattle.model.specs.Sheet.{Refusal, _when_, Told, verdict, settle}
 use Rattle.model.specs.Sound.{Sound}
 use Rattle.model.specs.Step.{step}
-use Rattle.model.specs.Words.{authorised, effective, counted, breaks, breaksSome, staticBroken, dynamicBroken, permission}
-use Rattle.model.specs.commands.Sets.{setsOf}
+use Rattle.model.specs.Words.{effective, permission}
 use Rattle.model.specs.commands.Sessions.{permitted, check}
-use Rattle.model.specs.declared.Kind.the-variants.{Static, Dynamic}
-use Rattle.sound.proofs.Asked.{opened-asks-all, room-asks-all}
-use Rattle.sound.proofs.Breaking.{breaks-exact}
-use Rattle.sound.proofs.Inheriting.{circle-exact}
 use Rattle.sound.proofs.Listed.{check-listed}
-use Rattle.sound.proofs.Sessions.{lowest-free}
-use Rattle.sound.proofs.Sets.{shape-of}
-use Rattle.sound.proofs.Shedding.{inSet-exact}
 use Rattle.sound.proofs.Sheet.{AllClear, rank, positive, ordered, clear-done, done-clear, verdict-here, verdict-later, verdict-lowest, settle-answer, settle-done, settle-refused, settle-same}
-use Rattle.sound.proofs.Words.{effective-exact, permitted-exact, listed-within}
-use Rattle.demands.specs.Demand2.{Demand2, Exactly, Obeys, Answers, Applies, FirstToApply, place, refusals, results, effect, checkRefusals, Granted, Conditions, wouldBreak, StaticBroken, DynamicBroken}
-use Rattle.demands.specs.Reachable.{Reachable}
+use Rattle.sound.proofs.Words.{effective-exact, permitted-exact}
+use Rattle.demands.specs.Demand2.{Demand2, Exactly, Obeys, Answers, Applies, FirstToApply, place, refusals, results, effect, checkRefusals, Granted}
 use Rattle.demands.proofs.Commands.{shown}
 use Rattle.demands.proofs.Kept.{reachable-sound}
 
 -- ---- the answer sheet: the verdict is the first number that applies
 
 -- Where no condition holds no number applies,
-none-applies : (list : List Refusal) → AllClear list → (n : ℕ) → Applies list n → ⊥
+pub none-applies : (list : List Refusal) → AllClear list → (n : ℕ) → Applies list n → ⊥
 none-applies [] c n m = List·Memᴰ·not-nil m
 none-applies (r ∷ rest) c n (List·Memᴰ·head e) = clash (r .holds) (sym (ap (λ (x : Refusal). x .holds) e)) (c .0)
 none-applies (r ∷ rest) c n (List·Memᴰ·tail m) = none-applies rest (c .1) n m
 
 -- and where no number applies no condition holds.
-applies-none : (list : List Refusal) → ((n : ℕ) → Applies list n → ⊥) → AllClear list
+pub applies-none : (list : List Refusal) → ((n : ℕ) → Applies list n → ⊥) → AllClear list
 applies-none [] f = tt
 applies-none (r ∷ rest) f = (never (r .holds) (λ h. f (r .number) (List·Memᴰ·head (λ i. record { number = r .number; holds = sym h i }))), applies-none rest (λ n m. f n (List·Memᴰ·tail m)))
 
@@ -68,7 +59,7 @@ rank-one a b na nb e = go (eqb a 14) refl (eqb b 14) refl
     go false p false q = sym (at a false p) ∙ e ∙ at b false q
 
 -- One law for all commands: what is settled by a list in the sheet's order is told exactly so.
-exactly : (list : List Refusal) (m : Model) (results : List ℕ) (after : Model) (told : Told) → ordered list ≡ true → positive list ≡ true → told ≡ settle list m results after → Exactly m list results after told
+pub exactly : (list : List Refusal) (m : Model) (results : List ℕ) (after : Model) (told : Told) → ordered list ≡ true → positive list ≡ true → told ≡ settle list m results after → Exactly m list results after told
 exactly list m results after told ord pos e =
     record {
       refused = λ n nz. (to n nz, back n nz);
@@ -137,50 +128,7 @@ access m p k op obj =
     back : Granted m k (permission op obj) → (r : ℕ) × (has (effective m k) r ≡ true) × (has (m .holders (permission op obj)) r ≡ true)
     back g = (g .role, effective-exact m s k (g .role) .1 (g .effective .exists, g .effective .through), g .holds)
 
--- ---- the conditions
-
-conditions : (m : Model) → Reachable m → Conditions m
-conditions m p =
-    record {
-      circle = circle-exact m s;
-      inSome = λ kind r. inSet-exact m (setsOf kind m) (shape-of kind m (s .shape)) r;
-      listed = listed-within;
-      room = λ u roles free. sym (opened-asks-all m s u roles) ∙ room-asks-all m s u roles free;
-      lowest = λ free. let f = lowest-free m free in (f .within, f .free, λ k l. f .lowest k (omega arith) l);
-    }
-  where
-    s : Sound m
-    s = reachable-sound p
-
-static : (after : Model) → (wouldBreak Static after ≡ true) ↔ StaticBroken after
-unfolding staticBroken breaksSome
-static after = (to, back)
-  where
-    to : wouldBreak Static after ≡ true → StaticBroken after
-    to e =
-        let who = some-elim 256 (staticBroken after) e in
-        let which = some-elim 16 (λ n. breaks (after .ssd n) (authorised after (who .0))) (who .2) in
-        let broken = breaks-exact (after .ssd (which .0)) (authorised after (who .0)) .0 (which .2) in
-        record { user = who .0; name = which .0; numbered = (who .1, which .1); there = broken .0; many = broken .1 }
-
-    back : StaticBroken after → wouldBreak Static after ≡ true
-    back b = some-intro 256 (staticBroken after) (b .user) (b .numbered .0) (some-intro 16 (λ n. breaks (after .ssd n) (authorised after (b .user))) (b .name) (b .numbered .1) (breaks-exact (after .ssd (b .name)) (authorised after (b .user)) .1 (b .there, b .many)))
-
-dynamic : (after : Model) → (wouldBreak Dynamic after ≡ true) ↔ DynamicBroken after
-unfolding dynamicBroken breaksSome
-dynamic after = (to, back)
-  where
-    to : wouldBreak Dynamic after ≡ true → DynamicBroken after
-    to e =
-        let where-broken = some-elim 64 (dynamicBroken after) e in
-        let which = some-elim 16 (λ n. breaks (after .dsd n) (counted after (where-broken .0))) (where-broken .2) in
-        let broken = breaks-exact (after .dsd (which .0)) (counted after (where-broken .0)) .0 (which .2) in
-        record { session = where-broken .0; name = which .0; numbered = (where-broken .1, which .1); there = broken .0; many = broken .1 }
-
-    back : DynamicBroken after → wouldBreak Dynamic after ≡ true
-    back b = some-intro 64 (dynamicBroken after) (b .session) (b .numbered .0) (some-intro 16 (λ n. breaks (after .dsd n) (counted after (b .session))) (b .name) (b .numbered .1) (breaks-exact (after .dsd (b .name)) (counted after (b .session)) .1 (b .there, b .many)))
-
 -- each command changes exactly what the paper says and is refused exactly in the listed cases; access is granted exactly when an effective role
 -- holds the permission
 pub demand2 : Demand2
-demand2 = record { commands = commands; access = access; conditions = conditions; static = static; dynamic = dynamic }
+demand2 = record { commands = commands; access = access }

@@ -167,7 +167,10 @@ unfolding effect refusals withoutUser allEnded withoutRole assigned deassigned g
 changed m (AddUser u) list s t c = record { users = user-there (m .users) (u .number); only = refl }
 changed m (AddRole r) list s t c = record { roles = λ q. with-each (m .roles) (r .number) q (s .shape .roles) (leb-false 64 (r .number) (c .0)); only = refl }
 changed m (NoUser u) list s t c = record { users = user-gone (m .users) (u .number); assigned = emptied (m .assigned) (u .number); ended = λ k. ended (u .number) (m .sessions k); others = λ k. not-ended (u .number) (m .sessions k); only = ap (λ (n : ℕ). withUsers (withAssignments (allEnded m (u .number)) (withoutUser m (u .number) .assigned) n) (withoutUser m (u .number) .users)) (t .counted .assigned) }
-changed m (NoRole r) list s t c = record { roles = λ q. without-each (m .roles) (r .number) q (s .shape .roles); lines = λ a b. lines-stripped (m .juniors) (r .number) a b (λ k. s .shape .juniors k .small); assigned = λ v q. without-each (m .assigned v) (r .number) q (s .shape .assigned v .small); grants = λ p q. without-each (m .holders p) (r .number) q (s .shape .holders p .small); shedding = shedding m (withoutRole m (r .number)) s t refl; users = refl; ssd = refl; dsd = refl }
+changed m (NoRole r) list s t c = record { roles = λ q. without-each (m .roles) (r .number) q (s .shape .roles); lines = λ a b. lines-stripped (m .juniors) (r .number) a b (λ k. s .shape .juniors k .small); assigned = λ v q. without-each (m .assigned v) (r .number) q (s .shape .assigned v .small); grants = λ p q. without-each (m .holders p) (r .number) q (s .shape .holders p .small); shedding = shedding m (withoutRole m (r .number)) s t refl; only = λ i. record { users = m .users; roles = x .roles; juniors = x .juniors; assigned = x .assigned; holders = x .holders; ssd = m .ssd; dsd = m .dsd; sessions = x .sessions; assignmentCount = t .counted .assigned i; grantCount = t .counted .granted i; lineCount = t .counted .lined i } }
+  where
+    x : Model
+    x = effect m (NoRole r) list
 changed m (Assign u r) list s t c = record { assigned = added (m .assigned) (u .number) (r .number) (λ k. s .shape .assigned k .small) (leb-false 64 (r .number) (or-no (userBeyond (u .number)) (roleBeyond (r .number)) (c .0) .1)); only = ap (withAssignments m (assigned m (u .number) (r .number) .assigned)) (t .counted .assigned) }
 changed m (Deassign u r) list s t c = record { assigned = removed (m .assigned) (u .number) (r .number) (λ k. s .shape .assigned k .small); shedding = shedding m (deassigned m (u .number) (r .number)) s t refl; only = ap (λ (n : ℕ). shed (withAssignments m (deassigned m (u .number) (r .number) .assigned) n)) (t .counted .assigned) }
 changed m (Grant op obj r) list s t c = record { grants = added (m .holders) (words.permission op obj) (r .number) (λ k. s .shape .holders k .small) (leb-false 64 (r .number) (or-no (naming.permissionBeyond op obj) (roleBeyond (r .number)) (c .0) .1)); only = ap (withGrants m (granted m (words.permission op obj) (r .number) .holders)) (t .counted .granted) }

@@ -1,10 +1,15 @@
+pub mod Many
+pub mod Counts
+pub mod Broken
 pub mod Settled
 pub mod Commands
 pub mod Questions
 pub mod Kept
 pub mod Demand1
 pub mod Demand2
+pub mod Cases
 pub mod Demand3
+pub mod Conditions
 pub mod Effects
 pub mod PolicyFile
 pub mod Room

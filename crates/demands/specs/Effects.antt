@@ -22,10 +22,11 @@ use Rattle.demands.specs.Reachable.{Reachable}
 
 -- ---- a table of sets of roles: the assignments by user, the lines by senior, the grants by permission
 
--- the pair (i, r) is there besides those that were; it alone is gone
+-- The pair (i, r) stands in the table after, besides those that stood before.
 abbrev pub Added : (ℕ → ℕ) → (ℕ → ℕ) → ℕ → ℕ → Type 0
 Added before after i r = (k q : ℕ) → has (after k) q ≡ (has (before k) q || (eqb k i && eqb q r))
 
+-- Every pair that stood before stands after, but for (i, r).
 abbrev pub Removed : (ℕ → ℕ) → (ℕ → ℕ) → ℕ → ℕ → Type 0
 Removed before after i r = (k q : ℕ) → has (after k) q ≡ (has (before k) q && not (eqb k i && eqb q r))
 
@@ -62,9 +63,7 @@ pub record RoleGone (m after : Model) (r : ℕ) : Type 0 where
   pub assigned : (v q : ℕ) → has (after .assigned v) q ≡ (has (m .assigned v) q && not (eqb q r))
   pub grants : (p q : ℕ) → has (after .holders p) q ≡ (has (m .holders p) q && not (eqb q r))
   pub shedding : Shed m after
-  pub users : after .users ≡ m .users
-  pub ssd : after .ssd ≡ m .ssd
-  pub dsd : after .dsd ≡ m .dsd
+  pub only : after ≡ withSessions (withRoles (withHolders (withAssigned (withJuniors m (after .juniors)) (after .assigned)) (after .holders)) (after .roles)) (after .sessions)
 
 -- ---- assignments, grants and lines
 

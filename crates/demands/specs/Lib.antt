@@ -1,7 +1,10 @@
+pub mod Many
 pub mod Authorised
 pub mod Reachable
 pub mod Demand1
+pub mod Broken
 pub mod Demand2
+pub mod Conditions
 pub mod Demand3
 pub mod Effects
 pub mod PolicyFile

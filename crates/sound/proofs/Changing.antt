@@ -63,6 +63,22 @@ held Dynamic m s = counted m s
 abbrev pub shrunk : Model → Model → Model
 shrunk m m′ = record { users = m′ .users; roles = m′ .roles; juniors = m′ .juniors; assigned = m′ .assigned; holders = m′ .holders; ssd = m .ssd; dsd = m .dsd; sessions = m′ .sessions; assignmentCount = m′ .assignmentCount; grantCount = m′ .grantCount; lineCount = m′ .lineCount }
 
+-- ---- the shape after a change, whether or not a rule is broken then
+
+module _ (m : Model) (x : Shape m) where
+  -- Other lines between existing roles,
+  pub lines-shape : (new : ℕ → ℕ) (n : ℕ) → ((a j : ℕ) → line new a j ≡ true → has (m .roles) a ≡ true) → ((a : ℕ) → Existing m (new a)) → Shape (withLines m new n)
+  lines-shape new n seniors existing = same-shape m (withLines m new n) x refl refl (record { seniors = seniors; juniors = existing; assignees = x .assignees; assigned = x .assigned; permissions = x .permissions; holders = x .holders; ssd = x .ssd; dsd = x .dsd; sessions = x .sessions })
+
+  -- other assignments of existing roles to existing users,
+  pub assigned-shape : (new : ℕ → ℕ) (n : ℕ) → ((u r : ℕ) → has (new u) r ≡ true → m .users u ≡ true) → ((u : ℕ) → Existing m (new u)) → Shape (withAssignments m new n)
+  assigned-shape new n assignees existing = same-shape m (withAssignments m new n) x refl refl (record { seniors = x .seniors; juniors = x .juniors; assignees = assignees; assigned = existing; permissions = x .permissions; holders = x .holders; ssd = x .ssd; dsd = x .dsd; sessions = x .sessions })
+
+  -- and other sets of the right shape.
+  pub sets-shape : (kind : Kind) (new : ℕ → RoleSet) → ((n : ℕ) → SetShape m n (new n)) → Shape (withSets kind m new)
+  sets-shape Static new shaped = same-shape m (withSsd m new) x refl refl (record { seniors = x .seniors; juniors = x .juniors; assignees = x .assignees; assigned = x .assigned; permissions = x .permissions; holders = x .holders; ssd = shaped; dsd = x .dsd; sessions = x .sessions })
+  sets-shape Dynamic new shaped = same-shape m (withDsd m new) x refl refl (record { seniors = x .seniors; juniors = x .juniors; assignees = x .assignees; assigned = x .assigned; permissions = x .permissions; holders = x .holders; ssd = x .ssd; dsd = shaped; sessions = x .sessions })
+
 -- ---- a part that grows, or is changed at some places
 
 module _ (m : Model) (s : Sound m) where
@@ -82,9 +98,8 @@ module _ (m : Model) (s : Sound m) where
   pub lines-changed : (new : ℕ → ℕ) (n : ℕ) → ((a j : ℕ) → line (m .juniors) a j ≡ true → line new a j ≡ true) → ((a j : ℕ) → line new a j ≡ true → has (m .roles) a ≡ true) → ((a : ℕ) → Existing m (new a)) → n ≡ standing 64 new → n ≤ 512 → Acyclic new → ((u : ℕ) → staticBroken (withLines m new n) u ≡ false) → Sound (withLines m new n)
   unfolding dynamicBroken assignments grants linesStanding
   lines-changed new n grown seniors existing counted few acyclic unbroken =
-      let x = s .shape in
       record {
-        shape = same-shape m (withLines m new n) x refl refl (record { seniors = seniors; juniors = existing; assignees = x .assignees; assigned = x .assigned; permissions = x .permissions; holders = x .holders; ssd = x .ssd; dsd = x .dsd; sessions = x .sessions });
+        shape = lines-shape m (s .shape) new n seniors existing;
         limits = record { assigned = s .limits .assigned; granted = s .limits .granted; lined = rw counted at few };
         counted = record { assigned = s .counted .assigned; granted = s .counted .granted; lined = counted };
         rules = record { acyclic = acyclic; active = λ k r e. let from = m .assigned (m .sessions k .owner) in reach-grows (m .juniors) new from from (λ a j la lj. grown a j) (λ a la h. h) r (s .rules .active k r e); static = unbroken; dynamic = s .rules .dynamic };
@@ -94,9 +109,8 @@ module _ (m : Model) (s : Sound m) where
   pub assigned-changed : (new : ℕ → ℕ) (n : ℕ) → ((u r : ℕ) → has (m .assigned u) r ≡ true → has (new u) r ≡ true) → ((u r : ℕ) → has (new u) r ≡ true → m .users u ≡ true) → ((u : ℕ) → Existing m (new u)) → n ≡ standing 256 new → n ≤ 2048 → ((u : ℕ) → staticBroken (withAssignments m new n) u ≡ false) → Sound (withAssignments m new n)
   unfolding dynamicBroken assignments grants linesStanding
   assigned-changed new n grown assignees existing counted few unbroken =
-      let x = s .shape in
       record {
-        shape = same-shape m (withAssignments m new n) x refl refl (record { seniors = x .seniors; juniors = x .juniors; assignees = assignees; assigned = existing; permissions = x .permissions; holders = x .holders; ssd = x .ssd; dsd = x .dsd; sessions = x .sessions });
+        shape = assigned-shape m (s .shape) new n assignees existing;
         limits = record { assigned = rw counted at few; granted = s .limits .granted; lined = s .limits .lined };
         counted = record { assigned = counted; granted = s .counted .granted; lined = s .counted .lined };
         rules = record { acyclic = s .rules .acyclic; active = λ k r e. let u = m .sessions k .owner in reach-grows (m .juniors) (m .juniors) (m .assigned u) (new u) (λ a j la lj h. h) (λ a la. grown u a) r (s .rules .active k r e); static = unbroken; dynamic = s .rules .dynamic };
@@ -130,17 +144,15 @@ module _ (m : Model) (s : Sound m) where
   pub sets-changed : (kind : Kind) (new : ℕ → RoleSet) → ((n : ℕ) → SetShape m n (new n)) → ((i : ℕ) → breaksSome new (held kind m i) ≡ false) → Sound (withSets kind m new)
   unfolding staticBroken dynamicBroken assignments grants linesStanding
   sets-changed Static new shaped unbroken =
-      let x = s .shape in
       record {
-        shape = same-shape m (withSsd m new) x refl refl (record { seniors = x .seniors; juniors = x .juniors; assignees = x .assignees; assigned = x .assigned; permissions = x .permissions; holders = x .holders; ssd = shaped; dsd = x .dsd; sessions = x .sessions });
+        shape = sets-shape m (s .shape) Static new shaped;
         limits = record { assigned = s .limits .assigned; granted = s .limits .granted; lined = s .limits .lined };
         counted = record { assigned = s .counted .assigned; granted = s .counted .granted; lined = s .counted .lined };
         rules = record { acyclic = s .rules .acyclic; active = s .rules .active; static = unbroken; dynamic = s .rules .dynamic };
       }
   sets-changed Dynamic new shaped unbroken =
-      let x = s .shape in
       record {
-        shape = same-shape m (withDsd m new) x refl refl (record { seniors = x .seniors; juniors = x .juniors; assignees = x .assignees; assigned = x .assigned; permissions = x .permissions; holders = x .holders; ssd = x .ssd; dsd = shaped; sessions = x .sessions });
+        shape = sets-shape m (s .shape) Dynamic new shaped;
         limits = record { assigned = s .limits .assigned; granted = s .limits .granted; lined = s .limits .lined };
         counted = record { assigned = s .counted .assigned; granted = s .counted .granted; lined = s .counted .lined };
         rules = record { acyclic = s .rules .acyclic; active = s .rules .active; static = s .rules .static; dynamic = unbroken };

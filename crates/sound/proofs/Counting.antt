@@ -23,7 +23,7 @@ no-fuller n table table′ h = total-mono n (λ k. count (table k)) (λ k. count
 -- ---- one set changed
 
 -- What the set had is gone, and what it has now is there.
-one-changed : (n : ℕ) (table : ℕ → ℕ) (i new : ℕ) → i < n → standing n (put table i new) + count (table i) ≡ standing n table + count new
+pub one-changed : (n : ℕ) (table : ℕ → ℕ) (i new : ℕ) → i < n → standing n (put table i new) + count (table i) ≡ standing n table + count new
 unfolding standing
 one-changed n table i new l = rw (put-same table i new) at (total-change n (λ k. count (put table i new k)) (λ k. count (table k)) i l (λ k lk d. ap count (put-other table i new k d)))
 

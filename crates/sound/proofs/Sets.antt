@@ -70,10 +70,21 @@ set-put-sound kind m name new s shaped unbroken =
     (λ i. none-breaks (put (setsOf kind m) name new) (held kind m i) (put-all (λ n set. n < 16 → breaks set (held kind m i) ≡ false) (setsOf kind m) name new (λ l. unbroken i) (λ n d. each-unbroken (setsOf kind m) (held kind m i) (rule-of kind m s i) n)))
 
 -- the shape of a set that is there
-there-shape : (m : Model) (name n roles : ℕ) → name < 16 → badCardinality n roles ≡ false → Existing m roles → SetShape m name (aSet n roles)
+pub there-shape : (m : Model) (name n roles : ℕ) → name < 16 → badCardinality n roles ≡ false → Existing m roles → SetShape m name (aSet n roles)
 there-shape m name n roles named fits existing =
     let sizes = or-no (ltb n 2) (ltb (count roles) n) fits in
     record { absent = λ e. clash true refl e; named = λ e. named; atLeast = λ e. ltb-false n 2 (sizes .0); atMost = λ e. ltb-false (count roles) n (sizes .1); members = existing }
+
+-- A set with an existing role besides has its shape.
+pub larger-shape : (m : Model) (name : ℕ) (old : RoleSet) (r : ℕ) → SetShape m name old → old .there ≡ true → has (m .roles) r ≡ true → SetShape m name (aSet (old .card) (with (old .roles) r))
+larger-shape m name old r x t e =
+    record {
+      absent = λ f. clash true refl f;
+      named = λ f. x .named t;
+      atLeast = λ f. x .atLeast t;
+      atMost = λ f. let before = x .atMost t in let grown = count-mono (old .roles) (with (old .roles) r) (with-old (old .roles) r) in omega arith;
+      members = existing-with m (old .roles) r (x .members) e;
+    }
 
 -- its cardinality is above 0
 above-none : (m : Model) (name : ℕ) (set : RoleSet) → SetShape m name set → set .there ≡ true → 0 < set .card
@@ -111,7 +122,7 @@ unfolding addMember
 addMember-sound kind m name r s =
     kept Sound _ m _ _ (rule-positive kind) s (λ c.
     let there = or-no (not (setsOf kind m name .there)) (not (has (m .roles) r)) (c .1 .0) in
-    let shape = larger (not-false (setsOf kind m name .there) (there .0)) (not-false (has (m .roles) r) (there .1)) in
+    let shape = larger-shape m name (setsOf kind m name) r (shape-of kind m (s .shape) name) (not-false (setsOf kind m name .there) (there .0)) (not-false (has (m .roles) r) (there .1)) in
     set-put-sound kind m name new s shape (unbroken-all kind m new (s .shape) (above-none m name new shape) (c .1 .1 .1 .0)))
   where
     old : RoleSet
@@ -119,19 +130,6 @@ addMember-sound kind m name r s =
 
     new : RoleSet
     new = aSet (old .card) (with (old .roles) r)
-
-    x : SetShape m name old
-    x = shape-of kind m (s .shape) name
-
-    larger : old .there ≡ true → has (m .roles) r ≡ true → SetShape m name new
-    larger t e =
-        record {
-          absent = λ f. clash true refl f;
-          named = λ f. x .named t;
-          atLeast = λ f. x .atLeast t;
-          atMost = λ f. let before = x .atMost t in let grown = count-mono (old .roles) (with (old .roles) r) (with-old (old .roles) r) in omega arith;
-          members = existing-with m (old .roles) r (x .members) e;
-        }
 
 -- `ssd-drop name r` and `dsd-drop name r` keep a sound model sound.
 pub dropMember-sound : (kind : Kind) (m : Model) (name r : ℕ) → Sound m → Sound (dropMember kind m name r .after)

@@ -101,11 +101,11 @@ abbrev pub ordered : List Refusal → Bool
 ordered [] = true
 ordered (r ∷ rest) = rising (rank (r .number)) rest
 
-rising-ordered : (place : ℕ) (rs : List Refusal) → rising place rs ≡ true → ordered rs ≡ true
+pub rising-ordered : (place : ℕ) (rs : List Refusal) → rising place rs ≡ true → ordered rs ≡ true
 rising-ordered place [] a = refl
 rising-ordered place (r ∷ rest) a = and-right (ltb place (rank (r .number))) (rising (rank (r .number)) rest) a
 
-rising-each : (place : ℕ) (rs : List Refusal) → rising place rs ≡ true → (r : Refusal) → List·Memᴰ r rs → place < rank (r .number)
+pub rising-each : (place : ℕ) (rs : List Refusal) → rising place rs ≡ true → (r : Refusal) → List·Memᴰ r rs → place < rank (r .number)
 rising-each place (x ∷ rest) a r (List·Memᴰ·head e) = subst (λ (y : Refusal). place < rank (y .number)) (sym e) (ltb-true place (rank (x .number)) (and-left (ltb place (rank (x .number))) (rising (rank (x .number)) rest) a))
 rising-each place (x ∷ rest) a r (List·Memᴰ·tail m) =
     let h = ltb-true place (rank (x .number)) (and-left (ltb place (rank (x .number))) (rising (rank (x .number)) rest) a) in

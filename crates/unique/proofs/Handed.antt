@@ -57,4 +57,4 @@ reachable (load c h) = loaded (reachable h) (c .given .1 .0 .now) _ (c .met)
 
 -- the code's own states keep demand 3
 pub owned : Owned
-owned = record { reachable = reachable; rules = λ {l} h. demand3 (view l) (reachable h) }
+owned = record { reachable = reachable; rules = λ {l} h. demand3 .rules (view l) (reachable h) }
