@@ -35,8 +35,7 @@ use Rattle.reviews.proofs.Listed.{set-count-cardinality}
 use Rattle.demands.specs.Authorised.{Authorised, Effective}
 use Rattle.demands.specs.Reachable.{Reachable}
 use Rattle.demands.specs.Reviews.{Ascending, Review, HeldBy, Answered, QuestionsDemand}
-use Rattle.demands.specs.Reviews.Ascending.{one, more}
-use Rattle.demands.specs.Reviews as reviews
+use Rattle.demands.specs.Reviews.Ascending.{noNumber, oneNumber, lessThanNext}
 use Rattle.demands.proofs.Demand2.{demand2}
 use Rattle.demands.proofs.Exact.{exact}
 use Rattle.demands.proofs.Kept.{reachable-sound}
@@ -61,11 +60,11 @@ mem-listed (a ∷ rest) k (List·Memᴰ·tail m) = or-right (eqb k a) (listed re
 -- a list that is tested to be ascending is so
 rising-ascending : (bound : ℕ) (l : List ℕ) → rising bound l ≡ true → Ascending l
 unfolding rising
-rising-ascending bound [] e = reviews.none
-rising-ascending bound (a ∷ []) e = one
+rising-ascending bound [] e = noNumber
+rising-ascending bound (a ∷ []) e = oneNumber
 rising-ascending bound (a ∷ b ∷ rest) e =
     let later = and-right (leb bound a) (rising (suc a) (b ∷ rest)) e in
-    more (leb-true (suc a) b (and-left (leb (suc a) b) (rising (suc b) rest) later)) (rising-ascending (suc a) (b ∷ rest) later)
+    lessThanNext (leb-true (suc a) b (and-left (leb (suc a) b) (rising (suc b) rest) later)) (rising-ascending (suc a) (b ∷ rest) later)
 
 -- ---- a review
 
@@ -88,7 +87,7 @@ listing n f cut e to back =
 
 -- One number alone is listed.
 one-number : {m : Model} {room : ℕ} {beyond missing : Bool} (n : ℕ) (list : List ℕ) → list ≡ n ∷ [] → Review m room beyond missing (λ k. k ≡ n) (review m room beyond missing false list)
-one-number n list e = rw e (reviewed false (n ∷ []) refl one (λ k. (List·Memᴰ·eq-of-singleton, List·Memᴰ·head)))
+one-number n list e = rw e (reviewed false (n ∷ []) refl oneNumber (λ k. (List·Memᴰ·eq-of-singleton, List·Memᴰ·head)))
 
 module _ (m : Model) (s : Sound m) where
   -- ---- roles that are inherited

@@ -23,9 +23,9 @@ use Rattle.demands.specs.Reachable.{Reachable}
 
 -- "Reviews give ascending lists with no repeats": each number is less than the next.
 pub data Ascending : List ℕ → Type 0 where
-  none : Ascending []
-  one : {a : ℕ} → Ascending (a ∷ [])
-  more : {a b : ℕ} {rest : List ℕ} → a < b → Ascending (b ∷ rest) → Ascending (a ∷ b ∷ rest)
+  noNumber : Ascending []
+  oneNumber : {a : ℕ} → Ascending (a ∷ [])
+  lessThanNext : {a b : ℕ} {rest : List ℕ} → a < b → Ascending (b ∷ rest) → Ascending (a ∷ b ∷ rest)
 
 -- A review on the policy m, with room for so many results, of all numbers for which `among` holds: there is one whole list of them, and what is
 -- told is exactly this. "Refusals: 1, 2, 13, 15": 1 where `beyond` holds, 2 where `missing` does, 15 where the room is less than the length of the
