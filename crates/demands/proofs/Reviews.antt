@@ -34,7 +34,7 @@ use Rattle.reviews.proofs.ListLaws.{listed-member, member-listed, members-ascen
 use Rattle.reviews.proofs.Listed.{set-count-cardinality}
 use Rattle.demands.specs.Authorised.{Authorised, Effective}
 use Rattle.demands.specs.Reachable.{Reachable}
-use Rattle.demands.specs.Reviews.{Ascending, Review, HeldBy, Answered, QuestionsDemand}
+use Rattle.demands.specs.Reviews.{Ascending, Listing, HeldBy, Answered, QuestionsDemand}
 use Rattle.demands.specs.Reviews.Ascending.{noNumber, oneNumber, lessThanNext}
 use Rattle.demands.proofs.Demand2.{demand2}
 use Rattle.demands.proofs.Exact.{exact}
@@ -75,18 +75,18 @@ uncut m room beyond missing true list e = clash true refl e
 uncut m room beyond missing false list e = refl
 
 -- A review that lists exactly those asked for tells exactly so.
-reviewed : {m : Model} {room : ℕ} {beyond missing : Bool} {among : ℕ → Type 0} (cut : Bool) (list : List ℕ) → cut ≡ false → Ascending list → ((k : ℕ) → List·Memᴰ k list ↔ among k) → Review m room beyond missing among (review m room beyond missing cut list)
+reviewed : {m : Model} {room : ℕ} {beyond missing : Bool} {among : ℕ → Type 0} (cut : Bool) (list : List ℕ) → cut ≡ false → Ascending list → ((k : ℕ) → List·Memᴰ k list ↔ among k) → Listing m room beyond missing among (review m room beyond missing cut list)
 reviewed {m} {room} {beyond} {missing} cut list e order exactly =
     record { whole = list; ascending = order; members = exactly; tells = rw (uncut m room beyond missing cut list e) (exact _ m list m refl refl) }
 
 -- The ascending list of the k below n that pass a test is such a one, if those asked for are below n and are those that pass.
-listing : {m : Model} {room : ℕ} {beyond missing : Bool} {among : ℕ → Type 0} (n : ℕ) (f : ℕ → Bool) (cut : Bool) → cut ≡ false → ((k : ℕ) → f k ≡ true → among k) → ((k : ℕ) → among k → (k < n) × (f k ≡ true)) → Review m room beyond missing among (review m room beyond missing cut (members n f))
-listing n f cut e to back =
+all-listed : {m : Model} {room : ℕ} {beyond missing : Bool} {among : ℕ → Type 0} (n : ℕ) (f : ℕ → Bool) (cut : Bool) → cut ≡ false → ((k : ℕ) → f k ≡ true → among k) → ((k : ℕ) → among k → (k < n) × (f k ≡ true)) → Listing m room beyond missing among (review m room beyond missing cut (members n f))
+all-listed n f cut e to back =
     reviewed cut (members n f) e (rising-ascending 0 (members n f) (members-ascending n f))
     (λ k. ((λ h. to k (listed-member n f k (mem-listed (members n f) k h) .1)), (λ a. let b = back k a in listed-mem (members n f) k (member-listed n f k (b .0) (b .1)))))
 
 -- One number alone is listed.
-one-number : {m : Model} {room : ℕ} {beyond missing : Bool} (n : ℕ) (list : List ℕ) → list ≡ n ∷ [] → Review m room beyond missing (λ k. k ≡ n) (review m room beyond missing false list)
+one-number : {m : Model} {room : ℕ} {beyond missing : Bool} (n : ℕ) (list : List ℕ) → list ≡ n ∷ [] → Listing m room beyond missing (λ k. k ≡ n) (review m room beyond missing false list)
 one-number n list e = rw e (reviewed false (n ∷ []) refl oneNumber (λ k. (List·Memᴰ·eq-of-singleton, List·Memᴰ·head)))
 
 module _ (m : Model) (s : Sound m) where
@@ -115,7 +115,7 @@ module _ (m : Model) (s : Sound m) where
   effective-met k q a = effective-exact m s k q .1 (a .exists, a .through)
 
   -- The users that are authorised for a role are those that have it among theirs.
-  auth-users : {room : ℕ} {beyond missing : Bool} (r : ℕ) → Review m room beyond missing (λ u. Authorised m u r) (review m room beyond missing (atOrAbove (m .juniors) r .cut) (authUsers m r))
+  auth-users : {room : ℕ} {beyond missing : Bool} (r : ℕ) → Listing m room beyond missing (λ u. Authorised m u r) (review m room beyond missing (atOrAbove (m .juniors) r .cut) (authUsers m r))
   unfolding authUsers authRoles
   auth-users r =
       reviewed _ (authUsers m r) (above-never-cut (m .juniors) (lines-small m (s .shape)) (s .rules .acyclic) r) (rising-ascending 0 (authUsers m r) (members-ascending 256 _))
@@ -137,31 +137,31 @@ module _ (m : Model) (s : Sound m) where
       (s .shape .permissions p (h .role) (h .holds), not-yes (isEmpty shared) (not-empty shared (h .role) small (common-intro set (m .holders p) (h .role) small (met (h .role) small (h .chosen)) (h .holds))))
 
   -- a list of permissions, and one of the operations on an object
-  perms : {room : ℕ} {beyond missing : Bool} {of : ℕ → Type 0} (set : ℕ) (cut : Bool) → cut ≡ false → ((q : ℕ) → has set q ≡ true → of q) → ((q : ℕ) → q < 64 → of q → has set q ≡ true) → Review m room beyond missing (λ p. HeldBy m of p) (review m room beyond missing cut (members 4096 (holds m set)))
-  perms set cut e to met = listing 4096 (holds m set) cut e (λ p. held set p to) (λ p. holding set p met)
+  perms : {room : ℕ} {beyond missing : Bool} {of : ℕ → Type 0} (set : ℕ) (cut : Bool) → cut ≡ false → ((q : ℕ) → has set q ≡ true → of q) → ((q : ℕ) → q < 64 → of q → has set q ≡ true) → Listing m room beyond missing (λ p. HeldBy m of p) (review m room beyond missing cut (members 4096 (holds m set)))
+  perms set cut e to met = all-listed 4096 (holds m set) cut e (λ p. held set p to) (λ p. holding set p met)
 
-  ops : {room : ℕ} {beyond missing : Bool} {of : ℕ → Type 0} (set obj : ℕ) (cut : Bool) → cut ≡ false → ((q : ℕ) → has set q ≡ true → of q) → ((q : ℕ) → q < 64 → of q → has set q ≡ true) → Review m room beyond missing (λ op. HeldBy m of (permission op obj)) (review m room beyond missing cut (members 16 (λ op. holds m set (permission op obj))))
-  ops set obj cut e to met = listing 16 (λ op. holds m set (permission op obj)) cut e (λ op. held set (permission op obj) to) (λ op h. let b = holding set (permission op obj) met h in (omega arith, b .1))
+  ops : {room : ℕ} {beyond missing : Bool} {of : ℕ → Type 0} (set obj : ℕ) (cut : Bool) → cut ≡ false → ((q : ℕ) → has set q ≡ true → of q) → ((q : ℕ) → q < 64 → of q → has set q ≡ true) → Listing m room beyond missing (λ op. HeldBy m of (permission op obj)) (review m room beyond missing cut (members 16 (λ op. holds m set (permission op obj))))
+  ops set obj cut e to met = all-listed 16 (λ op. holds m set (permission op obj)) cut e (λ op. held set (permission op obj) to) (λ op h. let b = holding set (permission op obj) met h in (omega arith, b .1))
 
 -- ---- every question, a line for each
 
 answered : (m : Model) → Reachable m → (room : ℕ) (q : Question) → Answered m room q (ask m room q)
 unfolding ask assignedUsers assignedRoles authRoles rolePerms userPerms sessionRoles sessionPerms roleOps userOps setNames setRoles
 answered m p room (Check s op obj) = demand2 .access m p (s .number) op obj
-answered m p room (AssignedUsers r) = let s = reachable-sound p in listing 256 _ _ refl (λ u h. h) (λ u h. (s .shape .users u (s .shape .assignees u (r .number) h), h))
-answered m p room (AssignedRoles u) = let s = reachable-sound p in listing 64 _ _ refl (λ r h. h) (λ r h. (member-small _ r (s .shape .assigned (u .number) .small) h, h))
+answered m p room (AssignedUsers r) = let s = reachable-sound p in all-listed 256 _ _ refl (λ u h. h) (λ u h. (s .shape .users u (s .shape .assignees u (r .number) h), h))
+answered m p room (AssignedRoles u) = let s = reachable-sound p in all-listed 64 _ _ refl (λ r h. h) (λ r h. (member-small _ r (s .shape .assigned (u .number) .small) h, h))
 answered m p room (AuthUsers r) = auth-users m (reachable-sound p) (r .number)
-answered m p room (AuthRoles u) = let s = reachable-sound p in listing 64 _ _ (sound-never-cut m s _) (authorised-to m s (u .number)) (λ r a. (member-small _ r (s .shape .roles) (a .exists), authorised-met m s (u .number) r a))
+answered m p room (AuthRoles u) = let s = reachable-sound p in all-listed 64 _ _ (sound-never-cut m s _) (authorised-to m s (u .number)) (λ r a. (member-small _ r (s .shape .roles) (a .exists), authorised-met m s (u .number) r a))
 answered m p room (RolePerms r) = let s = reachable-sound p in perms m s _ _ (sound-never-cut m s _) (lower m s (r .number)) (lower-met m s (r .number))
 answered m p room (UserPerms u) = let s = reachable-sound p in perms m s _ _ (sound-never-cut m s _) (authorised-to m s (u .number)) (λ q l. authorised-met m s (u .number) q)
-answered m p room (SessionRoles k) = let s = reachable-sound p in listing 64 _ _ refl (λ r h. h) (λ r h. (member-small _ r (s .shape .sessions (k .number) .active .small) h, h))
+answered m p room (SessionRoles k) = let s = reachable-sound p in all-listed 64 _ _ refl (λ r h. h) (λ r h. (member-small _ r (s .shape .sessions (k .number) .active .small) h, h))
 answered m p room (SessionPerms k) = let s = reachable-sound p in perms m s _ _ (sound-never-cut m s _) (effective-to m s (k .number)) (λ q l. effective-met m s (k .number) q)
 answered m p room (RoleOps r obj) = let s = reachable-sound p in ops m s _ obj _ (sound-never-cut m s _) (lower m s (r .number)) (lower-met m s (r .number))
 answered m p room (UserOps u obj) = let s = reachable-sound p in ops m s _ obj _ (sound-never-cut m s _) (authorised-to m s (u .number)) (λ q l. authorised-met m s (u .number) q)
-answered m p room (Sets Static) = let s = reachable-sound p in listing 16 _ _ refl (λ n h. h) (λ n h. (s .shape .ssd n .named h, h))
-answered m p room (Sets Dynamic) = let s = reachable-sound p in listing 16 _ _ refl (λ n h. h) (λ n h. (s .shape .dsd n .named h, h))
-answered m p room (SetRoles Static name) = let s = reachable-sound p in listing 64 _ _ refl (λ r h. h) (λ r h. (member-small _ r (s .shape .ssd (name .number) .members .small) h, h))
-answered m p room (SetRoles Dynamic name) = let s = reachable-sound p in listing 64 _ _ refl (λ r h. h) (λ r h. (member-small _ r (s .shape .dsd (name .number) .members .small) h, h))
+answered m p room (Sets Static) = let s = reachable-sound p in all-listed 16 _ _ refl (λ n h. h) (λ n h. (s .shape .ssd n .named h, h))
+answered m p room (Sets Dynamic) = let s = reachable-sound p in all-listed 16 _ _ refl (λ n h. h) (λ n h. (s .shape .dsd n .named h, h))
+answered m p room (SetRoles Static name) = let s = reachable-sound p in all-listed 64 _ _ refl (λ r h. h) (λ r h. (member-small _ r (s .shape .ssd (name .number) .members .small) h, h))
+answered m p room (SetRoles Dynamic name) = let s = reachable-sound p in all-listed 64 _ _ refl (λ r h. h) (λ r h. (member-small _ r (s .shape .dsd (name .number) .members .small) h, h))
 answered m p room (SetCount Static name) = one-number _ _ (set-count-cardinality Static m (reachable-sound p .shape) (name .number))
 answered m p room (SetCount Dynamic name) = one-number _ _ (set-count-cardinality Dynamic m (reachable-sound p .shape) (name .number))
 

@@ -1,5 +1,6 @@
--- Demand 2, of questions: who stands in each list, in the paper's words. A list is said by who is in it, with `Authorised`, `Effective`, inherited,
--- assigned and holds, and by literal ranges; nothing here is walked or searched. Assumes nothing.
+-- Demand 2, of questions: who stands in each list, and when each question is refused, in the paper's words. Nothing here is computed by a walk or a
+-- search: a list is known by who stands in it, with the words `Authorised`, `Effective`, inherits, assigned and holds, and ranges are literal numbers.
+-- Assumes nothing.
 use mathlib.Core.Bool.{Bool, true, false, not, _||_}
 use mathlib.Core.List.{List, [], _∷_, List·Memᴰ}
 use mathlib.Core.Logic.{_↔_}
@@ -19,25 +20,27 @@ use Rattle.demands.specs.Authorised.{Authorised, Effective}
 use Rattle.demands.specs.Demand2.{Exactly, Checked}
 use Rattle.demands.specs.Reachable.{Reachable}
 
--- ---- a review
+-- ---- a list
 
--- "Reviews give ascending lists with no repeats": each number is less than the next.
+-- "Reviews give ascending lists with no repeats": the list has no number, or one, or each of its numbers is less than the next.
 pub data Ascending : List ℕ → Type 0 where
   noNumber : Ascending []
   oneNumber : {a : ℕ} → Ascending (a ∷ [])
   lessThanNext : {a b : ℕ} {rest : List ℕ} → a < b → Ascending (b ∷ rest) → Ascending (a ∷ b ∷ rest)
 
--- A review on the policy m, with room for so many results, of all numbers for which `among` holds: there is one whole list of them, and what is
--- told is exactly this. "Refusals: 1, 2, 13, 15": 1 where `beyond` holds, 2 where `missing` does, 15 where the room is less than the length of the
--- whole list. (13 is on no list: no chain of more than 64 roles is met.) Otherwise the results are the whole list. Nothing changes either way.
-pub record Review (m : Model) (room : ℕ) (beyond missing : Bool) (among : ℕ → Type 0) (told : Told) : Type 0 where
+-- What is told of a review on the policy m, with room for so many results: exactly the list of all numbers for which `among` holds. "Refusals: 1, 2,
+-- 13, 15": it is refused with 1 where `beyond` holds, with 2 where `missing` holds, and with 15 where the room is less than the length of the whole
+-- list. (13 is on no list: no chain of more than 64 roles is met.) Otherwise its results are the whole list. It changes nothing either way.
+pub record Listing (m : Model) (room : ℕ) (beyond missing : Bool) (among : ℕ → Type 0) (told : Told) : Type 0 where
+  -- there is one whole list, and it is ascending
   pub whole : List ℕ
   pub ascending : Ascending whole
-  -- a number stands in the whole list exactly when it is one of those asked for
+  -- a number stands in it exactly when it is one of those asked for
   pub members : (k : ℕ) → List·Memᴰ k whole ↔ among k
+  -- and this list, or the first refusal that applies, is all that is told
   pub tells : Exactly m (1 when beyond ∷ 2 when missing ∷ 15 when ltb room (length whole) ∷ []) whole m told
 
--- Some role for which `of` holds has the permission p: it is a role to which p was granted.
+-- Some role for which `of` holds was granted the permission p: "an operation on an object, written as operation * 256 + object".
 pub record HeldBy (m : Model) (of : ℕ → Type 0) (p : ℕ) : Type 0 where
   pub role : ℕ
   pub chosen : of role
@@ -45,47 +48,49 @@ pub record HeldBy (m : Model) (of : ℕ → Type 0) (p : ℕ) : Type 0 where
 
 -- ---- every question
 
--- What the question must tell, asked on the policy m with room for so many results. The ranges: "Users are 0 to 255, roles 0 to 63, sessions 0 to 63,
--- SSD sets 0 to 15, DSD sets 0 to 15 .. objects 0 to 255". The user, role, session or set that is named must exist.
+-- What the question tells, asked on the policy m with room for so many results. Each line has four parts: when a number of the question is beyond its
+-- range ("Users are 0 to 255, roles 0 to 63, sessions 0 to 63, SSD sets 0 to 15, DSD sets 0 to 15 .. objects 0 to 255"), when what it names does not
+-- exist, who stands in the list, and what is told.
 abbrev pub Answered : Model → ℕ → Question → Told → Type 0
--- "`check s op obj`": as `Checked` in Demand2 says
+-- "`check s op obj`" gives no list: it is told as `Checked` in Demand2 says
 Answered m room (Check s op obj) told = Checked m (s .number) op obj told
 -- "`assigned-users r`": the users that are assigned to the role
-Answered m room (AssignedUsers r) told = Review m room (leb 64 (r .number)) (not (has (m .roles) (r .number))) (λ u. has (m .assigned u) (r .number) ≡ true) told
+Answered m room (AssignedUsers r) told = Listing m room (leb 64 (r .number)) (not (has (m .roles) (r .number))) (λ u. has (m .assigned u) (r .number) ≡ true) told
 -- "`assigned-roles u`": the roles to which the user is assigned
-Answered m room (AssignedRoles u) told = Review m room (leb 256 (u .number)) (not (m .users (u .number))) (λ r. has (m .assigned (u .number)) r ≡ true) told
+Answered m room (AssignedRoles u) told = Listing m room (leb 256 (u .number)) (not (m .users (u .number))) (λ r. has (m .assigned (u .number)) r ≡ true) told
 -- "`auth-users r`": the users that are authorised for the role
-Answered m room (AuthUsers r) told = Review m room (leb 64 (r .number)) (not (has (m .roles) (r .number))) (λ u. Authorised m u (r .number)) told
+Answered m room (AuthUsers r) told = Listing m room (leb 64 (r .number)) (not (has (m .roles) (r .number))) (λ u. Authorised m u (r .number)) told
 -- "`auth-roles u`": the roles for which the user is authorised
-Answered m room (AuthRoles u) told = Review m room (leb 256 (u .number)) (not (m .users (u .number))) (λ r. Authorised m (u .number) r) told
+Answered m room (AuthRoles u) told = Listing m room (leb 256 (u .number)) (not (m .users (u .number))) (λ r. Authorised m (u .number) r) told
 -- "`role-perms r` .. with inherited ones": the permissions that the role itself, or a role that it inherits, holds
-Answered m room (RolePerms r) told = Review m room (leb 64 (r .number)) (not (has (m .roles) (r .number))) (λ p. HeldBy m (AtOrAbove (m .juniors) (r .number)) p) told
+Answered m room (RolePerms r) told = Listing m room (leb 64 (r .number)) (not (has (m .roles) (r .number))) (λ p. HeldBy m (AtOrAbove (m .juniors) (r .number)) p) told
 -- "`user-perms u` .. with inherited ones": the permissions that some role holds for which the user is authorised
-Answered m room (UserPerms u) told = Review m room (leb 256 (u .number)) (not (m .users (u .number))) (λ p. HeldBy m (Authorised m (u .number)) p) told
--- "`session-roles s` (active ones)"
-Answered m room (SessionRoles s) told = Review m room (leb 64 (s .number)) (not (m .sessions (s .number) .live)) (λ r. has (m .sessions (s .number) .active) r ≡ true) told
--- "`session-perms s` (of effective roles)"
-Answered m room (SessionPerms s) told = Review m room (leb 64 (s .number)) (not (m .sessions (s .number) .live)) (λ p. HeldBy m (Effective m (s .number)) p) told
+Answered m room (UserPerms u) told = Listing m room (leb 256 (u .number)) (not (m .users (u .number))) (λ p. HeldBy m (Authorised m (u .number)) p) told
+-- "`session-roles s` (active ones)": the active roles of the session
+Answered m room (SessionRoles s) told = Listing m room (leb 64 (s .number)) (not (m .sessions (s .number) .live)) (λ r. has (m .sessions (s .number) .active) r ≡ true) told
+-- "`session-perms s` (of effective roles)": the permissions that some effective role of the session holds
+Answered m room (SessionPerms s) told = Listing m room (leb 64 (s .number)) (not (m .sessions (s .number) .live)) (λ p. HeldBy m (Effective m (s .number)) p) told
 -- "`role-ops r obj`": the operations on the object that the role itself, or a role that it inherits, may do. "The schema of RoleOperationsOnObject in
 -- document 000 tests the asked role alone; its text includes inherited roles, and the text decides."
-Answered m room (RoleOps r obj) told = Review m room (leb 64 (r .number) || leb 256 obj) (not (has (m .roles) (r .number))) (λ op. HeldBy m (AtOrAbove (m .juniors) (r .number)) (op * 256 + obj)) told
+Answered m room (RoleOps r obj) told = Listing m room (leb 64 (r .number) || leb 256 obj) (not (has (m .roles) (r .number))) (λ op. HeldBy m (AtOrAbove (m .juniors) (r .number)) (op * 256 + obj)) told
 -- "`user-ops u obj`": the operations on the object that some role may do for which the user is authorised
-Answered m room (UserOps u obj) told = Review m room (leb 256 (u .number) || leb 256 obj) (not (m .users (u .number))) (λ op. HeldBy m (Authorised m (u .number)) (op * 256 + obj)) told
--- "`ssd-sets`": the names of the static sets that are there; "and the same for `dsd`". It names nothing, so that only the room can be wanting
-Answered m room (Sets Static) told = Review m room false false (λ name. m .ssd name .there ≡ true) told
-Answered m room (Sets Dynamic) told = Review m room false false (λ name. m .dsd name .there ≡ true) told
+Answered m room (UserOps u obj) told = Listing m room (leb 256 (u .number) || leb 256 obj) (not (m .users (u .number))) (λ op. HeldBy m (Authorised m (u .number)) (op * 256 + obj)) told
+-- "`ssd-sets` .. and the same for `dsd`": the names of the sets that are there. It names nothing, so that it is refused with 15 alone
+Answered m room (Sets Static) told = Listing m room false false (λ name. m .ssd name .there ≡ true) told
+Answered m room (Sets Dynamic) told = Listing m room false false (λ name. m .dsd name .there ≡ true) told
 -- "`ssd-roles name`": the roles of the set
-Answered m room (SetRoles Static name) told = Review m room (leb 16 (name .number)) (not (m .ssd (name .number) .there)) (λ r. has (m .ssd (name .number) .roles) r ≡ true) told
-Answered m room (SetRoles Dynamic name) told = Review m room (leb 16 (name .number)) (not (m .dsd (name .number) .there)) (λ r. has (m .dsd (name .number) .roles) r ≡ true) told
--- "`ssd-count name` (the cardinality)": this one number
-Answered m room (SetCount Static name) told = Review m room (leb 16 (name .number)) (not (m .ssd (name .number) .there)) (λ n. n ≡ m .ssd (name .number) .card) told
-Answered m room (SetCount Dynamic name) told = Review m room (leb 16 (name .number)) (not (m .dsd (name .number) .there)) (λ n. n ≡ m .dsd (name .number) .card) told
+Answered m room (SetRoles Static name) told = Listing m room (leb 16 (name .number)) (not (m .ssd (name .number) .there)) (λ r. has (m .ssd (name .number) .roles) r ≡ true) told
+Answered m room (SetRoles Dynamic name) told = Listing m room (leb 16 (name .number)) (not (m .dsd (name .number) .there)) (λ r. has (m .dsd (name .number) .roles) r ≡ true) told
+-- "`ssd-count name` (the cardinality)": this number alone
+Answered m room (SetCount Static name) told = Listing m room (leb 16 (name .number)) (not (m .ssd (name .number) .there)) (λ n. n ≡ m .ssd (name .number) .card) told
+Answered m room (SetCount Dynamic name) told = Listing m room (leb 16 (name .number)) (not (m .dsd (name .number) .there)) (λ n. n ≡ m .dsd (name .number) .card) told
 
--- Anything that answers questions obeys demand 2, if on every reachable policy, with any room, each question tells exactly that.
+-- Anything that answers questions obeys demand 2, if on every reachable policy and with any room each question tells exactly that.
 abbrev pub Reviewing : (Model → ℕ → Question → Told) → Type 0
 Reviewing reviewer = (m : Model) → Reachable m → (room : ℕ) (q : Question) → Answered m room q (reviewer m room q)
 
--- Every question is answered exactly as the paper says, and "a chain of inheritance of more than 64 roles", 13, is never met.
+-- Every question is answered exactly as the paper says.
 pub record QuestionsDemand : Type 0 where
   pub questions : Reviewing ask
+  -- 13, "a chain of inheritance of more than 64 roles is met", is never answered
   pub never13 : (m : Model) → Reachable m → (room : ℕ) (q : Question) → ask m room q .answer ≡ 13 → ⊥

@@ -22,7 +22,7 @@ use Rattle.model.specs.declared.Question.the-variants.{Check, AssignedUsers, As
 use Rattle.benchsheet.specs.BenchSheet.{atTheBench, r}
 use Rattle.demands.specs.Demand2.{Applies, FirstToApply, Exactly, place}
 use Rattle.demands.specs.Reachable.{Reachable, start}
-use Rattle.demands.specs.Reviews.{Ascending, Review, Answered, Reviewing}
+use Rattle.demands.specs.Reviews.{Ascending, Listing, Answered, Reviewing}
 use Rattle.demands.specs.Reviews.Ascending.{noNumber, oneNumber, lessThanNext}
 use Rattle.misreadings.specs.ShutOut.{Reviewer, ReviewersShutOut}
 use Rattle.misreadings.proofs.Bench.{bench}
@@ -73,29 +73,29 @@ one-list (a ∷ l) (b ∷ k) f g to back =
 
 -- ---- one reviewer
 
-review-one : {m : Model} {room : ℕ} {beyond missing : Bool} {among : ℕ → Type 0} {t v : Told} → Review m room beyond missing among t → Review m room beyond missing among v → t ≡ v
-review-one {m} {room} {beyond} {missing} {t = t} {v = v} x y =
+listing-one : {m : Model} {room : ℕ} {beyond missing : Bool} {among : ℕ → Type 0} {t v : Told} → Listing m room beyond missing among t → Listing m room beyond missing among v → t ≡ v
+listing-one {m} {room} {beyond} {missing} {t = t} {v = v} x y =
     let same = one-list (x .whole) (y .whole) (x .ascending) (y .ascending) (λ n h. y .members n .1 (x .members n .0 h)) (λ n h. x .members n .1 (y .members n .0 h)) in
     exactly-one m _ (y .whole) m t v (subst (λ (l : List ℕ). Exactly m (1 when beyond ∷ 2 when missing ∷ 15 when ltb room (length l) ∷ []) l m t) same (x .tells)) (y .tells)
 
 answered-one : (m : Model) (room : ℕ) (q : Question) (t v : Told) → Answered m room q t → Answered m room q v → t ≡ v
 answered-one m room (Check s op obj) t v x y = checked-one m (s .number) op obj t v x y
-answered-one m room (AssignedUsers r) t v x y = review-one x y
-answered-one m room (AssignedRoles u) t v x y = review-one x y
-answered-one m room (AuthUsers r) t v x y = review-one x y
-answered-one m room (AuthRoles u) t v x y = review-one x y
-answered-one m room (RolePerms r) t v x y = review-one x y
-answered-one m room (UserPerms u) t v x y = review-one x y
-answered-one m room (SessionRoles s) t v x y = review-one x y
-answered-one m room (SessionPerms s) t v x y = review-one x y
-answered-one m room (RoleOps r obj) t v x y = review-one x y
-answered-one m room (UserOps u obj) t v x y = review-one x y
-answered-one m room (Sets Static) t v x y = review-one x y
-answered-one m room (Sets Dynamic) t v x y = review-one x y
-answered-one m room (SetRoles Static name) t v x y = review-one x y
-answered-one m room (SetRoles Dynamic name) t v x y = review-one x y
-answered-one m room (SetCount Static name) t v x y = review-one x y
-answered-one m room (SetCount Dynamic name) t v x y = review-one x y
+answered-one m room (AssignedUsers r) t v x y = listing-one x y
+answered-one m room (AssignedRoles u) t v x y = listing-one x y
+answered-one m room (AuthUsers r) t v x y = listing-one x y
+answered-one m room (AuthRoles u) t v x y = listing-one x y
+answered-one m room (RolePerms r) t v x y = listing-one x y
+answered-one m room (UserPerms u) t v x y = listing-one x y
+answered-one m room (SessionRoles s) t v x y = listing-one x y
+answered-one m room (SessionPerms s) t v x y = listing-one x y
+answered-one m room (RoleOps r obj) t v x y = listing-one x y
+answered-one m room (UserOps u obj) t v x y = listing-one x y
+answered-one m room (Sets Static) t v x y = listing-one x y
+answered-one m room (Sets Dynamic) t v x y = listing-one x y
+answered-one m room (SetRoles Static name) t v x y = listing-one x y
+answered-one m room (SetRoles Dynamic name) t v x y = listing-one x y
+answered-one m room (SetCount Static name) t v x y = listing-one x y
+answered-one m room (SetCount Dynamic name) t v x y = listing-one x y
 
 one-reviewer : (reviewer other : Reviewer) → Reviewing reviewer → Reviewing other → (m : Model) → Reachable m → (room : ℕ) (q : Question) → reviewer m room q ≡ other m room q
 one-reviewer reviewer other f g m p room q = answered-one m room q (reviewer m room q) (other m room q) (f m p room q) (g m p room q)
@@ -109,7 +109,7 @@ record Given (told : ℕ → Told) (among : ℕ → Type 0) : Type 0 where
   lists : (k : ℕ) → among k → List·Memᴰ k (told room .results)
 
 -- A review that is not refused with 1 or 2 is done, given room for its whole list.
-given : {m : Model} {beyond missing : Bool} {among : ℕ → Type 0} (told : ℕ → Told) → ((room : ℕ) → Review m room beyond missing among (told room)) → beyond ≡ false → missing ≡ false → Given told among
+given : {m : Model} {beyond missing : Bool} {among : ℕ → Type 0} (told : ℕ → Told) → ((room : ℕ) → Listing m room beyond missing among (told room)) → beyond ≡ false → missing ≡ false → Given told among
 given {m} {beyond} {missing} told f p q =
     let asked = f 0 in
     let x = f (length (asked .whole)) in
