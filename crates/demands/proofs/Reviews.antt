@@ -92,9 +92,11 @@ one-number n list e = rw e (reviewed false (n ∷ []) refl oneNumber (λ k. (Lis
 module _ (m : Model) (s : Sound m) where
   -- ---- roles that are inherited
 
+  -- What the walk from a role meets is the role itself or inherited by it,
   lower : (r q : ℕ) → has (reached m (with none r) .roles) q ≡ true → AtOrAbove (m .juniors) r q
   lower r q h = under-one r q (reach-sound (m .juniors) (with none r) q h)
 
+  -- and it meets all of these.
   lower-met : (r q : ℕ) → q < 64 → AtOrAbove (m .juniors) r q → has (reached m (with none r) .roles) q ≡ true
   lower-met r q l a = reach-complete (m .juniors) (with none r) (lines-small m (s .shape)) (sound-never-cut m s (with none r)) q (one-under r q (small a) a)
     where
@@ -102,6 +104,7 @@ module _ (m : Model) (s : Sound m) where
       small (inl e) = omega arith
       small (inr i) = ends-small (lines-small m (s .shape)) i .0
 
+  -- The computed sets of the roles that a user is authorised for, and of a session's effective roles, are the stated ones.
   authorised-to : (u q : ℕ) → has (authorised m u) q ≡ true → Authorised m u q
   authorised-to u q h = let e = authorised-exact m s u q .0 h in record { exists = e .0; through = e .1 }
 
@@ -123,6 +126,7 @@ module _ (m : Model) (s : Sound m) where
 
   -- ---- permissions that some role of a set holds
 
+  -- Where the set and the holders of a permission have a role in common, some role of the set holds it,
   held : {of : ℕ → Type 0} (set p : ℕ) → ((q : ℕ) → has set q ≡ true → of q) → holds m set p ≡ true → HeldBy m of p
   held set p to e =
       let shared = common set (m .holders p) in
@@ -130,13 +134,14 @@ module _ (m : Model) (s : Sound m) where
       let each = common-member set (m .holders p) (found .0) (found .2) in
       record { role = found .0; chosen = to (found .0) (each .1); holds = each .2 }
 
+  -- and where some role holds it that is in the set, they have; and it is a permission, 0 to 4,095.
   holding : {of : ℕ → Type 0} (set p : ℕ) → ((q : ℕ) → q < 64 → of q → has set q ≡ true) → HeldBy m of p → (p < 4096) × (holds m set p ≡ true)
   holding set p met h =
       let shared = common set (m .holders p) in
       let small = member-small (m .holders p) (h .role) (s .shape .holders p .small) (h .holds) in
       (s .shape .permissions p (h .role) (h .holds), not-yes (isEmpty shared) (not-empty shared (h .role) small (common-intro set (m .holders p) (h .role) small (met (h .role) small (h .chosen)) (h .holds))))
 
-  -- a list of permissions, and one of the operations on an object
+  -- So a list of permissions is the stated one, and so is one of the operations on an object.
   perms : {room : ℕ} {beyond missing : Bool} {of : ℕ → Type 0} (set : ℕ) (cut : Bool) → cut ≡ false → ((q : ℕ) → has set q ≡ true → of q) → ((q : ℕ) → q < 64 → of q → has set q ≡ true) → Listing m room beyond missing (λ p. HeldBy m of p) (review m room beyond missing cut (members 4096 (holds m set)))
   perms set cut e to met = all-listed 4096 (holds m set) cut e (λ p. held set p to) (λ p. holding set p met)
 
@@ -145,26 +150,26 @@ module _ (m : Model) (s : Sound m) where
 
 -- ---- every question, a line for each
 
-answered : (m : Model) → Reachable m → (room : ℕ) (q : Question) → Answered m room q (ask m room q)
+answered : (m : Model) → Reachable m → Sound m → (room : ℕ) (q : Question) → Answered m room q (ask m room q)
 unfolding ask assignedUsers assignedRoles authRoles rolePerms userPerms sessionRoles sessionPerms roleOps userOps setNames setRoles
-answered m p room (Check s op obj) = demand2 .access m p (s .number) op obj
-answered m p room (AssignedUsers r) = let s = reachable-sound p in all-listed 256 _ _ refl (λ u h. h) (λ u h. (s .shape .users u (s .shape .assignees u (r .number) h), h))
-answered m p room (AssignedRoles u) = let s = reachable-sound p in all-listed 64 _ _ refl (λ r h. h) (λ r h. (member-small _ r (s .shape .assigned (u .number) .small) h, h))
-answered m p room (AuthUsers r) = auth-users m (reachable-sound p) (r .number)
-answered m p room (AuthRoles u) = let s = reachable-sound p in all-listed 64 _ _ (sound-never-cut m s _) (authorised-to m s (u .number)) (λ r a. (member-small _ r (s .shape .roles) (a .exists), authorised-met m s (u .number) r a))
-answered m p room (RolePerms r) = let s = reachable-sound p in perms m s _ _ (sound-never-cut m s _) (lower m s (r .number)) (lower-met m s (r .number))
-answered m p room (UserPerms u) = let s = reachable-sound p in perms m s _ _ (sound-never-cut m s _) (authorised-to m s (u .number)) (λ q l. authorised-met m s (u .number) q)
-answered m p room (SessionRoles k) = let s = reachable-sound p in all-listed 64 _ _ refl (λ r h. h) (λ r h. (member-small _ r (s .shape .sessions (k .number) .active .small) h, h))
-answered m p room (SessionPerms k) = let s = reachable-sound p in perms m s _ _ (sound-never-cut m s _) (effective-to m s (k .number)) (λ q l. effective-met m s (k .number) q)
-answered m p room (RoleOps r obj) = let s = reachable-sound p in ops m s _ obj _ (sound-never-cut m s _) (lower m s (r .number)) (lower-met m s (r .number))
-answered m p room (UserOps u obj) = let s = reachable-sound p in ops m s _ obj _ (sound-never-cut m s _) (authorised-to m s (u .number)) (λ q l. authorised-met m s (u .number) q)
-answered m p room (Sets Static) = let s = reachable-sound p in all-listed 16 _ _ refl (λ n h. h) (λ n h. (s .shape .ssd n .named h, h))
-answered m p room (Sets Dynamic) = let s = reachable-sound p in all-listed 16 _ _ refl (λ n h. h) (λ n h. (s .shape .dsd n .named h, h))
-answered m p room (SetRoles Static name) = let s = reachable-sound p in all-listed 64 _ _ refl (λ r h. h) (λ r h. (member-small _ r (s .shape .ssd (name .number) .members .small) h, h))
-answered m p room (SetRoles Dynamic name) = let s = reachable-sound p in all-listed 64 _ _ refl (λ r h. h) (λ r h. (member-small _ r (s .shape .dsd (name .number) .members .small) h, h))
-answered m p room (SetCount Static name) = one-number _ _ (set-count-cardinality Static m (reachable-sound p .shape) (name .number))
-answered m p room (SetCount Dynamic name) = one-number _ _ (set-count-cardinality Dynamic m (reachable-sound p .shape) (name .number))
+answered m p s room (Check k op obj) = demand2 .access m p (k .number) op obj
+answered m p s room (AssignedUsers r) = all-listed 256 _ _ refl (λ u h. h) (λ u h. (s .shape .users u (s .shape .assignees u (r .number) h), h))
+answered m p s room (AssignedRoles u) = all-listed 64 _ _ refl (λ r h. h) (λ r h. (member-small _ r (s .shape .assigned (u .number) .small) h, h))
+answered m p s room (AuthUsers r) = auth-users m s (r .number)
+answered m p s room (AuthRoles u) = all-listed 64 _ _ (sound-never-cut m s _) (authorised-to m s (u .number)) (λ r a. (member-small _ r (s .shape .roles) (a .exists), authorised-met m s (u .number) r a))
+answered m p s room (RolePerms r) = perms m s _ _ (sound-never-cut m s _) (lower m s (r .number)) (lower-met m s (r .number))
+answered m p s room (UserPerms u) = perms m s _ _ (sound-never-cut m s _) (authorised-to m s (u .number)) (λ q l. authorised-met m s (u .number) q)
+answered m p s room (SessionRoles k) = all-listed 64 _ _ refl (λ r h. h) (λ r h. (member-small _ r (s .shape .sessions (k .number) .active .small) h, h))
+answered m p s room (SessionPerms k) = perms m s _ _ (sound-never-cut m s _) (effective-to m s (k .number)) (λ q l. effective-met m s (k .number) q)
+answered m p s room (RoleOps r obj) = ops m s _ obj _ (sound-never-cut m s _) (lower m s (r .number)) (lower-met m s (r .number))
+answered m p s room (UserOps u obj) = ops m s _ obj _ (sound-never-cut m s _) (authorised-to m s (u .number)) (λ q l. authorised-met m s (u .number) q)
+answered m p s room (Sets Static) = all-listed 16 _ _ refl (λ n h. h) (λ n h. (s .shape .ssd n .named h, h))
+answered m p s room (Sets Dynamic) = all-listed 16 _ _ refl (λ n h. h) (λ n h. (s .shape .dsd n .named h, h))
+answered m p s room (SetRoles Static name) = all-listed 64 _ _ refl (λ r h. h) (λ r h. (member-small _ r (s .shape .ssd (name .number) .members .small) h, h))
+answered m p s room (SetRoles Dynamic name) = all-listed 64 _ _ refl (λ r h. h) (λ r h. (member-small _ r (s .shape .dsd (name .number) .members .small) h, h))
+answered m p s room (SetCount Static name) = one-number _ _ (set-count-cardinality Static m (s .shape) (name .number))
+answered m p s room (SetCount Dynamic name) = one-number _ _ (set-count-cardinality Dynamic m (s .shape) (name .number))
 
 -- Every question is answered exactly as the paper says.
 pub questions-demand : QuestionsDemand
-questions-demand = record { questions = answered; never13 = λ m p. questions-never-13 m (reachable-sound p) }
+questions-demand = record { questions = λ m p. answered m p (reachable-sound p); never13 = λ m p. questions-never-13 m (reachable-sound p) }
