@@ -40,18 +40,20 @@ pub record ShutOut : Type 0 where
   -- as does one that obeys its first command and only acknowledges the rest."
   pub once : (engine : Engine) → Obeys engine → ((m : Model) → (m ≡ empty → ⊥) → (c : Command) (list : List ℕ) → (engine m c list .answer ≡ 0) × (engine m c list .after ≡ m)) → ⊥
 
+-- The same of the questions: demand 2 leaves one reviewer.
 pub record ReviewersShutOut : Type 0 where
-  -- two reviewers that obey demand 2 tell the same, on every policy that can be reached, with any room
+  -- Two reviewers that obey demand 2 tell the same, on every policy that can be reached, with any room and of every question.
   pub oneReviewer : (reviewer other : Reviewer) → Reviewing reviewer → Reviewing other → (m : Model) → Reachable m → (room : ℕ) (q : Question) → reviewer m room q ≡ other m room q
-  -- "A made-up list length breaks the review lists": a length that depends on the room and the question, and not on the policy. So a reviewer whose
-  -- lists have one fixed length is shut out, and one that always fills its room
+  -- "A made-up list length breaks the review lists." The length `made` is made up: it depends on the room and the question, and not on the policy. So
+  -- a reviewer whose lists all have one length is shut out, and so is one that always fills its room.
   pub madeUpLength : (reviewer : Reviewer) → Reviewing reviewer → (made : ℕ → Question → ℕ) → ((m : Model) (room : ℕ) (q : Question) → reviewer m room q .answer ≡ 0 → length (reviewer m room q .results) ≡ made room q) → ⊥
-  -- and so is one that never answers 15, but cuts its lists to the room
+  -- A reviewer that never answers 15, but cuts its lists to the room, is shut out.
   pub cutToRoom : (reviewer : Reviewer) → Reviewing reviewer → ((m : Model) (room : ℕ) (q : Question) → reviewer m room q .answer ≡ 15 → ⊥) → ⊥
-  -- "The schema of RoleOperationsOnObject in document 000 tests the asked role alone": a reviewer whose `role-ops` lists no operation but those that
-  -- the asked role itself holds is shut out. At the bench role 2 inherits role 0, which holds operation 4 on object 30
+  -- "The schema of RoleOperationsOnObject in document 000 tests the asked role alone; its text includes inherited roles, and the text decides." A
+  -- reviewer whose `role-ops` lists no operation but those that the asked role itself holds is shut out. At the bench role 2 inherits role 0, which
+  -- holds operation 4 on object 30.
   pub directGrants : (reviewer : Reviewer) → Reviewing reviewer → ((m : Model) (room : ℕ) (r : Role) (obj op : ℕ) → List·Memᴰ op (reviewer m room (RoleOps r obj) .results) → has (m .holders (op * 256 + obj)) (r .number) ≡ true) → ⊥
-  -- one that answers 0 for a role that does not exist
+  -- A reviewer that answers 0 for a role that does not exist is shut out.
   pub missingRole : (reviewer : Reviewer) → Reviewing reviewer → ((m : Model) (room : ℕ) (r : Role) → has (m .roles) (r .number) ≡ false → reviewer m room (AssignedUsers r) .answer ≡ 0) → ⊥
-  -- one that takes object 299 for an object
+  -- A reviewer to which object 299 is not beyond its range is shut out.
   pub object299 : (reviewer : Reviewer) → Reviewing reviewer → ((m : Model) (room : ℕ) (r : Role) → reviewer m room (RoleOps r 299) .answer ≡ 1 → ⊥) → ⊥
