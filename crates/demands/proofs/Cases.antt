@@ -12,7 +12,7 @@ use Rattle.model.specs.Sheet.{Refusal, _when_}
 use Rattle.sound.proofs.Sheet.{AllClear, ordered, rising, rank, rising-each, rising-ordered}
 use Rattle.demands.specs.Conditions.{NoneBefore}
 use Rattle.demands.specs.Demand2.{Applies, place}
-use Rattle.demands.proofs.Demand2.{applies-none}
+use Rattle.demands.proofs.Exact.{applies-none}
 
 -- the condition of the number n, and no where the list does not have it
 abbrev pub asked : ℕ → List Refusal → Bool

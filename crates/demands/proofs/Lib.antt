@@ -1,13 +1,16 @@
 pub mod Many
 pub mod Counts
 pub mod Broken
+pub mod Lists
 pub mod Settled
 pub mod Commands
 pub mod Questions
 pub mod Kept
 pub mod Demand1
-pub mod Demand2
+pub mod Exact
 pub mod Cases
+pub mod Demand2
+pub mod Reviews
 pub mod Demand3
 pub mod Conditions
 pub mod Effects

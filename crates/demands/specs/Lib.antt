@@ -5,6 +5,7 @@ pub mod Demand1
 pub mod Broken
 pub mod Demand2
 pub mod Conditions
+pub mod Reviews
 pub mod Demand3
 pub mod Effects
 pub mod PolicyFile

@@ -27,13 +27,16 @@ use Rattle.misreadings.specs.Readings.{brokenByAssigned, accessAtTheBenc
 
 -- what is looked at in a policy
 pub record Looked (m : Model) : Type 0 where
-  -- session 0 is open with role 2 active, role 0 exists, the line 2 over 0 stands
+  -- session 0 is open with role 2 active, roles 0 and 2 exist, the line 2 over 0 stands, static set 0 is there
   pub live : m .sessions 0 .live ≡ true
   pub active : has (m .sessions 0 .active) 2 ≡ true
   pub exists : has (m .roles) 0 ≡ true
   pub lower : has (m .juniors 2) 0 ≡ true
-  -- role 0 holds operation 4 on object 30, and no role holds 4 on 31
+  pub senior : has (m .roles) 2 ≡ true
+  pub separated : m .ssd 0 .there ≡ true
+  -- role 0 holds operation 4 on object 30 and role 2 does not, and no role holds 4 on 31
   pub holds : has (m .holders (permission 4 30)) 0 ≡ true
+  pub indirect : has (m .holders (permission 4 30)) 2 ≡ false
   pub unheld : m .holders (permission 4 31) ≡ 0
   -- the static rule with a line 2 over 1, asked of assigned roles only and as the paper says
   pub passed : brokenByAssigned (lined m 2 1) ≡ false
@@ -41,9 +44,9 @@ pub record Looked (m : Model) : Type 0 where
 
 -- all of it as numbers, and the answers for access: one computation. It is user 7 for whom the rule is broken, so the others are not asked
 unfoldable look : Model → Answers
-look m = (bit (m .sessions 0 .live) ∷ bit (has (m .sessions 0 .active) 2) ∷ bit (has (m .roles) 0) ∷ bit (has (m .juniors 2) 0) ∷ bit (has (m .holders (permission 4 30)) 0) ∷ m .holders (permission 4 31) ∷ bit (brokenByAssigned (lined m 2 1)) ∷ bit (staticBroken (lined m 2 1) 7) ∷ []) ∷ answers m accessAtTheBench
+look m = (bit (m .sessions 0 .live) ∷ bit (has (m .sessions 0 .active) 2) ∷ bit (has (m .roles) 0) ∷ bit (has (m .juniors 2) 0) ∷ bit (has (m .holders (permission 4 30)) 0) ∷ m .holders (permission 4 31) ∷ bit (brokenByAssigned (lined m 2 1)) ∷ bit (staticBroken (lined m 2 1) 7) ∷ bit (has (m .roles) 2) ∷ bit (m .ssd 0 .there) ∷ bit (has (m .holders (permission 4 30)) 2) ∷ []) ∷ answers m accessAtTheBench
 
-computed : look atTheBench ≡ (1 ∷ 1 ∷ 1 ∷ 1 ∷ 1 ∷ 0 ∷ 0 ∷ 1 ∷ []) ∷ (0 ∷ 2 ∷ []) ∷ (0 ∷ 1 ∷ []) ∷ (0 ∷ 0 ∷ []) ∷ []
+computed : look atTheBench ≡ (1 ∷ 1 ∷ 1 ∷ 1 ∷ 1 ∷ 0 ∷ 0 ∷ 1 ∷ 1 ∷ 1 ∷ 0 ∷ []) ∷ (0 ∷ 2 ∷ []) ∷ (0 ∷ 1 ∷ []) ∷ (0 ∷ 0 ∷ []) ∷ []
 unfolding some every tally members has pack those with without union common minus subset isEmpty count juniorsOf joined walk reach rising someFrom listed setOf empty put ask sessionRoles verdict settle step breaks breaksSome staticBroken dynamicBroken sessionsOpen user role assign assigned grant granted inherit lined usersCut broken makeSet freeFrom opened session permitted check answers afterwards atTheBench brokenByAssigned look
 computed = refl
 
@@ -65,9 +68,9 @@ bit-no false e = refl
 
 pub bench : Looked atTheBench
 unfolding look first
-bench = record { live = bit-yes _ (at 0); active = bit-yes _ (at 1); exists = bit-yes _ (at 2); lower = bit-yes _ (at 3); holds = bit-yes _ (at 4); unheld = at 5; passed = bit-no _ (at 6); refused = some-intro 256 (staticBroken (lined atTheBench 2 1)) 7 (omega arith) (bit-yes _ (at 7)) }
+bench = record { live = bit-yes _ (at 0); active = bit-yes _ (at 1); exists = bit-yes _ (at 2); lower = bit-yes _ (at 3); senior = bit-yes _ (at 8); separated = bit-yes _ (at 9); holds = bit-yes _ (at 4); indirect = bit-no _ (at 10); unheld = at 5; passed = bit-no _ (at 6); refused = some-intro 256 (staticBroken (lined atTheBench 2 1)) 7 (omega arith) (bit-yes _ (at 7)) }
   where
-    at : (k : ℕ) → getD (first (look atTheBench)) k 0 ≡ getD (1 ∷ 1 ∷ 1 ∷ 1 ∷ 1 ∷ 0 ∷ 0 ∷ 1 ∷ []) k 0
+    at : (k : ℕ) → getD (first (look atTheBench)) k 0 ≡ getD (1 ∷ 1 ∷ 1 ∷ 1 ∷ 1 ∷ 0 ∷ 0 ∷ 1 ∷ 1 ∷ 1 ∷ 0 ∷ []) k 0
     at k = ap (λ (x : Answers). getD (first x) k 0) computed
 
 -- at the bench access is granted through an inherited role

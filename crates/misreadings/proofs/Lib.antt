@@ -1,3 +1,4 @@
 pub mod Bench
 pub mod Readings
 pub mod ShutOut
+pub mod Reviewers

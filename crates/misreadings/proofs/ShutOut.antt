@@ -1,5 +1,5 @@
 -- Demand 2 leaves one engine, and shuts out those that the paper names. Assumes nothing.
-use mathlib.Core.Bool.{Bool, true, false, not}
+use mathlib.Core.Bool.{true, not}
 use mathlib.Core.List.{List, [], _∷_, List·Memᴰ·head, List·Memᴰ·tail, List·Memᴰ·not-nil}
 use mathlib.Core.Logic.{_⊎_, inl, inr, _↔_}
 use mathlib.Core.Path.{_≡_, refl, sym, ap, _∙_}
@@ -11,12 +11,13 @@ use Rattle.roleset.proofs.BoundedLaws.{clash}
 use Rattle.roleset.proofs.Laws.{has-none}
 use Rattle.hierarchy.specs.Lines.{one}
 use Rattle.model.specs.Model.{Model, empty, put}
-use Rattle.model.specs.Sheet.{Refusal, _when_, Told, verdict, settle}
+use Rattle.model.specs.Sheet.{Refusal, Told, verdict, settle}
 use Rattle.model.specs.Step.{step}
 use Rattle.model.specs.Words.{permission}
 use Rattle.model.specs.commands.Users.{user}
 use Rattle.model.specs.declared.Command.{Command}
 use Rattle.model.specs.declared.Command.the-variants.{AddUser}
+use Rattle.sound.proofs.Sheet.{AllClear}
 use Rattle.benchsheet.specs.BenchSheet.{Line, command, question, afterwards, atTheBench, firstTen, u}
 use Rattle.demands.specs.Demand2.{Obeys, Answers, Applies, Exactly, checkRefusals, Checked, Granted, FirstToApply, refusals, results, effect}
 use Rattle.demands.specs.Reachable.{Reachable, start, after}
@@ -37,7 +38,7 @@ one-answer a b P f g = go (ℕ-discrete a 0) (ℕ-discrete b 0)
 told-one : (t v : Told) → t .answer ≡ v .answer → t .results ≡ v .results → t .after ≡ v .after → t ≡ v
 told-one t v a b c = λ i. record { answer = a i; results = b i; after = c i }
 
-exactly-one : (m : Model) (list : List Refusal) (results : List ℕ) (then : Model) (t v : Told) → Exactly m list results then t → Exactly m list results then v → t ≡ v
+pub exactly-one : (m : Model) (list : List Refusal) (results : List ℕ) (then : Model) (t v : Told) → Exactly m list results then t → Exactly m list results then v → t ≡ v
 exactly-one m list results then t v x y = go (ℕ-discrete (t .answer) 0)
   where
     same : t .answer ≡ v .answer
@@ -50,7 +51,7 @@ exactly-one m list results then t v x y = go (ℕ-discrete (t .answer) 0)
 one-engine : (engine other : Engine) → Obeys engine → Obeys other → (m : Model) → Reachable m → (c : Command) (list : List ℕ) → engine m c list ≡ other m c list
 one-engine engine other f g m p c list = exactly-one m (refusals m c list) (results m c list) (effect m c list) (engine m c list) (other m c list) (f m p c list) (g m p c list)
 
-checked-one : (m : Model) (s op obj : ℕ) (t v : Told) → Checked m s op obj t → Checked m s op obj v → t ≡ v
+pub checked-one : (m : Model) (s op obj : ℕ) (t v : Told) → Checked m s op obj t → Checked m s op obj v → t ≡ v
 checked-one m s op obj t v x y = told-one t v same (go (ℕ-discrete (t .answer) 0)) (x .unchanged ∙ sym (y .unchanged))
   where
     same : t .answer ≡ v .answer
@@ -77,20 +78,20 @@ afterwards-reachable m p [] = p
 afterwards-reachable m p (command c list ∷ rest) = afterwards-reachable (step m c list .after) (after p c list) rest
 afterwards-reachable m p (question q ∷ rest) = afterwards-reachable m p rest
 
-bench-reachable : Reachable atTheBench
+pub bench-reachable : Reachable atTheBench
 unfolding atTheBench
 bench-reachable = afterwards-reachable empty start firstTen
 
--- where neither condition holds no number of a list of two applies
-two-clear : (k l : ℕ) (a b : Bool) → a ≡ false → b ≡ false → (n : ℕ) → Applies (k when a ∷ l when b ∷ []) n → ⊥
-two-clear k l a b p q n (List·Memᴰ·head e) = clash a (ap (λ (x : Refusal). x .holds) (sym e)) p
-two-clear k l a b p q n (List·Memᴰ·tail (List·Memᴰ·head e)) = clash b (ap (λ (x : Refusal). x .holds) (sym e)) q
-two-clear k l a b p q n (List·Memᴰ·tail (List·Memᴰ·tail m)) = List·Memᴰ·not-nil m
+-- where no condition of a list holds no number of it applies
+pub none-applies : (cases : List Refusal) → AllClear cases → (n : ℕ) → Applies cases n → ⊥
+none-applies [] c n a = List·Memᴰ·not-nil a
+none-applies (r ∷ rest) c n (List·Memᴰ·head e) = clash true refl (ap (λ (x : Refusal). x .holds) e ∙ c .0)
+none-applies (r ∷ rest) c n (List·Memᴰ·tail a) = none-applies rest (c .1) n a
 
 -- on the empty policy a user may be added
 first-user : (n : ℕ) → Applies (refusals empty (AddUser (u 0)) []) n → ⊥
 unfolding refusals empty
-first-user = two-clear 1 4 _ _ refl refl
+first-user = none-applies _ (refl, (refl, tt))
 
 refusing : (engine : Engine) → Obeys engine → ((m : Model) (c : Command) (list : List ℕ) → engine m c list .answer ≡ 0 → ⊥) → ⊥
 refusing engine f h = h empty (AddUser (u 0)) [] (f empty start (AddUser (u 0)) [] .done .1 first-user)
@@ -118,10 +119,10 @@ bench-granted : Granted atTheBench 0 (permission 4 30)
 bench-granted = record { role = 0; effective = record { exists = bench .exists; through = inr (2, bench .active, one (bench .lower)) }; holds = bench .holds }
 
 bench-open : (n : ℕ) → Applies (checkRefusals atTheBench 0 4 30) n → ⊥
-bench-open = two-clear 1 2 _ _ refl (ap not (bench .live))
+bench-open = none-applies _ (refl, (ap not (bench .live), tt))
 
 bench-closed : (n : ℕ) → Applies (checkRefusals atTheBench 0 4 31) n → ⊥
-bench-closed = two-clear 1 2 _ _ refl (ap not (bench .live))
+bench-closed = none-applies _ (refl, (ap not (bench .live), tt))
 
 yes-is-not-no : _≡_ {A = List ℕ} (1 ∷ []) (0 ∷ []) → ⊥
 yes-is-not-no e = let z : _≡_ {A = ℕ} 1 0 = cc in omega arith
