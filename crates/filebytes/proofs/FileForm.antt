@@ -1,0 +1,1 @@
+-- The form of the policy file is the paper's. Assumes nothing.
