@@ -2,4 +2,6 @@
 pub mod Lists
 pub mod OneWay
 pub mod Listed
+pub mod Same
+pub mod Built
 pub mod FileForm

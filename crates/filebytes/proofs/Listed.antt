@@ -86,14 +86,14 @@ sections-bytes m =
 
 -- ---- they are of the form
 
-pair-up : (k j : ℕ) → k < j → pairBefore (pairOf k) (pairOf j)
+pub pair-up : (k j : ℕ) → k < j → pairBefore (pairOf k) (pairOf j)
 pair-up k j l = go (decLt (k / 64) (j / 64))
   where
     go : Dec (k / 64 < j / 64) → pairBefore (pairOf k) (pairOf j)
     go (yes h) = inl h
     go (no h) = inr (omega arith, omega arith)
 
-grant-up : (k j : ℕ) → k < j → grantBefore (grantOf k) (grantOf j)
+pub grant-up : (k j : ℕ) → k < j → grantBefore (grantOf k) (grantOf j)
 grant-up k j l = go (decLt (k / 4096) (j / 4096)) (decLt (k % 4096 / 256) (j % 4096 / 256))
   where
     go : Dec (k / 4096 < j / 4096) → Dec (k % 4096 / 256 < j % 4096 / 256) → grantBefore (grantOf k) (grantOf j)

@@ -1,13 +1,13 @@
 -- Laws of lists: what holds of every entry, ascending lists, and the ascending list of the numbers that pass a test. Assumes nothing.
-use mathlib.Core.Bool.{Bool, true, false}
-use mathlib.Core.List.{List, [], _∷_, _++_, map, List·Memᴰ, List·Memᴰ·head, List·Memᴰ·tail, List·Memᴰ·not-nil, List·Memᴰ·append-cases, List·Memᴰ·eq-of-singleton, Memᴰ·append-left, Memᴰ·append-right, append-nil}
+use mathlib.Core.Bool.{Bool, true, false, _||_}
+use mathlib.Core.List.{List, [], _∷_, _++_, map, List·Memᴰ, List·Memᴰ·head, List·Memᴰ·tail, List·Memᴰ·not-nil, List·Memᴰ·cases-cons, List·Memᴰ·append-cases, List·Memᴰ·eq-of-singleton, Memᴰ·append-left, Memᴰ·append-right, Memᴰ·cast, append-nil}
 use mathlib.Core.Logic.{_⊎_, inl, inr}
-use mathlib.Core.Path.{_≡_, refl, sym, ap, subst, _∙_}
+use mathlib.Core.Path.{_≡_, refl, sym, ap, ap₂, subst, _∙_}
 use Prim.Native.Nat.{ℕ, zero, suc, _≤_, _<_}
 use native.Mathlib.Omega.{arith}
 use lib.ListN.{length, length-map}
 use Rattle.roleset.specs.Bounded.{onlyIf, members}
-use Rattle.roleset.proofs.BoundedLaws.{last-or-below}
+use Rattle.roleset.proofs.BoundedLaws.{or-cases, or-left, or-right, last-or-below}
 use Rattle.filebytes.specs.Sections.{Every, Ascending, Good}
 
 -- ---- every entry
@@ -103,3 +103,65 @@ good-members limit Fine Before g n test few fine up =
 pub good-numbers : (limit : ℕ) (Fine : ℕ → Type 0) (n : ℕ) (test : ℕ → Bool) → length (members n test) ≤ limit → ((k : ℕ) → k < n → test k ≡ true → Fine k) → Good limit Fine _<_ (members n test)
 good-numbers limit Fine n test few fine =
     record { count = few; each = every-intro Fine (members n test) (λ k m. let p = members-in n test k m in fine k (p .0) (p .1)); order = ascending-members n test }
+
+-- ---- two ascending lists with the same entries are one list
+
+module _ {A : Type 0} (Before : A → A → Type 0) (never-both : (a b : A) → Before a b → Before b a → ⊥) where
+  not-first : (a b x : A) (l k : List A) → Every (Before a) l → a ≡ b → ((y : A) → List·Memᴰ y (a ∷ l) → List·Memᴰ y (b ∷ k)) → List·Memᴰ x l → List·Memᴰ x k
+  not-first a b x l k p same to m = go (List·Memᴰ·cases-cons (to x (List·Memᴰ·tail m)))
+    where
+      below : Before a x
+      below = every-elim (Before a) l p x m
+
+      go : (x ≡ b) ⊎ List·Memᴰ x k → List·Memᴰ x k
+      go (inl e) = let self : Before a a = subst (Before a) (e ∙ sym same) below in absurd (never-both a a self self)
+      go (inr i) = i
+
+  pub same-list : (l k : List A) → Ascending Before l → Ascending Before k → ((a : A) → List·Memᴰ a l → List·Memᴰ a k) → ((a : A) → List·Memᴰ a k → List·Memᴰ a l) → l ≡ k
+  same-list [] [] p q to back = refl
+  same-list [] (b ∷ k) p q to back = absurd (List·Memᴰ·not-nil (back b (List·Memᴰ·head refl)))
+  same-list (a ∷ l) [] p q to back = absurd (List·Memᴰ·not-nil (to a (List·Memᴰ·head refl)))
+  same-list (a ∷ l) (b ∷ k) p q to back = ap₂ _∷_ same (same-list l k (p .1) (q .1) (λ x. not-first a b x l k (p .0) same to) (λ x. not-first b a x k l (q .0) (sym same) back))
+    where
+      which : (a ≡ b) ⊎ List·Memᴰ a k → (b ≡ a) ⊎ List·Memᴰ b l → a ≡ b
+      which (inl e) y = e
+      which (inr i) (inl e) = sym e
+      which (inr i) (inr j) = absurd (never-both a b (every-elim (Before a) l (p .0) b j) (every-elim (Before b) k (q .0) a i))
+
+      same : a ≡ b
+      same = which (List·Memᴰ·cases-cons (to a (List·Memᴰ·head refl))) (List·Memᴰ·cases-cons (back b (List·Memᴰ·head refl)))
+
+-- ---- some entry passes a test
+
+unfoldable pub any : {A : Type 0} → (A → Bool) → List A → Bool
+any test [] = false
+any test (a ∷ l) = test a || any test l
+
+pub any-in : {A : Type 0} (test : A → Bool) (l : List A) → any test l ≡ true → (a : A) × (List·Memᴰ a l) × (test a ≡ true)
+unfolding any
+any-in test [] e = absurd (let z : _≡_ {A = ℕ} 0 1 = cc in omega arith)
+any-in {A} test (a ∷ l) e = go (or-cases (test a) (any test l) e) (any-in test l)
+  where
+    go : (test a ≡ true) ⊎ (any test l ≡ true) → (any test l ≡ true → (b : A) × (List·Memᴰ b l) × (test b ≡ true)) → (b : A) × (List·Memᴰ b (a ∷ l)) × (test b ≡ true)
+    go (inl h) ih = (a, List·Memᴰ·head refl, h)
+    go (inr h) ih = let q = ih h in (q .0, List·Memᴰ·tail (q .1), q .2)
+
+pub in-any : {A : Type 0} (test : A → Bool) (l : List A) (a : A) → List·Memᴰ a l → test a ≡ true → any test l ≡ true
+unfolding any
+in-any test (b ∷ l) a (List·Memᴰ·head e) h = or-left (test b) (any test l) (ap test (sym e) ∙ h)
+in-any test (b ∷ l) a (List·Memᴰ·tail m) h = or-right (test b) (any test l) (in-any test l a m h)
+
+-- ---- the numbers below n that pass a test, each made into the entry of this number
+
+-- An ascending list is this one, where each of its entries is that of a number that passes, and it has the entry of each such number.
+pub listed-same : {A : Type 0} (Before : A → A → Type 0) → ((a b : A) → Before a b → Before b a → ⊥) → (key : A → ℕ) (entry : ℕ → A) (n : ℕ) (test : ℕ → Bool) → ((k j : ℕ) → k < j → Before (entry k) (entry j)) → (l : List A) → Ascending Before l → ((a : A) → List·Memᴰ a l → (key a < n) × (test (key a) ≡ true) × (entry (key a) ≡ a)) → ((k : ℕ) → k < n → test k ≡ true → List·Memᴰ (entry k) l) → map entry (members n test) ≡ l
+listed-same {A} Before never-both key entry n test up l p own has-each = same-list Before never-both (map entry (members n test)) l (ascending-map _<_ Before entry up (members n test) (ascending-members n test)) p to back
+  where
+    to : (a : A) → List·Memᴰ a (map entry (members n test)) → List·Memᴰ a l
+    to a m = let q = map-in entry (members n test) a m in let i = members-in n test (q .0) (q .1) in Memᴰ·cast (q .2) (has-each (q .0) (i .0) (i .1))
+
+    back : (a : A) → List·Memᴰ a l → List·Memᴰ a (map entry (members n test))
+    back a m = let o = own a m in Memᴰ·cast (sym (o .2)) (in-map entry (key a) (members n test) (in-members n test (key a) (o .0) (o .1)))
+
+pub less-never : (a b : ℕ) → a < b → b < a → ⊥
+less-never a b p q = omega arith
