@@ -4,6 +4,7 @@ pub mod Questions
 pub mod Kept
 pub mod Demand1
 pub mod Demand2
+pub mod Exact
 pub mod Demand3
 pub mod Effects
 pub mod PolicyFile

@@ -5,7 +5,7 @@ use mathlib.Core.Logic.{_⊎_, inl, inr}
 use mathlib.Core.Path.{_≡_, refl, sym, ap, ap₂, subst, _∙_}
 use Prim.Native.Nat.{ℕ, zero, suc, _≤_, _<_}
 use native.Mathlib.Omega.{arith}
-use lib.ListN.{length, length-map}
+use lib.ListN.{length, take, length-map, length-take}
 use Rattle.roleset.specs.Bounded.{onlyIf, members}
 use Rattle.roleset.proofs.BoundedLaws.{or-cases, or-left, or-right, last-or-below}
 use Rattle.filebytes.specs.Sections.{Every, Ascending, Good}
@@ -165,3 +165,54 @@ listed-same {A} Before never-both key entry n test up l p own has-each = same-li
 
 pub less-never : (a b : ℕ) → a < b → b < a → ⊥
 less-never a b p q = omega arith
+
+-- ---- how long an ascending list is
+
+module _ {A : Type 0} (Before : A → A → Type 0) (never-both : (a b : A) → Before a b → Before b a → ⊥) where
+  -- the entries of a list that starts later are those of the rest
+  in-rest : (a b : A) (l k : List A) → Ascending Before (a ∷ l) → Ascending Before (b ∷ k) → ((y : A) → List·Memᴰ y (a ∷ l) → List·Memᴰ y (b ∷ k)) → List·Memᴰ a k → (x : A) → List·Memᴰ x (a ∷ l) → List·Memᴰ x k
+  in-rest a b l k p q to i x (List·Memᴰ·head e) = Memᴰ·cast e i
+  in-rest a b l k p q to i x (List·Memᴰ·tail m) = go (List·Memᴰ·cases-cons (to x (List·Memᴰ·tail m)))
+    where
+      go : (x ≡ b) ⊎ List·Memᴰ x k → List·Memᴰ x k
+      go (inl e) = absurd (never-both a b (subst (Before a) e (every-elim (Before a) l (p .0) x m)) (every-elim (Before b) k (q .0) a i))
+      go (inr j) = j
+
+  -- An ascending list whose entries stand in another is not longer,
+  pub shorter : (k l : List A) → Ascending Before l → Ascending Before k → ((a : A) → List·Memᴰ a l → List·Memᴰ a k) → length l ≤ length k
+  shorter [] [] p q to = omega arith
+  shorter (b ∷ k) [] p q to = omega arith
+  shorter [] (a ∷ l) p q to = absurd (List·Memᴰ·not-nil (to a (List·Memᴰ·head refl)))
+  shorter (b ∷ k) (a ∷ l) p q to = go (List·Memᴰ·cases-cons (to a (List·Memᴰ·head refl))) (λ x p′ to′. shorter k x p′ (q .1) to′)
+    where
+      go : (a ≡ b) ⊎ List·Memᴰ a k → ((x : List A) → Ascending Before x → ((y : A) → List·Memᴰ y x → List·Memᴰ y k) → length x ≤ length k) → length (a ∷ l) ≤ length (b ∷ k)
+      go (inl e) ih = omega (arith, ih l (p .1) (λ x. not-first Before never-both a b x l k (p .0) e to))
+      go (inr i) ih = omega (arith, ih (a ∷ l) p (in-rest a b l k p q to i))
+
+  -- and where it is as long, it is the other.
+  pub fills : (l k : List A) → Ascending Before l → Ascending Before k → ((a : A) → List·Memᴰ a l → List·Memᴰ a k) → length k ≡ length l → k ≡ l
+  fills [] [] p q to n = refl
+  fills [] (b ∷ k) p q to n = absurd (omega arith)
+  fills (a ∷ l) [] p q to n = absurd (omega arith)
+  fills (a ∷ l) (b ∷ k) p q to n = go (List·Memᴰ·cases-cons (to a (List·Memᴰ·head refl))) (λ to′. fills l k (p .1) (q .1) to′ (omega arith))
+    where
+      go : (a ≡ b) ⊎ List·Memᴰ a k → (((y : A) → List·Memᴰ y l → List·Memᴰ y k) → k ≡ l) → b ∷ k ≡ a ∷ l
+      go (inl e) ih = ap₂ _∷_ (sym e) (ih (λ x. not-first Before never-both a b x l k (p .0) e to))
+      go (inr i) ih = absurd (omega (arith, shorter k (a ∷ l) p (q .1) (in-rest a b l k p q to i)))
+
+every-take : {A : Type 0} (P : A → Type 0) (n : ℕ) (l : List A) → Every P l → Every P (take n l)
+every-take P zero l p = tt
+every-take P (suc n) [] p = tt
+every-take P (suc n) (a ∷ l) p = (p .0, every-take P n l (p .1))
+
+ascending-take : {A : Type 0} (Before : A → A → Type 0) (n : ℕ) (l : List A) → Ascending Before l → Ascending Before (take n l)
+ascending-take Before zero l p = tt
+ascending-take Before (suc n) [] p = tt
+ascending-take Before (suc n) (a ∷ l) p = (every-take (Before a) n l (p .0), ascending-take Before n l (p .1))
+
+-- n different numbers below `most` that pass a test: there are so many exactly when as many as n pass it
+pub some-passing : (most : ℕ) (test : ℕ → Bool) (n : ℕ) → n ≤ length (members most test) → (l : List ℕ) × (length l ≡ n) × (Ascending _<_ l) × (Every (λ k. test k ≡ true) l)
+some-passing most test n h = (take n (members most test), length-take n (members most test) ∙ omega arith, ascending-take _<_ n (members most test) (ascending-members most test), every-take (λ k. test k ≡ true) n (members most test) (every-intro (λ k. test k ≡ true) (members most test) (λ k m. members-in most test k m .1)))
+
+pub passing-few : (most : ℕ) (test : ℕ → Bool) (l : List ℕ) → Ascending _<_ l → Every (λ k. (k < most) × (test k ≡ true)) l → length l ≤ length (members most test)
+passing-few most test l p q = shorter _<_ less-never (members most test) l p (ascending-members most test) (λ k m. let y = every-elim (λ k. (k < most) × (test k ≡ true)) l q k m in in-members most test k (y .0) (y .1))
