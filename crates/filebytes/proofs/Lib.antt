@@ -4,4 +4,6 @@ pub mod OneWay
 pub mod Listed
 pub mod Same
 pub mod Built
+pub mod Decided
+pub mod Tables
 pub mod FileForm

@@ -45,7 +45,7 @@ map-in g (a ∷ l) b (List·Memᴰ·tail m) = let q = map-in g l b m in (q .0, L
 
 -- ---- ascending
 
-ascending-map : {A B : Type 0} (Before : A → A → Type 0) (Next : B → B → Type 0) (g : A → B) → ((a b : A) → Before a b → Next (g a) (g b)) → (l : List A) → Ascending Before l → Ascending Next (map g l)
+pub ascending-map : {A B : Type 0} (Before : A → A → Type 0) (Next : B → B → Type 0) (g : A → B) → ((a b : A) → Before a b → Next (g a) (g b)) → (l : List A) → Ascending Before l → Ascending Next (map g l)
 ascending-map Before Next g f [] p = tt
 ascending-map Before Next g f (a ∷ l) p = (every-map (Before a) (Next (g a)) g (f a) l (p .0), ascending-map Before Next g f l (p .1))
 

@@ -18,7 +18,7 @@ use Rattle.filebytes.proofs.Listed.{pairOf, grantOf, setEntryOf, sessio
 numbers-same : (n : ℕ) (test : ℕ → Bool) (l : List ℕ) → Ascending _<_ l → ((k : ℕ) → Listed k l → k < n) → ((k : ℕ) → (test k ≡ true) ↔ Listed k l) → members n test ≡ l
 numbers-same n test l p small says = same-list _<_ less-never (members n test) l (ascending-members n test) p (λ k m. says k .0 (members-in n test k m .1)) (λ k m. in-members n test k (small k m) (says k .1 m))
 
-pair-never : (p q : ℕ × ℕ) → pairBefore p q → pairBefore q p → ⊥
+pub pair-never : (p q : ℕ × ℕ) → pairBefore p q → pairBefore q p → ⊥
 pair-never p q (inl a) (inl b) = omega arith
 pair-never p q (inl a) (inr b) = omega (arith, b .0)
 pair-never p q (inr a) (inl b) = omega (arith, a .0)
@@ -34,7 +34,7 @@ pairs-same size table l p small says = listed-same pairBefore pair-never (λ p. 
         let col : (64 * p .0 + p .1) % 64 ≡ p .1 = omega (arith, s .1) in
         (omega (arith, s .0, s .1), ap₂ (λ (a b : ℕ). has (table a) b) row col ∙ says (p .0) (p .1) .1 m, λ j. (row j, col j))
 
-grant-never : (p q : ℕ × ℕ × ℕ) → grantBefore p q → grantBefore q p → ⊥
+pub grant-never : (p q : ℕ × ℕ × ℕ) → grantBefore p q → grantBefore q p → ⊥
 grant-never p q (inl a) (inl b) = omega arith
 grant-never p q (inl a) (inr b) = omega (arith, b .0)
 grant-never p q (inr a) (inl b) = omega (arith, a .0)
