@@ -1,0 +1,4 @@
+pub mod Bare
+pub mod Counted
+pub mod Conditions
+pub mod Loading

@@ -1,0 +1,110 @@
+-- What loading answers, for any bytes. "Answer 14: .. Then 6 (a line from a role to itself too), 7, 9, 10, 11 and 13, lowest first. An accepted
+-- load replaces the policy and sessions whole." Assumes nothing.
+use mathlib.Core.Bool.{Bool, true}
+use mathlib.Core.List.{List, [], _∷_}
+use mathlib.Core.Logic.{_⊎_, _↔_}
+use mathlib.Core.Path.{_≡_}
+use Prim.Native.Nat.{ℕ, _<_}
+use lib.ListN.{length}
+use Rattle.roleset.specs.Roles.{has}
+use Rattle.hierarchy.specs.Lines.{Inherits}
+use Rattle.model.specs.Model.{Model}
+use Rattle.model.specs.Sheet.{Refusal, _when_, Told, refused}
+use Rattle.model.specs.commands.Sets.{setsOf}
+use Rattle.model.specs.declared.Kind.{Kind}
+use Rattle.policyform.specs.Form.{FileOf}
+use Rattle.policyform.specs.Promises.{Loads}
+use Rattle.filebytes.specs.Sections.{Every, Ascending}
+use Rattle.filebytes.specs.FileForm.{AsThePaperSays}
+use Rattle.demands.specs.Authorised.{Authorised}
+use Rattle.demands.specs.Demand2.{Exactly}
+
+-- as many as n different numbers are so: a strictly ascending list of n numbers, each of which is so
+pub record AsMany (n : ℕ) (So : ℕ → Type 0) : Type 0 where
+  pub numbers : List ℕ
+  pub many : length numbers ≡ n
+  pub different : Ascending _<_ numbers
+  pub each : Every So numbers
+
+-- ---- what a file of the form may break
+
+-- 6: "a role would inherit itself"
+pub record Circle (m : Model) : Type 0 where
+  pub role : ℕ
+  pub itself : Inherits (m .juniors) role role
+
+-- 7: "a cardinality would be below 2 or above its set's size": some set, static or dynamic, has not as many roles as its cardinality
+pub record BadCardinality (m : Model) : Type 0 where
+  pub kind : Kind
+  pub name : ℕ
+  pub there : setsOf kind m name .there ≡ true
+  pub bad : (setsOf kind m name .card < 2) ⊎ (AsMany (setsOf kind m name .card) (λ r. has (setsOf kind m name .roles) r ≡ true) → ⊥)
+
+-- 9: "the owner is not authorised for an asked role": some open session has an active role that its owner is not authorised for
+pub record NotAuthorised (m : Model) : Type 0 where
+  pub session : ℕ
+  pub role : ℕ
+  pub live : m .sessions session .live ≡ true
+  pub active : has (m .sessions session .active) role ≡ true
+  pub not-authorised : Authorised m (m .sessions session .owner) role → ⊥
+
+-- 10: "an SSD rule would be broken for some user": some user is authorised for as many roles of a static set as its cardinality
+pub record StaticBroken (m : Model) : Type 0 where
+  pub user : ℕ
+  pub name : ℕ
+  pub exists : m .users user ≡ true
+  pub there : m .ssd name .there ≡ true
+  pub many : AsMany (m .ssd name .card) (λ r. (has (m .ssd name .roles) r ≡ true) × Authorised m user r)
+
+-- 11: "a DSD rule would be broken in some session": some session has as many roles of a dynamic set active as its cardinality
+pub record DynamicBroken (m : Model) : Type 0 where
+  pub session : ℕ
+  pub name : ℕ
+  pub live : m .sessions session .live ≡ true
+  pub there : m .dsd name .there ≡ true
+  pub many : AsMany (m .dsd name .card) (λ r. (has (m .dsd name .roles) r ≡ true) × (has (m .sessions session .active) r ≡ true))
+
+-- ---- the answers
+
+-- neither 6 nor 7 applies
+abbrev pub Clear : Model → Type 0
+Clear m = (Circle m → ⊥) × (BadCardinality m → ⊥)
+
+-- Five answers of yes or no that say what the file breaks. Those that come after 6 and 7 need to say it only where neither of these applies.
+pub record Asked (m : Model) : Type 0 where
+  pub circle : Bool
+  pub circle-says : (circle ≡ true) ↔ Circle m
+  pub cardinality : Bool
+  pub cardinality-says : (cardinality ≡ true) ↔ BadCardinality m
+  pub owner : Bool
+  pub owner-says : Clear m → (owner ≡ true) ↔ NotAuthorised m
+  pub static : Bool
+  pub static-says : Clear m → (static ≡ true) ↔ StaticBroken m
+  pub dynamic : Bool
+  pub dynamic-says : Clear m → (dynamic ≡ true) ↔ DynamicBroken m
+
+-- "Then 6 .., 7, 9, 10, 11". 13 is not on the list: a chain of more than 64 roles is a circle, which is 6
+abbrev pub loadRefusals : {m : Model} → Asked m → List Refusal
+loadRefusals asked =
+    6 when asked .circle
+    ∷ 7 when asked .cardinality
+    ∷ 9 when asked .owner
+    ∷ 10 when asked .static
+    ∷ 11 when asked .dynamic
+    ∷ []
+
+-- the answers that are told exactly by this list: a number exactly when it is the first of the list that applies, and nothing changes then; 0
+-- exactly when none applies, and then the policy and sessions are those of the file
+pub record Answered (before m : Model) (told : Told) : Type 0 where
+  pub asked : Asked m
+  pub exactly : Exactly before (loadRefusals asked) [] m told
+
+pub record Loading : Type 0 where
+  -- 14 is answered exactly when the bytes are not of the form that the paper says,
+  pub fourteen : (before : Model) (bytes : List ℕ) (told : Told) → Loads before bytes told → (told .answer ≡ 14) ↔ (AsThePaperSays bytes → ⊥)
+  -- and it changes nothing
+  pub unchanged : (before : Model) (bytes : List ℕ) (told : Told) → Loads before bytes told → told .answer ≡ 14 → told ≡ refused 14 before
+  -- the file of a policy gets the first of 6, 7, 9, 10 and 11 that applies to this policy; or it is loaded, and the policy is this one
+  pub answers : (before m : Model) (bytes : List ℕ) (told : Told) → FileOf m bytes → Loads before bytes told → Answered before m told
+  -- no load answers 13
+  pub never-13 : (before : Model) (bytes : List ℕ) (told : Told) → Loads before bytes told → told .answer ≡ 13 → ⊥
