@@ -1,2 +1,3 @@
 pub mod ScriptLines
 pub mod Program
+pub mod Rows
