@@ -1,3 +1,4 @@
 pub mod ScriptLines
 pub mod Program
 pub mod Rows
+pub mod Permissions
