@@ -9,7 +9,6 @@ use borrow.Author.Tests.{eqb-true}
 use Rattle.roleset.specs.Bounded.{members}
 use Rattle.roleset.specs.Roles.{has, with, none, common, isEmpty}
 use Rattle.roleset.proofs.Laws.{has-common, has-none, isEmpty-intro}
-use Rattle.roleset.proofs.BoundedLaws.{and-right}
 use Rattle.roleset.proofs.MembersLaws.{members-ext}
 use Rattle.model.specs.Model.{Model}
 use Rattle.model.specs.Questions.{holds, rolePerms, userPerms, sessionPerms, review, ask}
@@ -20,7 +19,7 @@ use Rattle.model.specs.declared.Question.the-variants.{RolePerms, UserPerms, Se
 use Rattle.words.specs.Bytes.{bytes, same}
 use Rattle.words.proofs.Laws.{and-true, same-equal}
 use Rattle.script.specs.Script.{room, obey, answerText}
-use Rattle.transcripts.specs.Rows.{Row, _⇒_, lineOf, Answered, ends, prints}
+use Rattle.transcripts.specs.Rows.{Row, _⇒_, lineOf, afterRows, Answered, ends, prints}
 use Rattle.transcripts.proofs.Rows.{tells}
 
 -- ---- the list of the permissions that some role of the set holds
@@ -78,15 +77,16 @@ abbrev pub rowsOf : List Said → List Row
 rowsOf [] = []
 rowsOf (x ∷ rest) = (x .line ⇒ x .answer) ∷ rowsOf rest
 
-unfoldable pub rightSaid : List Said → Model → Bool
-rightSaid [] m = true
-rightSaid (x ∷ rest) m = tells (x .told m) (x .answer) (rightSaid rest)
+unfoldable pub rightSaid : List Said → (Model → Bool) → Model → Bool
+rightSaid [] later m = later m
+rightSaid (x ∷ rest) later m = tells (x .told m) (x .answer) (rightSaid rest later)
 
-pub answered-said : (m : Model) (rows : List Said) → rightSaid rows m ≡ true → Answered m (rowsOf rows)
-unfolding rightSaid tells
-answered-said m [] e = ends
-answered-said m (x ∷ rest) e =
+pub answered-said : (m : Model) (rows : List Said) (later : Model → Bool) → rightSaid rows later m ≡ true → Answered m (rowsOf rows) × (later (afterRows m (rowsOf rows)) ≡ true)
+unfolding rightSaid tells afterRows
+answered-said m [] later e = (ends, e)
+answered-said m (x ∷ rest) later e =
     let t = obey m (bytes (x .line)) in
-    let f = subst (λ (t : Told). tells t (x .answer) (rightSaid rest) ≡ true) (sym (x .is m)) e in
-    let p = and-true (same (answerText (t .answer) (t .results)) (lineOf (x .answer))) (rightSaid rest (t .after)) f in
-    prints (same-equal _ _ (p .0)) (answered-said (t .after) rest (p .1))
+    let f = subst (λ (t : Told). tells t (x .answer) (rightSaid rest later) ≡ true) (sym (x .is m)) e in
+    let p = and-true (same (answerText (t .answer) (t .results)) (lineOf (x .answer))) (rightSaid rest later (t .after)) f in
+    let q = answered-said (t .after) rest later (p .1) in
+    (prints (same-equal _ _ (p .0)) (q .0), q .1)

@@ -23,9 +23,10 @@ use Rattle.textlines.specs.Parts.{partsOf, upTo}
 use Rattle.reading.specs.Form.{render, wordIn, numbersIn, parse}
 use Rattle.meaning.specs.Meaning.{meanings, meant}
 use Rattle.script.specs.Script.{obey, answerText}
+use Rattle.transcripts.specs.Rows.{Answered}
 use Rattle.transcripts.proofs.Rows.{tells, rightThen, right, answered-then, answered, answered-append}
 use Rattle.transcripts.proofs.Permissions.{quick, roleTold, userTold, sessionTold, role-told, user-told, session-told, Said, rightSaid, answered-said}
-use Rattle.wordsheet.specs.WordSheet.{people, sessions, granting, sets, WordSheet}
+use Rattle.wordsheet.specs.WordSheet.{people, sessions, granting, permissions, revoking, sets, oneTooFew, oneTooMany, WordSheet}
 
 people-right : right people empty ≡ true
 unfolding some every tally total members has pack those with without union common minus subset isEmpty count juniorsOf joined walk reach turned atOrAbove rising someFrom listed setOf empty put ask assignedUsers assignedRoles authUsers authRoles sessionRoles roleOps userOps setNames setRoles setCount verdict settle step breaks breaksSome staticBroken dynamicBroken shedded shed shedCut sessionsOpen user role nouser norole inSet endedOf allEnded withoutUser withoutRole assign assigned deassign deassigned grant granted revoke revoked inherit lined usersCut disinherit unlined broken makeSet dropSet addMember dropMember setCardinality freeFrom opened session activeSet activate drop end permitted check decimal lead numbered takenFrom same words spelling takes placeIn which partsOf upTo render wordIn numbersIn parse meanings meant obey answerText tells rightThen
@@ -39,26 +40,41 @@ sets-right : right sets empty ≡ true
 unfolding some every tally total members has pack those with without union common minus subset isEmpty count juniorsOf joined walk reach turned atOrAbove rising someFrom listed setOf empty put ask assignedUsers assignedRoles authUsers authRoles sessionRoles roleOps userOps setNames setRoles setCount verdict settle step breaks breaksSome staticBroken dynamicBroken shedded shed shedCut sessionsOpen user role nouser norole inSet endedOf allEnded withoutUser withoutRole assign assigned deassign deassigned grant granted revoke revoked inherit lined usersCut disinherit unlined broken makeSet dropSet addMember dropMember setCardinality freeFrom opened session activeSet activate drop end permitted check decimal lead numbered takenFrom same words spelling takes placeIn which partsOf upTo render wordIn numbersIn parse meanings meant obey answerText tells rightThen
 sets-right = refl
 
+few-right : right oneTooFew empty ≡ true
+unfolding some every tally total members has pack those with without union common minus subset isEmpty count juniorsOf joined walk reach turned atOrAbove rising someFrom listed setOf empty put ask assignedUsers assignedRoles authUsers authRoles sessionRoles roleOps userOps setNames setRoles setCount verdict settle step breaks breaksSome staticBroken dynamicBroken shedded shed shedCut sessionsOpen user role nouser norole inSet endedOf allEnded withoutUser withoutRole assign assigned deassign deassigned grant granted revoke revoked inherit lined usersCut disinherit unlined broken makeSet dropSet addMember dropMember setCardinality freeFrom opened session activeSet activate drop end permitted check decimal lead numbered takenFrom same words spelling takes placeIn which partsOf upTo render wordIn numbersIn parse meanings meant obey answerText tells rightThen
+few-right = refl
+
+many-right : right oneTooMany empty ≡ true
+unfolding some every tally total members has pack those with without union common minus subset isEmpty count juniorsOf joined walk reach turned atOrAbove rising someFrom listed setOf empty put ask assignedUsers assignedRoles authUsers authRoles sessionRoles roleOps userOps setNames setRoles setCount verdict settle step breaks breaksSome staticBroken dynamicBroken shedded shed shedCut sessionsOpen user role nouser norole inSet endedOf allEnded withoutUser withoutRole assign assigned deassign deassigned grant granted revoke revoked inherit lined usersCut disinherit unlined broken makeSet dropSet addMember dropMember setCardinality freeFrom opened session activeSet activate drop end permitted check decimal lead numbered takenFrom same words spelling takes placeIn which partsOf upTo render wordIn numbersIn parse meanings meant obey answerText tells rightThen
+many-right = refl
+
 -- the three lists of permissions
 unfoldable said : List Said
 unfolding decimal lead numbered takenFrom same words spelling takes placeIn which partsOf upTo render wordIn numbersIn parse meanings meant obey
 said =
-    record { line = "role-perms 2"; answer = "0 1822 2078"; told = roleTold 2; is = role-told 2 } ∷
-    record { line = "user-perms 3"; answer = "0 1822 2078 2334"; told = userTold 3; is = user-told 3 } ∷
-    record { line = "session-perms 0"; answer = "0 1822 2078"; told = sessionTold 0; is = session-told 0 } ∷
+    record { line = "role-perms 63"; answer = "0 1822 4095"; told = roleTold 63; is = role-told 63 } ∷
+    record { line = "user-perms 255"; answer = "0 1822 2334 4095"; told = userTold 255; is = user-told 255 } ∷
+    record { line = "session-perms 0"; answer = "0 1822 4095"; told = sessionTold 0; is = session-told 0 } ∷
     []
 
-permissions-right : rightThen granting (rightSaid said) empty ≡ true
+permissions-right : rightThen granting (rightSaid said (right revoking)) empty ≡ true
 unfolding some every tally total members has pack those with without union common minus subset isEmpty count juniorsOf joined walk reach turned atOrAbove rising someFrom listed setOf empty put ask assignedUsers assignedRoles authUsers authRoles sessionRoles roleOps userOps setNames setRoles setCount verdict settle step breaks breaksSome staticBroken dynamicBroken shedded shed shedCut sessionsOpen user role nouser norole inSet endedOf allEnded withoutUser withoutRole assign assigned deassign deassigned grant granted revoke revoked inherit lined usersCut disinherit unlined broken makeSet dropSet addMember dropMember setCardinality freeFrom opened session activeSet activate drop end permitted check decimal lead numbered takenFrom same words spelling takes placeIn which partsOf upTo render wordIn numbersIn parse meanings meant obey answerText tells rightThen quick said rightSaid
 permissions-right = refl
 
-pub word-sheet : WordSheet
+granting-answered : Answered empty (granting ++ (permissions ++ revoking))
 unfolding said
+granting-answered =
+    let p = answered-then empty granting _ permissions-right in
+    let q = answered-said _ said _ (p .1) in
+    answered-append _ granting _ (p .0) (answered-append _ permissions _ (q .0) (answered _ revoking (q .1)))
+
+pub word-sheet : WordSheet
 word-sheet =
-    let p = answered-then empty granting (rightSaid said) permissions-right in
     record {
       people = answered _ _ people-right;
       sessions = answered _ _ sessions-right;
-      permissions = answered-append _ granting _ (p .0) (answered-said _ said (p .1));
+      permissions = granting-answered;
       sets = answered _ _ sets-right;
+      oneTooFew = answered _ _ few-right;
+      oneTooMany = answered _ _ many-right;
     }
