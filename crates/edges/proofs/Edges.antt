@@ -24,11 +24,10 @@ use Rattle.reading.specs.Form.{render, wordIn, numbersIn, parse}
 use Rattle.meaning.specs.Meaning.{meanings, meant}
 use Rattle.script.specs.Script.{obey, answerText}
 use Rattle.transcripts.specs.Rows.{_⇒_}
-use Rattle.transcripts.proofs.Rows.{tells, rightThen, right, answered-then, answered, answered-append}
-use Rattle.transcripts.proofs.Permissions.{quick, roleTold, userTold, sessionTold, role-told, user-told, session-told, Said, rightSaid, answered-said}
-use Rattle.edges.specs.Edges.{numbers, permissions, removals, sets, lists, forms, bytes512, bytes513, openSessions, Edges}
+use Rattle.transcripts.proofs.Rows.{tells, rightThen, right, answered}
+use Rattle.edges.specs.Edges.{numbers, removals, sets, lists, forms, bytes512, bytes513, openSessions, Edges}
 
-numbers-right : right numbers empty ≡ true
+numbers-right : right (numbers ++ removals) empty ≡ true
 unfolding some every tally total members has pack those with without union common minus subset isEmpty count juniorsOf joined walk reach turned atOrAbove rising someFrom listed setOf empty put ask assignedUsers assignedRoles authUsers authRoles sessionRoles roleOps userOps setNames setRoles setCount verdict settle step breaks breaksSome staticBroken dynamicBroken shedded shed shedCut sessionsOpen user role nouser norole inSet endedOf allEnded withoutUser withoutRole assign assigned deassign deassigned grant granted revoke revoked inherit lined usersCut disinherit unlined broken makeSet dropSet addMember dropMember setCardinality freeFrom opened session activeSet activate drop end permitted check decimal lead numbered takenFrom same words spelling takes placeIn which partsOf upTo render wordIn numbersIn parse meanings meant obey answerText tells rightThen
 numbers-right = refl
 
@@ -51,3 +50,15 @@ openSessions-right = refl
 long-right : right (bytes512 ⇒ "1" ∷ bytes513 ⇒ "14" ∷ []) empty ≡ true
 unfolding some every tally total members has pack those with without union common minus subset isEmpty count juniorsOf joined walk reach turned atOrAbove rising someFrom listed setOf empty put ask assignedUsers assignedRoles authUsers authRoles sessionRoles roleOps userOps setNames setRoles setCount verdict settle step breaks breaksSome staticBroken dynamicBroken shedded shed shedCut sessionsOpen user role nouser norole inSet endedOf allEnded withoutUser withoutRole assign assigned deassign deassigned grant granted revoke revoked inherit lined usersCut disinherit unlined broken makeSet dropSet addMember dropMember setCardinality freeFrom opened session activeSet activate drop end permitted check decimal lead numbered takenFrom same words spelling takes placeIn which partsOf upTo render wordIn numbersIn parse meanings meant obey answerText tells rightThen
 long-right = refl
+
+pub edges : Edges
+edges =
+    record {
+      numbers = answered _ _ numbers-right;
+      sets = answered _ _ sets-right;
+      lists = answered _ _ lists-right;
+      forms = answered _ _ forms-right;
+      long = answered _ _ long-right;
+      lengths = (refl, refl);
+      openSessions = answered _ _ openSessions-right;
+    }

@@ -86,15 +86,7 @@ numbers =
     "session-perms 64" ⇒ "1" ∷
     []
 
--- after those lines: the highest permission is 15 * 256 + 255
-abbrev pub permissions : List Row
-permissions =
-    "role-perms 63" ⇒ "0 4095" ∷
-    "user-perms 255" ⇒ "0 4095" ∷
-    "session-perms 0" ⇒ "0 4095" ∷
-    []
-
--- after those: what stands at the edge can be removed
+-- after those lines: what stands at the edge can be removed
 abbrev pub removals : List Row
 removals =
     "drop 255 0 62" ⇒ "0" ∷
@@ -127,7 +119,6 @@ sets =
     "ssd 14 3 61 62" ⇒ "7" ∷
     "ssd 14 65535 61 62" ⇒ "7" ∷
     "ssd-card 15 1" ⇒ "7" ∷
-    "ssd-card 15 2" ⇒ "0" ∷
     "ssd-card 15 3" ⇒ "0" ∷
     "ssd-card 15 4" ⇒ "7" ∷
     "ssd-card 15 65535" ⇒ "7" ∷
@@ -156,7 +147,6 @@ sets =
     "dsd 14 3 61 62" ⇒ "7" ∷
     "dsd 14 65535 61 62" ⇒ "7" ∷
     "dsd-card 15 1" ⇒ "7" ∷
-    "dsd-card 15 2" ⇒ "0" ∷
     "dsd-card 15 3" ⇒ "0" ∷
     "dsd-card 15 4" ⇒ "7" ∷
     "dsd-card 15 65535" ⇒ "7" ∷
@@ -338,7 +328,7 @@ openSessions =
 
 -- Each script, from the empty policy on, prints what stands beside its lines.
 pub record Edges : Type 0 where
-  pub numbers : Answered empty (numbers ++ (permissions ++ removals))
+  pub numbers : Answered empty (numbers ++ removals)
   pub sets : Answered empty sets
   pub lists : Answered empty lists
   pub forms : Answered empty forms
