@@ -1,3 +1,4 @@
+pub mod LineForm
 pub mod ScriptLines
 pub mod Program
 pub mod Rows
