@@ -1,34 +1,59 @@
--- The bench sheet, by computation over the model: the rows are compared by a test, so that a wrong row shows at once. Assumes nothing.
-use mathlib.Core.Bool.{true}
+-- The bench sheet, by computation over the script's definition: each line is obeyed and compared by a test, so that a wrong row shows at once.
+-- Assumes nothing.
+use mathlib.Core.Bool.{Bool, true, _&&_}
+use mathlib.Core.List.{List, [], _∷_}
 use mathlib.Core.Path.{_≡_, refl}
-use lib.Dec.{eqb}
-use borrow.Author.Tests.{eqb-true}
-use Rattle.roleset.specs.Bounded.{some, every, tally, members}
+use Rattle.roleset.specs.Bounded.{some, every, tally, total, members}
 use Rattle.roleset.specs.Roles.{has, pack, those, with, without, union, common, minus, subset, isEmpty, count}
 use Rattle.hierarchy.specs.Walks.{juniorsOf, joined, walk, reach}
 use Rattle.model.specs.Lists.{rising, someFrom, listed, setOf}
-use Rattle.model.specs.Model.{empty, put}
+use Rattle.model.specs.Model.{Model, empty, put}
 use Rattle.model.specs.Questions.{ask, assignedRoles, authRoles, sessionRoles}
 use Rattle.model.specs.Sheet.{verdict, settle}
 use Rattle.model.specs.Step.{step}
-use Rattle.model.specs.Words.{breaks, breaksSome, staticBroken, dynamicBroken, shedded, shed, shedCut, sessionsOpen}
+use Rattle.model.specs.Words.{breaks, breaksSome, staticBroken, dynamicBroken, shedded, shed, shedCut, assignments, grants, linesStanding, sessionsOpen}
 use Rattle.model.specs.commands.Users.{user, role, norole, inSet, withoutRole}
 use Rattle.model.specs.commands.Assigning.{assign, assigned, deassign, deassigned, grant, granted}
 use Rattle.model.specs.commands.Inheriting.{inherit, lined, usersCut, disinherit, unlined}
 use Rattle.model.specs.commands.Sets.{broken, makeSet, dropMember}
 use Rattle.model.specs.commands.Sessions.{freeFrom, opened, session, activeSet, activate, permitted, check}
-use Rattle.benchsheet.specs.BenchSheet.{answers, afterwards, atTheBench, sheet, answered, printed, Bench}
-use Rattle.benchsheet.proofs.Same.{sameBy, same-by}
+use Rattle.decimal.specs.Decimal.{decimal, lead, numbered, takenFrom}
+use Rattle.words.specs.Bytes.{same}
+use Rattle.words.proofs.Laws.{and-true}
+use Rattle.words.specs.ScriptWords.{words, spelling, takes, placeIn, which}
+use Rattle.textlines.specs.Parts.{partsOf, upTo}
+use Rattle.reading.specs.Form.{render, wordIn, numbersIn, parse}
+use Rattle.meaning.specs.Meaning.{meanings, meant}
+use Rattle.script.specs.Script.{obey, answerText}
+use Rattle.transcripts.specs.Rows.{Row, _⇒_, afterRows}
+use Rattle.transcripts.proofs.Rows.{tells, rightThen, right, answered-then, answered}
 use Rattle.policyfile.proofs.Laws.{empty-file}
+use Rattle.benchsheet.specs.Lines.{afterwards, firstTen, atTheBench}
+use Rattle.benchsheet.specs.BenchSheet.{firstTenLines, Labelled, P, sheet, EachAnswered, Bench}
 
--- P1 to P11
-rows-same : sameBy (sameBy (sameBy eqb)) (answered sheet) (printed sheet) ≡ true
-unfolding sameBy some every tally members has pack those with without union common minus subset isEmpty count juniorsOf joined walk reach rising someFrom listed setOf empty put ask assignedRoles authRoles sessionRoles verdict settle step breaks breaksSome staticBroken dynamicBroken shedded shed shedCut sessionsOpen user role norole inSet withoutRole assign assigned deassign deassigned grant granted inherit lined usersCut disinherit unlined broken makeSet dropMember freeFrom opened session activeSet activate permitted check answers afterwards atTheBench answered printed
-rows-same = refl
+-- each row passes the test
+unfoldable each : List Labelled → Model → Bool
+each [] m = true
+each (P k rows ∷ rest) m = right rows m && each rest m
 
-rows-answered : answered sheet ≡ printed sheet
-rows-answered = same-by _ (same-by _ (same-by _ eqb-true)) _ _ rows-same
+each-answered : (m : Model) (rows : List Labelled) → each rows m ≡ true → EachAnswered m rows
+unfolding each
+each-answered m [] e = tt
+each-answered m (P k rows ∷ rest) e = let p = and-true (right rows m) (each rest m) e in (answered m rows (p .0), each-answered m rest (p .1))
+
+-- the first ten lines and then each row, in one computation
+computed : rightThen firstTenLines (each sheet) empty ≡ true
+unfolding some every tally total members has pack those with without union common minus subset isEmpty count juniorsOf joined walk reach rising someFrom listed setOf empty put ask assignedRoles authRoles sessionRoles verdict settle step breaks breaksSome staticBroken dynamicBroken shedded shed shedCut assignments grants linesStanding sessionsOpen user role norole inSet withoutRole assign assigned deassign deassigned grant granted inherit lined usersCut disinherit unlined broken makeSet dropMember freeFrom opened session activeSet activate permitted check decimal lead numbered takenFrom same words spelling takes placeIn which partsOf upTo render wordIn numbersIn parse meanings meant obey answerText tells rightThen each
+computed = refl
+
+-- lines of text and commands that say the same, whatever the policy before them
+same-policy : (m : Model) → afterRows m firstTenLines ≡ afterwards m firstTen
+unfolding lead decimal numbered takenFrom same words spelling takes placeIn which partsOf upTo render wordIn numbersIn parse meanings meant obey afterRows afterwards
+same-policy m = refl
 
 -- P1 to P12
 pub bench-sheet : Bench
-bench-sheet = record { rows = rows-answered; saved = empty-file }
+unfolding atTheBench
+bench-sheet =
+    let c = answered-then empty firstTenLines (each sheet) computed in
+    record { example = c .0; rows = each-answered _ sheet (c .1); saved = empty-file; bench = same-policy empty }

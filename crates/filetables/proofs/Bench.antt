@@ -15,7 +15,7 @@ use Rattle.model.specs.commands.Inheriting.{inherit, lined, usersCut}
 use Rattle.model.specs.commands.Sets.{broken, makeSet}
 use Rattle.model.specs.commands.Sessions.{freeFrom, opened, session}
 use Rattle.demands.specs.Reachable.{start}
-use Rattle.benchsheet.specs.BenchSheet.{afterwards, firstTen, atTheBench}
+use Rattle.benchsheet.specs.Lines.{afterwards, firstTen, atTheBench}
 use Rattle.filebytes.specs.Sections.{Sections, entries, listing, bytesOf}
 use Rattle.filebytes.proofs.Lists.{any}
 use Rattle.filebytes.proofs.Decided.{all, inOrder, Tested}

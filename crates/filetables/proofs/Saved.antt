@@ -14,7 +14,7 @@ use Rattle.policyfile.proofs.Laws.{saved-buffer, load-after-save}
 use Rattle.policyfile.proofs.Sounding.{sound-formed}
 use Rattle.demands.specs.Reachable.{Reachable, after}
 use Rattle.demands.proofs.Kept.{reachable-sound}
-use Rattle.benchsheet.specs.BenchSheet.{Line, command, question, afterwards}
+use Rattle.benchsheet.specs.Lines.{Line, command, question, afterwards}
 use Rattle.filebytes.specs.Sections.{Sections, bytesOf}
 use Rattle.filebytes.proofs.Decided.{Tested, tested-form}
 use Rattle.filebytes.proofs.Tables.{seen, told, seen-agrees, agrees-file}

@@ -9,7 +9,7 @@ use Rattle.model.specs.Model.{Model, empty}
 use Rattle.model.specs.Sheet.{Told, done, refused}
 use Rattle.policyform.specs.Form.{FileOf}
 use Rattle.policyform.specs.Promises.{Saves, Loads}
-use Rattle.benchsheet.specs.BenchSheet.{atTheBench}
+use Rattle.benchsheet.specs.Lines.{atTheBench}
 use Rattle.demands.specs.Reachable.{Reachable}
 use Rattle.filebytes.specs.Sections.{Sections}
 use Rattle.filebytes.specs.Meaning.{Says}

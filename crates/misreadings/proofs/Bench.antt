@@ -21,7 +21,7 @@ use Rattle.model.specs.commands.Inheriting.{inherit, lined, usersCut}
 use Rattle.model.specs.commands.Sets.{broken, makeSet}
 use Rattle.model.specs.commands.Sessions.{freeFrom, opened, session, permitted, check}
 use Rattle.model.specs.declared.Kind.the-variants.{Static}
-use Rattle.benchsheet.specs.BenchSheet.{Answers, answers, afterwards, atTheBench}
+use Rattle.benchsheet.specs.Lines.{Answers, answers, afterwards, atTheBench}
 use Rattle.demands.specs.Demand2.{wouldBreak}
 use Rattle.misreadings.specs.Readings.{brokenByAssigned, accessAtTheBench, InheritedGrant}
 

@@ -19,7 +19,7 @@ use Rattle.model.specs.commands.Assigning.{assign, assigned, deassign, deassign
 use Rattle.model.specs.commands.Inheriting.{inherit, lined, usersCut, disinherit, unlined}
 use Rattle.model.specs.commands.Sets.{broken, makeSet}
 use Rattle.model.specs.commands.Sessions.{freeFrom, opened, session, end, permitted, check}
-use Rattle.benchsheet.specs.BenchSheet.{answers, afterwards}
+use Rattle.benchsheet.specs.Lines.{answers, afterwards}
 use Rattle.benchsheet.proofs.Same.{sameBy, same-by}
 use Rattle.misreadings.specs.Readings.{twoSeniorsAbove, examples, answered, expected, brokenByTwo, WrongRules}
 use Rattle.misreadings.proofs.Bench.{bench}

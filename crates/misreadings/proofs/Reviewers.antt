@@ -19,7 +19,7 @@ use Rattle.model.specs.Words.{permission}
 use Rattle.model.specs.declared.Kind.the-variants.{Static, Dynamic}
 use Rattle.model.specs.declared.Question.{Question}
 use Rattle.model.specs.declared.Question.the-variants.{Check, AssignedUsers, AssignedRoles, AuthUsers, AuthRoles, RolePerms, UserPerms, SessionRoles, SessionPerms, RoleOps, UserOps, Sets, SetRoles, SetCount}
-use Rattle.benchsheet.specs.BenchSheet.{atTheBench, r}
+use Rattle.benchsheet.specs.Lines.{atTheBench, r}
 use Rattle.demands.specs.Demand2.{Applies, FirstToApply, Exactly, place}
 use Rattle.demands.specs.Reachable.{Reachable, start}
 use Rattle.demands.specs.Many.{Ascending, single, rises}

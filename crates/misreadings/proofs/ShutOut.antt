@@ -18,7 +18,7 @@ use Rattle.model.specs.commands.Users.{user}
 use Rattle.model.specs.declared.Command.{Command}
 use Rattle.model.specs.declared.Command.the-variants.{AddUser}
 use Rattle.sound.proofs.Sheet.{AllClear}
-use Rattle.benchsheet.specs.BenchSheet.{Line, command, question, afterwards, atTheBench, firstTen, u}
+use Rattle.benchsheet.specs.Lines.{Line, command, question, afterwards, atTheBench, firstTen, u}
 use Rattle.demands.specs.Demand2.{Obeys, Answers, Applies, Exactly, checkRefusals, Checked, Granted, FirstToApply, refusals, results, effect}
 use Rattle.demands.specs.Reachable.{Reachable, start, after}
 use Rattle.misreadings.specs.ShutOut.{ShutOut, Engine, Checker}

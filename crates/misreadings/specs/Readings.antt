@@ -11,7 +11,7 @@ use Rattle.model.specs.commands.Inheriting.{lined}
 use Rattle.model.specs.declared.Command.the-variants.{AddUser, AddRole, Assign, Deassign, Inherit, Disinherit, MakeSet, OpenSession, EndSession}
 use Rattle.model.specs.declared.Kind.the-variants.{Static}
 use Rattle.model.specs.declared.Question.the-variants.{Check, SessionRoles}
-use Rattle.benchsheet.specs.BenchSheet.{Line, command, question, Answers, answers, afterwards, u, r, s, set, atTheBench}
+use Rattle.benchsheet.specs.Lines.{Line, command, question, Answers, answers, afterwards, u, r, s, set, atTheBench}
 use Rattle.demands.specs.Demand2.{wouldBreak}
 
 -- an example: a policy made from the empty one, the lines tried on it, and what these answer

@@ -1,2 +1,5 @@
+pub mod LineForm
 pub mod ScriptLines
 pub mod Program
+pub mod Rows
+pub mod Permissions

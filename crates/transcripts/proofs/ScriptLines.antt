@@ -7,8 +7,7 @@ use lib.ListN.{getD, drop}
 use Rattle.model.specs.Model.{Model}
 use Rattle.model.specs.Sheet.{refused}
 use Rattle.words.specs.ScriptWords.{wordOf}
-use Rattle.reading.specs.Form.{Parsed, line, noLine, parse, Written}
-use Rattle.reading.proofs.Back.{written-parsed, parsed-written}
+use Rattle.reading.specs.Form.{Parsed, line, noLine, parse}
 use Rattle.meaning.specs.Meaning.{meant}
 use Rattle.meaning.specs.declared.Meant.{Meant}
 use Rattle.meaning.specs.declared.Meant.the-variants.{Do, Ask, Nothing}
@@ -16,11 +15,13 @@ use Rattle.script.specs.Script.{obey, obeyed, doing}
 use Rattle.demands.specs.Reachable.{Reachable, after}
 use Rattle.demands.proofs.Demand1.{demand1}
 use Rattle.demands.proofs.Room.{never-short}
+use Rattle.transcripts.specs.LineForm.{LineForm}
 use Rattle.transcripts.specs.ScriptLines.{ScriptLines}
+use Rattle.transcripts.proofs.LineForm.{line-parsed, parsed-line}
 
-not-formed : (m : Model) (text : List ℕ) → ((k : ℕ) (ns : List ℕ) → Written text k ns → ⊥) → obey m text ≡ refused 14 m
+not-formed : (m : Model) (text : List ℕ) → ((k : ℕ) (ns : List ℕ) → LineForm text k ns → ⊥) → obey m text ≡ refused 14 m
 unfolding obey
-not-formed m text none = go (parse text) (λ k ns e. none k ns (parsed-written text k ns e))
+not-formed m text none = go (parse text) (λ k ns e. none k ns (parsed-line text k ns e))
   where
     go : (p : Parsed) → ((k : ℕ) (ns : List ℕ) → p ≡ line k ns → ⊥) → obeyed m p ≡ refused 14 m
     go (line k ns) h = absurd (h k ns refl)
@@ -35,9 +36,9 @@ numbersOfLine : Parsed → List ℕ
 numbersOfLine (line k ns) = ns
 numbersOfLine noLine = []
 
-one-line : (text : List ℕ) (k k′ : ℕ) (ns ns′ : List ℕ) → Written text k ns → Written text k′ ns′ → (k ≡ k′) × (ns ≡ ns′)
+one-line : (text : List ℕ) (k k′ : ℕ) (ns ns′ : List ℕ) → LineForm text k ns → LineForm text k′ ns′ → (k ≡ k′) × (ns ≡ ns′)
 unfolding wordOfLine numbersOfLine
-one-line text k k′ ns ns′ w w′ = let e = sym (written-parsed text k ns w) ∙ written-parsed text k′ ns′ w′ in (ap wordOfLine e, ap numbersOfLine e)
+one-line text k k′ ns ns′ w w′ = let e = sym (line-parsed text k ns w) ∙ line-parsed text k′ ns′ w′ in (ap wordOfLine e, ap numbersOfLine e)
 
 -- whatever a line means, it is not answered 15
 never-done : (m : Model) (x : Meant) (list : List ℕ) → doing m x list .answer ≡ 15 → ⊥
@@ -63,7 +64,7 @@ pub script-lines : ScriptLines
 unfolding obey
 script-lines =
     record {
-      formed = λ m text k ns w. ap (obeyed m) (written-parsed text k ns w);
+      formed = λ m text k ns w. ap (obeyed m) (line-parsed text k ns w);
       not-formed = not-formed;
       one-line = one-line;
       never-short = λ m text e. never-obeyed m (parse text) e;

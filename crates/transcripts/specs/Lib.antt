@@ -1,3 +1,4 @@
+pub mod LineForm
 pub mod ScriptLines
 pub mod Rows
 pub mod Program

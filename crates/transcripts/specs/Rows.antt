@@ -1,9 +1,11 @@
 -- A script beside its answers, for reading. Assumes nothing.
 use mathlib.Core.List.{List, [], _∷_, _++_}
+use mathlib.Core.Path.{_≡_}
 use Prim.Native.Nat.{ℕ}
 use Prim.Native.String.{String}
+use Rattle.model.specs.Model.{Model}
 use Rattle.words.specs.Bytes.{bytes}
-use Rattle.script.specs.Script.{lineFeed}
+use Rattle.script.specs.Script.{lineFeed, obey, answerText}
 
 infixl 90 _⇒_
 -- a line and its answer
@@ -22,3 +24,13 @@ scriptOf ((line ⇒ answer) ∷ rest) = lineOf line ++ scriptOf rest
 abbrev pub printedFor : List Row → String → List ℕ
 printedFor [] total = lineOf total
 printedFor ((line ⇒ answer) ∷ rest) total = lineOf answer ++ printedFor rest total
+
+-- The policy after the lines, obeyed one after another.
+unfoldable pub afterRows : Model → List Row → Model
+afterRows m [] = m
+afterRows m ((line ⇒ answer) ∷ rest) = afterRows (obey m (bytes line) .after) rest
+
+-- From this policy on, each line prints the answer beside it.
+pub data Answered : Model → List Row → Type 0 where
+  ends : {m : Model} → Answered m []
+  prints : {m : Model} {line answer : String} {rest : List Row} → answerText (obey m (bytes line) .answer) (obey m (bytes line) .results) ≡ lineOf answer → Answered (obey m (bytes line) .after) rest → Answered m (line ⇒ answer ∷ rest)
