@@ -1,13 +1,11 @@
 -- What the program prints for a whole script. Assumes nothing.
 use mathlib.Core.List.{List, [], _∷_, _++_}
 use mathlib.Core.Path.{_≡_}
-use Prim.Native.Nat.{ℕ, _≤_, _<_}
+use Prim.Native.Nat.{ℕ, _<_}
 use lib.ListN.{length}
-use Rattle.model.specs.Model.{empty}
-use Rattle.state.specs.View.{view}
 use Rattle.script.specs.Script.{runScript, longestScript}
-use Rattle.script.specs.Running.{Runs}
-use Rattle.script.specs.declared.Progress.{Progress}
+use Rattle.program.specs.Printing.{Begins, Runs}
+use Rattle.program.specs.declared.Run.{Run}
 use Rattle.transcripts.specs.Rows.{Row, _⇒_, lineOf, scriptOf, printedFor}
 
 -- the paper's example
@@ -31,16 +29,10 @@ example =
     "auth-roles 7" ⇒ "0" ∷
     []
 
--- the program has not answered a line
-pub record Starts (l : List ℕ) (p : Progress) : Type 0 where
-  pub state : view l ≡ empty
-  pub at : p .at ≡ 0
-  pub done : p .tally .done ≡ 0
-  pub others : p .tally .others ≡ 0
-
 pub record Program : Type 0 where
-  -- The program's turns, one for each line, print together what the script prints.
-  pub prints : (script out l : List ℕ) (p : Progress) → length script ≤ longestScript → Starts l p → Runs script l p out → out ≡ runScript script
+  -- "The program reads a script from standard input, starting empty.": what the program's calls hand to the output, from the very first one until the
+  -- total was handed out, is together what the script prints, whatever its bytes and its length.
+  pub prints : (script out l : List ℕ) (r : Run) → Begins l r → Runs script l r out → out ≡ runScript script
   -- "A script over 32,768 bytes prints `14` and `total 0 1`."
   pub too-long : (script : List ℕ) → longestScript < length script → runScript script ≡ lineOf "14" ++ lineOf "total 0 1"
   -- "An empty script prints `total 0 0` alone."
