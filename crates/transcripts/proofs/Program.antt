@@ -24,7 +24,7 @@ use Rattle.textlines.specs.Parts.{partsOf, upTo}
 use Rattle.reading.specs.Form.{render, wordIn, numbersIn, parse}
 use Rattle.meaning.specs.Meaning.{meanings, meant}
 use Rattle.script.specs.Script.{obey, answerText, totalText, runLines, runScript}
-use Rattle.script.proofs.Turning.{too-long}
+use Rattle.script.proofs.Turning.{from-start, too-long}
 use Rattle.program.proofs.Whole.{whole}
 use Rattle.transcripts.specs.Program.{example, Program}
 use Rattle.transcripts.specs.Rows.{lineOf, scriptOf, printedFor}
@@ -56,6 +56,7 @@ program =
     record {
       prints = whole;
       too-long = λ script h. too-long script h ∙ refusal;
+      line-by-line = from-start;
       nothing = nothing;
       paper = same-equal _ _ paper-same;
     }

@@ -1,9 +1,11 @@
 -- What the program prints for a whole script. Assumes nothing.
 use mathlib.Core.List.{List, [], _∷_, _++_}
 use mathlib.Core.Path.{_≡_}
-use Prim.Native.Nat.{ℕ, _<_}
+use Prim.Native.Nat.{ℕ, _≤_, _<_}
 use lib.ListN.{length}
-use Rattle.script.specs.Script.{runScript, longestScript}
+use Rattle.model.specs.Model.{empty}
+use Rattle.textlines.specs.Parts.{partsOf}
+use Rattle.script.specs.Script.{lineFeed, runLines, runScript}
 use Rattle.program.specs.Printing.{Begins, Runs}
 use Rattle.program.specs.declared.Run.{Run}
 use Rattle.transcripts.specs.Rows.{Row, _⇒_, lineOf, scriptOf, printedFor}
@@ -34,7 +36,9 @@ pub record Program : Type 0 where
   -- total was handed out, is together what the script prints, whatever its bytes and its length.
   pub prints : (script out l : List ℕ) (r : Run) → Begins l r → Runs script l r out → out ≡ runScript script
   -- "A script over 32,768 bytes prints `14` and `total 0 1`."
-  pub too-long : (script : List ℕ) → longestScript < length script → runScript script ≡ lineOf "14" ++ lineOf "total 0 1"
+  pub too-long : (script : List ℕ) → 32768 < length script → runScript script ≡ lineOf "14" ++ lineOf "total 0 1"
+  -- A script of no more bytes is obeyed line by line, from the empty policy and two counts of 0 on.
+  pub line-by-line : (script : List ℕ) → length script ≤ 32768 → runScript script ≡ runLines empty 0 0 (partsOf lineFeed script)
   -- "An empty script prints `total 0 0` alone."
   pub nothing : runScript [] ≡ lineOf "total 0 0"
   -- the paper's example prints what the paper says
