@@ -8,10 +8,14 @@ reload=target/bin/reload
 [ "$(uname -m)" = x86_64 ] || reload='./run reload'
 out=$(mktemp) && want=$(mktemp) || exit 1
 trap 'rm -f "$out" "$want"' EXIT
+for answer in tests/files/*.answer; do
+    [ -f "${answer%.answer}.bin" ] || { echo "files: there is no file for $answer"; exit 1; }
+done
 n=0
 for file in tests/files/*.bin; do
     answer=${file%.bin}.answer
-    cp "$answer" "$want"
+    [ -s "$answer" ] || { echo "files: there is no answer for $file"; exit 1; }
+    cp "$answer" "$want" || exit 1
     [ "$(cat "$answer")" != 0 ] || cat "$file" >>"$want"
     $reload <"$file" >"$out" || { echo "files: reload failed on $file"; exit 1; }
     cmp -s "$out" "$want" || { echo "files: $file: the answer is $(head -n 1 "$out") and not $(cat "$answer"), or the bytes differ"; exit 1; }

@@ -18,8 +18,9 @@ from pathlib import Path
 ROOT = Path(__file__).resolve().parent.parent
 HOME = ROOT / "crates" / "unique"
 
-# Public functions with no line: they borrow a struct, and a contract over one cannot be cited (docs/DECISIONS.md, 'Exceptions to uniqueness').
-WITHOUT = {"textlines.next", "textlines.bump"}
+# Public functions with no line (docs/DECISIONS.md, 'Exceptions to uniqueness'): two borrow a struct, and a contract over one cannot be cited; of the
+# third, what a call of the C library reads no contract can say.
+WITHOUT = {"textlines.next", "textlines.bump", "input.read_whole"}
 
 # Promises that have another's law: they are that promise by definition, or two crates use one name.
 LAW_OF = {
@@ -216,7 +217,9 @@ class Function:
     def constructor(self):
         at = place(self.types.index("&mut " + STATE))
         f = self.place
-        return f"  {self.field()} : (c : Call {f}.Kinds.ps {f}.Kinds.r {f}.Reads.Post) → Handed (c .given {at} .now) → Handed (c .exits {at} .now)"
+        # a promise that says nothing of what was there holds of any numbers: it is a start
+        given = f"Handed (c .given {at} .now) → " if ".entry" in self.promise else ""
+        return f"  {self.field()} : (c : Call {f}.Kinds.ps {f}.Kinds.r {f}.Reads.Post) → {given}Handed (c .exits {at} .now)"
 
     def reached(self, arms):
         if self.place not in arms:

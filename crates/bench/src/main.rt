@@ -1,61 +1,67 @@
-// The bench: reads a script from standard input, and writes an answer for each line and then the total. Everything up to the bytes that it writes is proved in `script`.
-ghost use Prim.Native.Nat.{_<_, _≤_};
-ghost use lib.ListN.{length};
+// The bench: reads a script from standard input and prints what the script prints. Where it cannot read all of it or print all of it, it says so on
+// standard error. What is handed to the output is proved; that the C library reads and writes what it is asked to is assumed.
+ghost use mathlib.Core.Bool.{true};
+ghost use mathlib.Core.Path.{_≡_};
+ghost use Prim.Native.Nat.{_≤_};
+ghost use lib.ListN.{length, take, drop};
+ghost use Rattle.script.specs.Script.{runScript};
+use libc::STDERR_FILENO;
 use libc::STDIN_FILENO;
 use libc::STDOUT_FILENO;
-use script::Progress;
+use program::LONGEST;
 use state::PLACES;
-use textlines::Tally;
 
-// Writes the total.
-fn write_total(t: Tally) {
-    let mut buf = [0u8; 64];
-    let len = script::total_text(&mut buf, t);
-    io::write_all(STDOUT_FILENO, &buf[..len]);
+// How many bytes were handed to the output, and whether the output took them all.
+struct Written {
+    count: usize,
+    all: bool,
 }
 
-// Answers the next line.
-fn write_line(script: &[u8], state: &mut [u64; PLACES], p: Progress) -> Progress
-    requires { ⌜ p .at < length (now script) ⌝ }
-    ensures { λ r. ⌜ (p .at < r .at) × (r .at ≤ length (now (script .entry))) ⌝ }
+// Writes the next bytes of what the script prints: those that stand there from the place `from` on.
+fn write_next(script: &[u8], from: usize, bytes: &[u8]) -> bool
+    requires { ⌜ now bytes ≡ take (length (now bytes)) (drop from (runScript (now script))) ⌝ }
 {
-    let mut buf = [0u8; 32768];
-    let t = script::turn(script, state, p, &mut buf);
-    let len = t.len;
-    io::write_all(STDOUT_FILENO, &buf[..len]);
-    t.next
+    io::write_all(STDOUT_FILENO, bytes)
 }
 
-// Answers each line, starting empty.
-fn run(script: &[u8]) {
+// Prints what the script prints, from its first byte to its last one.
+fn print_all(script: &[u8]) -> Written
+    requires { ⌜ length (now script) ≤ 32769 ⌝ }
+    ensures { λ r. ⌜ (r .all ≡ true → r .count ≡ length (runScript (now (script .entry)))) ⌝ }
+{
     let mut state = [0u64; PLACES];
-    state::stores::start(&mut state);
-    let mut p = Progress {
-        at: 0,
-        tally: Tally { done: 0, others: 0 },
-    };
-    while p.at < script.len() {
-        p = write_line(script, &mut state, p);
+    let mut buf = [0u8; 32768];
+    let mut run = program::begin(&mut state);
+    let mut count: usize = 0;
+    while !run.over {
+        let piece = program::next(script, &mut state, run, &mut buf);
+        let len = piece.len;
+        if !write_next(script, count, &buf[..len]) {
+            return Written { count, all: false };
+        }
+        count += len;
+        run = piece.run;
     }
-    write_total(p.tally);
-}
-
-// A script over 32,768 bytes answers 14 as a whole.
-fn refuse() {
-    let mut buf = [0u8; 64];
-    let none = [0u16; 1];
-    let len = script::answer_text(&mut buf, 14, &none[..0]);
-    io::write_all(STDOUT_FILENO, &buf[..len]);
-    write_total(Tally { done: 0, others: 1 });
+    Written { count, all: true }
 }
 
 // One byte more than the longest script is asked for, to tell a longer one.
 fn main() {
-    let mut input = [0u8; 32769];
-    let n = io::read_full(STDIN_FILENO, &mut input);
-    if n <= 32768 {
-        run(&input[..n]);
+    let mut bytes = [0u8; LONGEST + 1];
+    let script = input::read_whole(STDIN_FILENO, &mut bytes);
+    let len = script.len;
+    if script.whole {
+        let written = print_all(&bytes[..len]);
+        if !written.all {
+            io::write_all(
+                STDERR_FILENO,
+                b"bench: not all was printed: a write failed\n",
+            );
+        }
     } else {
-        refuse();
+        io::write_all(
+            STDERR_FILENO,
+            b"bench: nothing is answered: the script could not be read whole\n",
+        );
     }
 }

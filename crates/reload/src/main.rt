@@ -1,27 +1,86 @@
-// Reads a policy file from standard input, loads it into the empty state, and writes the answer's number and, after a 0, the file as it is saved again. Input that fills the whole buffer is longer than any file, so that the load answers 14.
+// Reads a policy file from standard input, loads it into the empty state, and prints the answer's number and, after a 0, the file as it is saved
+// again. Where it cannot read all of it or print all of it, it says so on standard error.
+ghost use mathlib.Core.Bool.{true};
+ghost use mathlib.Core.Path.{_≡_};
+ghost use Prim.Native.Nat.{_≤_};
+ghost use Rattle.numbers.specs.Answers.{numberOf};
+ghost use Rattle.text.specs.Putting.{Put};
+ghost use Rattle.reload.specs.Reloading.{answerLine, Next, All};
+use libc::STDERR_FILENO;
 use libc::STDIN_FILENO;
 use libc::STDOUT_FILENO;
+use numbers::Answer;
 use state::PLACES;
 
-// Writes the first n bytes.
-fn print_front(bytes: &[u8], n: usize) {
-    if n <= bytes.len() {
-        io::write_all(STDOUT_FILENO, &bytes[..n]);
+// How many bytes were handed to the output, and whether the output took them all.
+struct Written {
+    count: usize,
+    all: bool,
+}
+
+// Puts the answer's number and LF.
+fn put_answer(line: &mut [u8], answer: Answer) -> usize
+    ensures { λ r. ⌜ Put (now (line .entry)) 0 (answerLine (numberOf answer)) (now (line .exit)) r ⌝ }
+{
+    let last = decimal::put_number(line, 0, numbers::number_of(answer));
+    text::put(line, last, 10)
+}
+
+// Writes the next bytes of what is printed for the file: those that stand there from the place `from` on.
+fn write_next(file: &[u8], from: usize, bytes: &[u8]) -> bool
+    requires { ⌜ Next (now file) from (now bytes) ⌝ }
+{
+    io::write_all(STDOUT_FILENO, bytes)
+}
+
+// Loads the file, and saves it again where it was loaded. The longest file has 36,048 bytes.
+fn print_all(file: &[u8]) -> Written
+    ensures { λ r. ⌜ (r .all ≡ true → All (now (file .entry)) (r .count)) ⌝ }
+{
+    let mut state = [0u64; PLACES];
+    state::stores::start(&mut state);
+    let answer = policyfile::load(&mut state, file);
+    let mut line = [0u8; 8];
+    let len = put_answer(&mut line, answer);
+    if !write_next(file, 0, &line[..len]) {
+        return Written {
+            count: 0,
+            all: false,
+        };
+    }
+    if numbers::is_done(answer) {
+        let mut out = [0u8; 36048];
+        let saved = policyfile::save(&state, &mut out);
+        let size = saved.length;
+        let all = write_next(file, len, &out[..size]);
+        return Written {
+            count: len + size,
+            all,
+        };
+    }
+    Written {
+        count: len,
+        all: true,
     }
 }
 
-// Loads what it reads, and saves it again where it was loaded.
+// One byte more than the longest file is asked for, to tell a longer one, which is not of the form.
 fn main() {
-    let mut bytes = io::large_buffer();
-    let n = io::read_full(STDIN_FILENO, &mut bytes);
-    let mut state = [0u64; PLACES];
-    state::stores::start(&mut state);
-    let answer = policyfile::load(&mut state, &bytes[..n]);
-    io::print_decimal(STDOUT_FILENO, numbers::number_of(answer) as u64);
-    io::write_all(STDOUT_FILENO, b"\n");
-    if numbers::is_done(answer) {
-        let mut out = io::large_buffer();
-        let saved = policyfile::save(&state, &mut out);
-        print_front(&out, saved.length);
+    let mut bytes = [0u8; 36049];
+    let file = input::read_whole(STDIN_FILENO, &mut bytes);
+    let len = file.len;
+    if file.whole {
+        let written = print_all(&bytes[..len]);
+        if !written.all {
+            io::write_all(
+                STDERR_FILENO,
+                b"reload: not all was printed: a write failed\n",
+            );
+        }
+    } else {
+        io::write_all(
+            STDERR_FILENO,
+            b"reload: nothing is loaded: the file could not be read whole\n",
+        );
     }
 }

@@ -1,4 +1,4 @@
--- One line of a script and what is still to be printed, and all of it joined. Assumes nothing.
+-- One line of a script, and what is still to be printed. Assumes nothing.
 use mathlib.Core.Bool.{Bool, true, false}
 use mathlib.Core.List.{List, [], _∷_, _++_}
 use mathlib.Core.Path.{_≡_, refl, sym, ap, _∙_}
@@ -26,7 +26,6 @@ use Rattle.meaning.specs.Meaning.{meant}
 use Rattle.reviews.proofs.Promised.{results-fit}
 use Rattle.script.specs.Script.{room, doing, obeyed, obey, answerText, totalText, doneAfter, othersAfter, runLines, runScript, lineFeed, longestScript}
 use Rattle.script.specs.LineAnswers.{Turns, toldAt}
-use Rattle.script.specs.Running.{Runs, ends, goes, bufferLength}
 use Rattle.script.specs.declared.Progress.{Progress}
 use Rattle.script.specs.declared.Turned.{Turned}
 
@@ -105,15 +104,15 @@ counted-once done others told = go (eqb (told .answer) 0)
     go true = omega arith
     go false = omega arith
 
--- ---- joined
+-- ---- a turn
 
 -- what is still to be printed of a script, from a state and a place in it on
-abbrev toPrint : List ℕ → List ℕ → Progress → List ℕ
+abbrev pub toPrint : List ℕ → List ℕ → Progress → List ℕ
 toPrint script l p = runLines (view l) (p .tally .done) (p .tally .others) (partsOf lineFeed (drop (p .at) script))
 
 -- A turn prints its line, and leaves the rest to print.
-module _ (script l : List ℕ) (p : Progress) (before after : List ℕ) (x : Turned) (next : List ℕ) (t : Turns script l p before after x next) (h : p .at < length script) (room : length before ≡ bufferLength) (small : length script ≤ longestScript) (few : p .tally .done + p .tally .others ≤ p .at) where
-  stands : take (x .len) after ≡ answerText (toldAt script l p .answer) (toldAt script l p .results)
+module _ (script l : List ℕ) (p : Progress) (before after : List ℕ) (x : Turned) (next : List ℕ) (t : Turns script l p before after x next) (h : p .at < length script) (room : 24582 ≤ length before) (small : length script ≤ longestScript) (few : p .tally .done + p .tally .others ≤ p .at) where
+  pub stands : take (x .len) after ≡ answerText (toldAt script l p .answer) (toldAt script l p .results)
   stands = put-front (t .text) (omega (arith, room, answer-short (toldAt script l p .answer) (toldAt script l p .results) (obey-few (view l) (partAt lineFeed script (p .at)))))
 
   done-is : x .next .tally .done ≡ doneAfter (p .tally .done) (toldAt script l p)
@@ -122,17 +121,8 @@ module _ (script l : List ℕ) (p : Progress) (before after : List ℕ) (x : Tur
   others-is : x .next .tally .others ≡ othersAfter (p .tally .others) (toldAt script l p)
   others-is = ap (λ (c : Tally). c .others) (t .tally) ∙ count-others (p .tally) (toldAt script l p) (omega arith)
 
-  turn-prints : take (x .len) after ++ toPrint script next (x .next) ≡ toPrint script l p
+  pub turn-prints : take (x .len) after ++ toPrint script next (x .next) ≡ toPrint script l p
   turn-prints = rw (stands, t .state, done-is, others-is, t .place) (sym (one-line script (view l) (p .tally .done) (p .tally .others) (p .at) h))
 
-  turn-counts : x .next .tally .done + x .next .tally .others ≤ x .next .at
+  pub turn-counts : x .next .tally .done + x .next .tally .others ≤ x .next .at
   turn-counts = omega (arith, done-is, others-is, counted-once (p .tally .done) (p .tally .others) (toldAt script l p), t .place, past-more lineFeed script (p .at) h)
-
-joined : {script out l : List ℕ} {p : Progress} → length script ≤ longestScript → p .tally .done + p .tally .others ≤ p .at → Runs script l p out → out ≡ toPrint script l p
-joined {script} small few (ends l p h) = sym (at-end script (view l) (p .tally .done) (p .tally .others) (p .at) h)
-joined {script} small few (goes l p before after x next rest h room t r) =
-    ap (λ (o : List ℕ). take (x .len) after ++ o) (joined small (turn-counts script l p before after x next t h room small few) r) ∙ turn-prints script l p before after x next t h room small few
-
--- The program's steps from the empty policy on, joined, are what the script prints.
-pub whole : (script out l : List ℕ) (p : Progress) → length script ≤ 32768 → view l ≡ empty → p .at ≡ 0 → p .tally .done ≡ 0 → p .tally .others ≡ 0 → Runs script l p out → out ≡ runScript script
-whole script out l p h s a d o r = joined h (omega arith) r ∙ rw (s, a, d, o) (sym (from-start script h))

@@ -24,7 +24,8 @@ use Rattle.textlines.specs.Parts.{partsOf, upTo}
 use Rattle.reading.specs.Form.{render, wordIn, numbersIn, parse}
 use Rattle.meaning.specs.Meaning.{meanings, meant}
 use Rattle.script.specs.Script.{obey, answerText, totalText, runLines, runScript}
-use Rattle.script.proofs.Turning.{whole, too-long}
+use Rattle.script.proofs.Turning.{from-start, too-long}
+use Rattle.program.proofs.Whole.{whole}
 use Rattle.transcripts.specs.Program.{example, Program}
 use Rattle.transcripts.specs.Rows.{lineOf, scriptOf, printedFor}
 use Rattle.transcripts.specs.Story.{story, Story}
@@ -53,8 +54,9 @@ story-holds = record { told = same-equal _ _ told-same }
 pub program : Program
 program =
     record {
-      prints = λ script out l p h s r. whole script out l p h (s .state) (s .at) (s .done) (s .others) r;
+      prints = whole;
       too-long = λ script h. too-long script h ∙ refusal;
+      line-by-line = from-start;
       nothing = nothing;
       paper = same-equal _ _ paper-same;
     }

@@ -4,10 +4,10 @@ use mathlib.Core.Path.{_≡_}
 use Prim.Native.Nat.{ℕ, _≤_, _<_}
 use lib.ListN.{length}
 use Rattle.model.specs.Model.{empty}
-use Rattle.state.specs.View.{view}
-use Rattle.script.specs.Script.{runScript, longestScript}
-use Rattle.script.specs.Running.{Runs}
-use Rattle.script.specs.declared.Progress.{Progress}
+use Rattle.textlines.specs.Parts.{partsOf}
+use Rattle.script.specs.Script.{lineFeed, runLines, runScript}
+use Rattle.program.specs.Printing.{Begins, Runs}
+use Rattle.program.specs.declared.Run.{Run}
 use Rattle.transcripts.specs.Rows.{Row, _⇒_, lineOf, scriptOf, printedFor}
 
 -- the paper's example
@@ -31,18 +31,14 @@ example =
     "auth-roles 7" ⇒ "0" ∷
     []
 
--- the program has not answered a line
-pub record Starts (l : List ℕ) (p : Progress) : Type 0 where
-  pub state : view l ≡ empty
-  pub at : p .at ≡ 0
-  pub done : p .tally .done ≡ 0
-  pub others : p .tally .others ≡ 0
-
 pub record Program : Type 0 where
-  -- The program's turns, one for each line, print together what the script prints.
-  pub prints : (script out l : List ℕ) (p : Progress) → length script ≤ longestScript → Starts l p → Runs script l p out → out ≡ runScript script
+  -- "The program reads a script from standard input, starting empty.": what the program's calls hand to the output, from the very first one until the
+  -- total was handed out, is together what the script prints, whatever its bytes and its length.
+  pub prints : (script out l : List ℕ) (r : Run) → Begins l r → Runs script l r out → out ≡ runScript script
   -- "A script over 32,768 bytes prints `14` and `total 0 1`."
-  pub too-long : (script : List ℕ) → longestScript < length script → runScript script ≡ lineOf "14" ++ lineOf "total 0 1"
+  pub too-long : (script : List ℕ) → 32768 < length script → runScript script ≡ lineOf "14" ++ lineOf "total 0 1"
+  -- A script of no more bytes is obeyed line by line, from the empty policy and two counts of 0 on.
+  pub line-by-line : (script : List ℕ) → length script ≤ 32768 → runScript script ≡ runLines empty 0 0 (partsOf lineFeed script)
   -- "An empty script prints `total 0 0` alone."
   pub nothing : runScript [] ≡ lineOf "total 0 0"
   -- the paper's example prints what the paper says

@@ -12,12 +12,14 @@ use Rattle.state.specs.View.{view, told}
 use Rattle.sessions.specs.Answering.{toldOpened}
 use Rattle.textlines.specs.Parts.{partAt}
 use Rattle.script.specs.Script.{lineFeed}
+use Rattle.script.specs.declared.Progress.{Progress}
+use Rattle.program.specs.Printing.{Stage, stageOf, over, total, tooLong, line, piece}
 use Rattle.transcripts.proofs.ScriptLines.{script-lines}
 use Rattle.demands.specs.Reachable.{Reachable, start, after, loaded}
 use Rattle.demands.proofs.Demand3.{demand3}
 use Rattle.unique.specs.Handed.{Handed, Owned, empty}
 -- ---- written by tests/unique.py: their names
-use Rattle.unique.specs.Handed.{user, role, nouser, norole, assign, deassign, grant, revoke, inherit, disinherit, make-set, drop-set, add-member, drop-member, set-cardinality, session, activate, drop, end, step, load, answer-line, turn}
+use Rattle.unique.specs.Handed.{user, role, nouser, norole, assign, deassign, grant, revoke, inherit, disinherit, make-set, drop-set, add-member, drop-member, set-cardinality, session, activate, drop, end, step, load, answer-line, turn, begin, next}
 
 -- ---- end of what tests/unique.py writes
 
@@ -25,6 +27,13 @@ use Rattle.unique.specs.Handed.{user, role, nouser, norole, assign, deas
 stepped : (m : Model) → Reachable m → (c : Command) (list : List ℕ) (a : Answer) (l : List ℕ) → told a l ≡ steps.step m c list → Reachable (view l)
 unfolding told
 stepped m r c list a l e = subst Reachable (sym (ap (λ (t : Told). t .after) e)) (after r c list)
+
+-- and so does what a call of the program leaves
+piece-reachable : (s : Stage) (script l : List ℕ) (p : Progress) → Reachable (view l) → Reachable (piece s script l p .after)
+piece-reachable over script l p r = r
+piece-reachable total script l p r = r
+piece-reachable tooLong script l p r = r
+piece-reachable line script l p r = script-lines .reachable _ (partAt lineFeed script (p .at)) r
 
 reachable : {l : List ℕ} → Handed l → Reachable (view l)
 unfolding steps.step told toldOpened
@@ -53,6 +62,8 @@ reachable (session c h) = subst Reachable (sym (ap (λ (t : Told). t .after) (c 
 reachable (step c h) = subst Reachable (sym (c .met .after)) (after (reachable h) (c .given .1 .0) (c .given .1 .1 .0 .now))
 reachable (answer-line c h) = subst Reachable (sym (c .met .state)) (script-lines .reachable _ (c .given .1 .0 .now) (reachable h))
 reachable (turn c h) = subst Reachable (sym (c .met .state)) (script-lines .reachable _ (partAt lineFeed (c .given .0 .now) (c .given .1 .1 .0 .at)) (reachable h))
+reachable (begin c) = subst Reachable (sym (c .met .state)) start
+reachable (next c h) = subst Reachable (sym (c .met .state)) (piece-reachable (stageOf (c .given .0 .now) (c .given .1 .1 .0)) (c .given .0 .now) (c .given .1 .0 .now) (c .given .1 .1 .0 .progress) (reachable h))
 reachable (load c h) = loaded (reachable h) (c .given .1 .0 .now) _ (c .met)
 
 -- the code's own states keep demand 3

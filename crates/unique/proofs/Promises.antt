@@ -267,4 +267,11 @@ script =
       turn = λ κs a x y e f sx sy p q. laws.turns-one sx sy p q;
     }
 
+pub program : promises.Program
+program =
+    record {
+      begin = λ κs a x y e f sx sy p q. laws.begins-one sx sy p q;
+      next = λ κs a x y e f sx sy p q. laws.prints-one sx sy p q;
+    }
+
 -- ---- end of what tests/unique.py writes

@@ -49,6 +49,9 @@ use Rattle.script.specs.LineAnswers as lines
 use Rattle.script.specs.declared.Answered.{Answered}
 use Rattle.script.specs.declared.Progress.{Progress}
 use Rattle.script.specs.declared.Turned.{Turned}
+use Rattle.program.specs.Printing as printing
+use Rattle.program.specs.declared.Run.{Run}
+use Rattle.program.specs.declared.Printed.{Printed}
 use Rattle.unique.specs.Unique.{State}
 
 -- ---- what the type says of a state: its length, and that each number is below 2 ^ 64
@@ -222,4 +225,14 @@ turns-one sl sr p q = (
   (λ i. record { len = (p .text .ends ∙ sym (q .text .ends)) i; next = record { at = (p .place ∙ sym (q .place)) i; tally = (p .tally ∙ sym (q .tally)) i } }),
   states sl sr (p .state) (q .state),
   p .text .holds ∙ sym (q .text .holds),
+)
+
+pub begins-one : {x y : Run} {l r : List ℕ} → State l → State r → printing.Begins l x → printing.Begins r y → (x ≡ y) × (l ≡ r)
+begins-one sl sr p q = (p .run ∙ sym (q .run), states sl sr (p .state) (q .state))
+
+pub prints-one : {text was : List ℕ} {so-far : Run} {before after after′ : List ℕ} {x y : Printed} {l r : List ℕ} → State l → State r → printing.Prints text was so-far before after x l → printing.Prints text was so-far before after′ y r → (x ≡ y) × (l ≡ r) × (after ≡ after′)
+prints-one sl sr p q = (
+  (λ i. record { len = (p .puts .text .ends ∙ sym (q .puts .text .ends)) i; run = (p .puts .run ∙ sym (q .puts .run)) i }),
+  states sl sr (p .state) (q .state),
+  p .puts .text .holds ∙ sym (q .puts .text .holds),
 )

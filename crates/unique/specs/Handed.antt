@@ -18,6 +18,7 @@ use Rattle.sessions.proofs as sessions
 use Rattle.engine.proofs as engine
 use Rattle.policyfile.proofs as policyfile
 use Rattle.script.proofs as script
+use Rattle.program.proofs as program
 
 -- ---- end of what tests/unique.py writes
 
@@ -29,8 +30,8 @@ pub record Call {n : ℕ} (ps : List (PK n)) (r : RK n) (Post : Out n ps r) : Ty
   pub exits : AtExit (endedOf n ps r) lifetimes
   pub met : Post lifetimes given result exits
 
--- the numbers are those that `start` left, or those that a command (by its own function, or by `step`), a line of a script or a load of any bytes left
--- of such numbers, done or refused
+-- the numbers are those that `start` or `begin` left, or those that a command (by its own function, or by `step`), a line of a script, a call of the
+-- program or a load of any bytes left of such numbers, done or refused
 pub data Handed : List ℕ → Type 0 where
   empty : (c : Call state.stores.start.Kinds.ps state.stores.start.Kinds.r state.stores.start.Reads.Post) → Handed (c .exits .0 .now)
   -- ---- written by tests/unique.py: the functions that change the state and answer
@@ -57,6 +58,8 @@ pub data Handed : List ℕ → Type 0 where
   load : (c : Call policyfile.load.Kinds.ps policyfile.load.Kinds.r policyfile.load.Reads.Post) → Handed (c .given .0 .now) → Handed (c .exits .0 .now)
   answer-line : (c : Call script.answer_line.Kinds.ps script.answer_line.Kinds.r script.answer_line.Reads.Post) → Handed (c .given .0 .now) → Handed (c .exits .0 .now)
   turn : (c : Call script.turn.Kinds.ps script.turn.Kinds.r script.turn.Reads.Post) → Handed (c .given .1 .0 .now) → Handed (c .exits .1 .0 .now)
+  begin : (c : Call program.begin.Kinds.ps program.begin.Kinds.r program.begin.Reads.Post) → Handed (c .exits .0 .now)
+  next : (c : Call program.next.Kinds.ps program.next.Kinds.r program.next.Reads.Post) → Handed (c .given .1 .0 .now) → Handed (c .exits .1 .0 .now)
 
 -- ---- end of what tests/unique.py writes
 

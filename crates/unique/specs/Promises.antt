@@ -29,6 +29,7 @@ use Rattle.textlines.proofs as textlines
 use Rattle.reading.proofs as reading
 use Rattle.meaning.proofs as meaning
 use Rattle.script.proofs as script
+use Rattle.program.proofs as program
 
 -- ---- end of what tests/unique.py writes
 -- ---- written by tests/unique.py: a record for each crate, a line for each public function
@@ -216,5 +217,9 @@ pub record Script : Type 0 where
   pub total-text : UniqueLent script.total_text.Kinds.ps script.total_text.Kinds.r script.total_text.Reads.Post (λ κs e. e .0 .now)
   pub answer-line : UniqueBoth script.answer_line.Kinds.ps script.answer_line.Kinds.r script.answer_line.Reads.Post (λ κs e. e .0 .now) (λ κs e. e .1 .1 .0 .now)
   pub turn : UniqueBoth script.turn.Kinds.ps script.turn.Kinds.r script.turn.Reads.Post (λ κs e. e .1 .0 .now) (λ κs e. e .1 .1 .1 .0 .now)
+
+pub record Program : Type 0 where
+  pub begin : UniqueState program.begin.Kinds.ps program.begin.Kinds.r program.begin.Reads.Post (λ κs e. e .0 .now)
+  pub next : UniqueBoth program.next.Kinds.ps program.next.Kinds.r program.next.Reads.Post (λ κs e. e .1 .0 .now) (λ κs e. e .1 .1 .1 .0 .now)
 
 -- ---- end of what tests/unique.py writes

@@ -1,0 +1,27 @@
+-- What the program prints for a policy file. Assumes nothing.
+use mathlib.Core.Bool.{Bool, true, false}
+use mathlib.Core.List.{List, [], _∷_, _++_}
+use mathlib.Core.Path.{_≡_}
+use Prim.Native.Nat.{ℕ}
+use lib.Dec.{eqb}
+use lib.ListN.{length, take, drop}
+use Rattle.model.specs.Model.{empty}
+use Rattle.model.specs.Sheet.{Told}
+use Rattle.decimal.specs.Decimal.{decimal}
+use Rattle.policyform.specs.Promises.{Loads}
+
+-- the answer's number and LF
+abbrev pub answerLine : ℕ → List ℕ
+answerLine answer = decimal answer ++ (10 ∷ [])
+
+-- and after a 0 the policy as it is saved again, which is the file, byte for byte
+unfoldable pub reloaded : ℕ → List ℕ → List ℕ
+reloaded answer file = answerLine answer ++ elim (eqb answer 0) [ true ↦ file | false ↦ [] ]
+
+-- The bytes come next, from the place on, in what is printed where loading the file into the empty policy tells this.
+abbrev pub Next : List ℕ → ℕ → List ℕ → Type 0
+Next file from bytes = (told : Told) → Loads empty file told → bytes ≡ take (length bytes) (drop from (reloaded (told .answer) file))
+
+-- So many bytes are all that is printed.
+abbrev pub All : List ℕ → ℕ → Type 0
+All file count = (told : Told) → Loads empty file told → count ≡ length (reloaded (told .answer) file)
