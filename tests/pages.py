@@ -9,6 +9,7 @@
 - docs/ANSWERS.md: the numbers and sentences with crates/numbers/specs/Answers; which words can give each with the refusals above.
 - docs/STORY.md: its lines with examples/story.script; its sentences with the comments above the statements that it names.
 - Every example line of these pages, and every exercise, is run and its answer compared.
+- The files that these pages and README.md name are there.
 - README.md's first script, examples/tour.txt and examples/story.txt, and the scripts that crates/transcripts proves something of, with examples/.
 """
 import re
@@ -22,12 +23,22 @@ faults = []
 compared = 0
 
 
-def same(what, said, is_so):
-    """Notes a fault where a page says one thing and it is another."""
+def holds(what, so):
+    """Notes a fault where something that a page says is not so."""
     global compared
     compared += 1
-    if said != is_so:
-        faults.append(f"{what}: the page has {said!r}, and it is {is_so!r}")
+    if not so:
+        faults.append(what)
+
+
+def same(what, said, is_so):
+    """Notes a fault where a page says one thing and it is another; of two lists, the first place where they differ."""
+    if isinstance(said, list) and isinstance(is_so, list):
+        for place, (a, b) in enumerate(zip(said, is_so), 1):
+            if a != b:
+                return holds(f"{what}, number {place}: the page has {a!r}, and it is {b!r}", False)
+        return holds(f"{what}: the page has {len(said)}, and there are {len(is_so)}", len(said) == len(is_so))
+    return holds(f"{what}: the page has {said!r}, and it is {is_so!r}", said == is_so)
 
 
 def read(path):
@@ -87,9 +98,10 @@ def variants(enum):
 def refusals_of_commands():
     """For each command and kind of set, the numbers of Demand2's list."""
     text = read("crates/demands/specs/Demand2.antt")
+    rules = re.findall(r"^ruleNumber (\w+) = (\d+)$", read("crates/model/specs/commands/Sets.antt"), re.M)
     found = {}
     for name, line in re.findall(r"^refusals m \((\w+)[^)]*\) list =((?:.*\n)(?:    .*\n)*)", text, re.M):
-        for kind, rule in ("Static", "10"), ("Dynamic", "11"):
+        for kind, rule in rules:
             numbers = re.findall(r"(\d+) when ", line.replace("ruleNumber kind", rule))
             found[name, kind] = sorted(map(int, numbers))
     return found
@@ -100,7 +112,7 @@ def refusals_of_questions():
     13 is left out, as Demand2 leaves it out: it is never met."""
     text = read("crates/model/specs/Questions.antt")
     shape = "1 when beyond ∷ 2 when missing ∷ 13 when cut ∷ 15 when ltb room (length list) ∷ []"
-    same("the refusals of a review", shape in text, True)
+    holds("crates/model/specs/Questions: a review has other refusals than 1, 2, 13 and 15", shape in text)
     check = block(read("crates/demands/specs/Demand2.antt"), r"\ncheckRefusals m .*?=", r"\n")
     found = {"Check": sorted(map(int, re.findall(r"(\d+) when ", check)))}
     for name, conditions in re.findall(r"^ask m room \((\w+)[^)]*\) = review m room (.*)$", text, re.M):
@@ -209,7 +221,7 @@ def check_answer_row(row, sentence, all_words, scene):
     same(what + ", given when", row["Given exactly when"], sentence)
     give = [w.name for w in all_words.values() if number in (0, 14) or number in w.refusals]
     same(what + ", which words", sorted(words_named(row["Which words can give it"], all_words)), sorted(give))
-    same(what + ", has an example", row["Example"] != "none", number not in (13, 15))
+    holds(what + ": a number that a script can print has an example, and no other", (row["Example"] != "none") == (number not in (13, 15)))
     if row["Example"] == "none":
         return
     line = quoted(row["Example"])[0]
@@ -218,7 +230,7 @@ def check_answer_row(row, sentence, all_words, scene):
     same(f"{what}, `{line}`", quoted(row["Answer"])[0], printed[-1])
     same(f"{what}, `{line}`, its number", number, int(printed[-1].split(" ")[0]))
     if times:
-        same(f"{what}, `{line}`, the times before", {answer.split(" ")[0] for answer in printed[:-1]}, {"0"})
+        holds(f"{what}, `{line}`: it is refused before that time", all(answer.startswith("0") for answer in printed[:-1]))
 
 
 def check_answers(all_words, scene):
@@ -230,7 +242,7 @@ def check_answers(all_words, scene):
         check_answer_row(row, sentence, all_words, scene)
     most = ranges()
     limits = f"{most['sessions']} sessions, {most['mostLines']} lines, {most['mostGrants']} grants and {most['mostAssignments']} assignments"
-    same("docs/ANSWERS.md, the limits", limits in page, True)
+    holds(f"docs/ANSWERS.md, 12: the limits are {limits}", limits in page)
     rules = re.findall(r"(\d+) when ", block(read("crates/policyform/specs/Rules.antt"), r"\nrulesBroken m =", r"\[\]"))
     loading = re.search(r"is answered 0, or ([\d, or]*) for what is wrong in the file", page)
     same("docs/ANSWERS.md, loading", re.findall(r"\d+", loading[1]), ["14"] + [n for n in rules if n != "13"])
@@ -253,7 +265,15 @@ def comments_above(name, path):
 def check_citations(path):
     """Every `name` in `file` of a page is there."""
     for name, file in re.findall(r"`([^` ]*)` in `([^` ]*/specs/[^` ]*)`", read(path)):
-        same(f"{path}, {name} is stated in {file}", bool(comments_above(name, file)), True)
+        holds(f"{path}: {file} has no {name}", comments_above(name, file))
+
+
+def check_files(path):
+    """Every file of examples/ that a page names, and every file that it links to, is there."""
+    page = read(path)
+    linked = [(ROOT / path).parent / link for link in re.findall(r"\]\(([^)#:]+)", page)]
+    for file in [ROOT / name for name in re.findall(r"\bexamples/[\w.-]*\w", page)] + linked:
+        holds(f"{path}: there is no {file.relative_to(ROOT)}", file.exists())
 
 
 def check_day(rows):
@@ -262,10 +282,10 @@ def check_day(rows):
     told = iter(zip(lines, printed))
     for row in rows:
         line, answer = quoted(row["Line here"])[0], quoted(row["Answer"])[0]
-        same(f"docs/STORY.md, `{line}` is answered so in the story, after the line above", (line, answer) in told, True)
+        holds(f"docs/STORY.md: `{line}` is not answered {answer} in the story, after the line above", (line, answer) in told)
         name, file = quoted(row["Its statement"])
         above = comments_above(name, file)
-        same(f"docs/STORY.md, the sentence of {name}", any(row["The sentence"].strip('"') in text for text in above), True)
+        holds(f"docs/STORY.md: its sentence does not stand above {name} in {file}", any(row["The sentence"].strip('"') in text for text in above))
 
 
 def check_story():
@@ -291,7 +311,7 @@ def check_readme():
     same("README.md, the first script", [row[0] for row in shown], lines)
     same("README.md, its answers", [row[1] for row in shown], printed)
     same("README.md, its total", re.search(r"`(total [^`]*)`", page)[1], total)
-    same("README.md, the script's file", "`examples/first.script`" in page, True)
+    holds("README.md does not name examples/first.script", "`examples/first.script`" in page)
 
 
 def check_story_text():
@@ -310,7 +330,7 @@ def check_tour():
     for number, line, answer in re.findall(r"^ *(\d+)  (.*?) {3,}(\S.*)$", text, re.M):
         at = int(number)
         same(f"examples/tour.txt, line {at}", ["" if line == "(empty)" else line, answer], [lines[at - 1], printed[at - 1]])
-        same(f"examples/tour.txt, left out before line {at}", set(lines[before : at - 1]) <= {lines[before - 1]}, True)
+        holds(f"examples/tour.txt: another line is left out before line {at}", set(lines[before : at - 1]) <= {lines[before - 1]})
         before = at
     same("examples/tour.txt, its last line", before, len(lines))
     same("examples/tour.txt, the total", text.split("\n")[-2].strip(), total)
@@ -329,8 +349,9 @@ def main():
     check_commands(all_words, scene)
     check_answers(all_words, scene)
     check_story()
-    for page in "docs/ANSWERS.md", "docs/STORY.md":
+    for page in "README.md", "docs/COMMANDS.md", "docs/ANSWERS.md", "docs/STORY.md":
         check_citations(page)
+        check_files(page)
     check_readme()
     check_story_text()
     check_tour()
