@@ -241,7 +241,7 @@ def check_answers(all_words, scene):
     for row, (_, sentence) in zip(rows, sheet):
         check_answer_row(row, sentence, all_words, scene)
     most = ranges()
-    limits = f"{most['sessions']} sessions, {most['mostLines']} lines, {most['mostGrants']} grants and {most['mostAssignments']} assignments"
+    limits = f"{most['sessions']} sessions, {most['mostLines']} lines, {most['mostGrants']:,} grants and {most['mostAssignments']:,} assignments"
     holds(f"docs/ANSWERS.md, 12: the limits are {limits}", limits in page)
     rules = re.findall(r"(\d+) when ", block(read("crates/policyform/specs/Rules.antt"), r"\nrulesBroken m =", r"\[\]"))
     loading = re.search(r"is answered 0, or ([\d, or]*) for what is wrong in the file", page)
