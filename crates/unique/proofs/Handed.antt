@@ -14,6 +14,7 @@ use Rattle.textlines.specs.Parts.{partAt}
 use Rattle.script.specs.Script.{lineFeed}
 use Rattle.transcripts.proofs.ScriptLines.{script-lines}
 use Rattle.demands.specs.Reachable.{Reachable, start, after, loaded}
+use Rattle.demands.proofs.Conditions.{conditions}
 use Rattle.demands.proofs.Demand3.{demand3}
 use Rattle.unique.specs.Handed.{Handed, Owned, empty}
 -- ---- written by tests/unique.py: their names
@@ -26,7 +27,7 @@ stepped : (m : Model) → Reachable m → (c : Command) (list : List ℕ) (a : A
 unfolding told
 stepped m r c list a l e = subst Reachable (sym (ap (λ (t : Told). t .after) e)) (after r c list)
 
-reachable : {l : List ℕ} → Handed l → Reachable (view l)
+pub reachable : {l : List ℕ} → Handed l → Reachable (view l)
 unfolding steps.step told toldOpened
 reachable (empty c) = subst Reachable (sym (c .met)) start
 -- ---- written by tests/unique.py: the commands
@@ -55,6 +56,13 @@ reachable (answer-line c h) = subst Reachable (sym (c .met .state)) (script-line
 reachable (turn c h) = subst Reachable (sym (c .met .state)) (script-lines .reachable _ (partAt lineFeed (c .given .0 .now) (c .given .1 .1 .0 .at)) (reachable h))
 reachable (load c h) = loaded (reachable h) (c .given .1 .0 .now) _ (c .met)
 
--- the code's own states keep demand 3
+-- the code's own states keep demand 3, and the refusals' conditions mean what the paper says
 pub owned : Owned
-owned = record { reachable = reachable; rules = λ {l} h. demand3 .rules (view l) (reachable h) }
+owned =
+    record {
+      reachable = reachable;
+      rules = λ {l} h. demand3 .rules (view l) (reachable h);
+      shape = λ {l} h. demand3 .shape (view l) (reachable h);
+      limits = λ {l} h. demand3 .limits (view l) (reachable h);
+      conditions = λ {l} h. conditions .policy (view l) (reachable h);
+    }
