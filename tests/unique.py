@@ -349,7 +349,7 @@ def own_calls(every, arms):
         at = place(f.types.index("&mut " + STATE))
         command = applied("commands", variant, numbers, given)
         named = f"(c .given {place(given.index('list'))} .now)" if "list" in given else "[]"
-        says.append(f"  pub {f.field()} : {call_of(f.place)} → Handed (c .given {at} .now) → Does (view (c .given {at} .now)) {command} {named} ({teller} (c .result) (c .exits {at} .now))")
+        says.append(f"  pub {f.field()} : {call_of(f.place)} → Obeyed (c .given {at} .now) {command} {named} ({teller} (c .result) (c .exits {at} .now))")
         shows.append(f"      {f.field()} = λ c h. does h {command} {named} (c {met_by});")
     if len(says) != len(arms):
         stop("`engine::step` calls a function that is not public")
@@ -383,7 +383,7 @@ def reviews_of(every):
             f.bad("is a review that `reviews::ask` does not call")
         question = applied("questions", *arms[f.place])
         shows.append(f"      {f.field()} = λ c. reviewed (view (c .given .0 .now)) {question} refl (c .met);")
-        tell.append(f"  pub {f.field()} : {call_of(f.place)} → toldReview (view (c .given .0 .now)) (c .result) (c .exits {out} .now) ≡ model.ask (view (c .given .0 .now)) (length (c .given {out} .now)) {question}")
+        tell.append(f"  pub {f.field()} : {call_of(f.place)} → Tells (c .given .0 .now) {question} {lent} (c .result)")
         told.append(f"      {f.field()} = λ c. reviewed-tells (demand1 .asking _ _ {question}) (c .met);")
     yield "specs/Buffers.antt", "the reviews", says
     yield "proofs/Buffers.antt", "the reviews", shows

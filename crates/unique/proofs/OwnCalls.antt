@@ -233,4 +233,11 @@ of-files =
     }
 
 pub own-calls : OwnCalls
-own-calls = record { commands = of-commands; questions = of-questions; lines = of-lines; files = of-files }
+own-calls =
+    record {
+      commands = of-commands;
+      unchanged = λ before after sb sa c list told e d h. states sa sb (sym e ∙ d .unchanged h) refl;
+      questions = of-questions;
+      lines = of-lines;
+      files = of-files;
+    }
