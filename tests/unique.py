@@ -306,6 +306,7 @@ def parts():
     yield "proofs/Handed.antt", "the commands", [f.reached(arms) for f in handing if f.tells()]
     yield from own_calls(every, arms)
     yield from reviews_of(every)
+    yield from putters_of(every)
     yield from outside(every)
     met.update(f.place for f in every)
 
@@ -353,6 +354,8 @@ def own_calls(every, arms):
         shows.append(f"      {f.field()} = λ c h. does h {command} {named} (c {met_by});")
     if len(says) != len(arms):
         stop("`engine::step` calls a function that is not public")
+    crates = dict.fromkeys(f.crate for f in every if f.place in arms or f.crate in ("engine", "reviews", "policyfile", "script"))
+    yield "specs/OwnCalls.antt", "the crates", [f"use Rattle.{c}.proofs as {c}" for c in crates] + [""]
     yield "specs/OwnCalls.antt", "the commands", says
     yield "proofs/OwnCalls.antt", "the commands", shows
 
@@ -389,6 +392,27 @@ def reviews_of(every):
     yield "proofs/Buffers.antt", "the reviews", shows
     yield "specs/OwnCalls.antt", "the reviews", tell
     yield "proofs/OwnCalls.antt", "the reviews", told
+
+
+# The functions that are lent a buffer of bytes and have a line of `Buffers` that is written by hand.
+BUFFER_BY_HAND = {"policyfile.save", "script.answer_line", "script.turn"}
+
+
+def putters_of(every):
+    """The functions that put a text or a file into a buffer of bytes: from which place on, and the place past it is their result."""
+    says, shows = [], []
+    for f in [f for f in every if "&mut [u8]" in f.types and f.place not in BUFFER_BY_HAND]:
+        form = re.match(r"(Put) \(now \(\w+ \.entry\)\) (\w+) |(Wrote) \(now \(\w+ \.entry\)\) \(now \(\w+ \.exit\)\) (\w+) ", f.promise)
+        if not form or f.result != "usize" or f.types.count("usize") != ((form[2] or form[4]) != "0"):
+            f.bad("is lent a buffer: write its line in crates/unique/specs/Buffers.antt and name it in BUFFER_BY_HAND; its promise is one")
+        at = "0" if "usize" not in f.types else f"(c .given {place(f.types.index('usize'))})"
+        out = place(f.types.index("&mut [u8]"))
+        says.append(f"  pub {f.field()} : {call_of(f.place)} → Around {at} (c .result) (c .given {out} .now) (c .exits {out} .now)")
+        shows.append(f"      {f.field()} = λ c. {'put-around' if form[1] else 'wrote-around'} (c .met);")
+    crates = dict.fromkeys(f.crate for f in every if any(t in ("&mut [u8]", "&mut [u16]") for t in f.types))
+    yield "specs/Buffers.antt", "the crates", [f"use Rattle.{c}.proofs as {c}" for c in crates] + [""]
+    yield "specs/Buffers.antt", "what puts a text", says
+    yield "proofs/Buffers.antt", "what puts a text", shows
 
 
 def outside(every):

@@ -26,8 +26,10 @@ use Rattle.reviews.specs.declared.Review.{Review}
 use Rattle.policyform.specs.Encode.{encode}
 use Rattle.policyform.specs.Promises.{Saves}
 use Rattle.text.specs.Putting.{Put}
+use Rattle.text.specs.Places.{Wrote}
 use Rattle.text.proofs.Putting.{put-length}
-use Rattle.unique.specs.Buffers.{Lent, Texted, Buffers}
+use Rattle.text.proofs.Writing.{wrote-length}
+use Rattle.unique.specs.Buffers.{Lent, Texted, Around, Buffers}
 
 -- ---- results at the front
 
@@ -145,27 +147,32 @@ stored-at l i (b ∷ text) (suc k) h f =
     let place : suc i + k ≡ i + suc k = omega arith in
     rw place at (stored-at (set l i b) (suc i) text k (omega arith) (omega (arith, length-set l i b)))
 
-texted : {text before after : List ℕ} {len : ℕ} → Put before 0 text after len → Texted text len before after
-texted {text} {before} {after} {len} p =
+-- past the place that is handed back either the text ends there, or the buffer does
+put-past : {text before after : List ℕ} {at next : ℕ} → Put before at text after next → (k : ℕ) → next ≤ k → getD after k 0 ≡ getD before k 0
+put-past {text} {before} {after} {at} p k h = go (decLe (at + length text) k)
+  where
+    go : Dec (at + length text ≤ k) → getD after k 0 ≡ getD before k 0
+    go (yes m) = ap (λ (l : List ℕ). getD l k 0) (p .holds) ∙ stored-past before at text k m
+    go (no m) = List·getD-eq-default after 0 (omega (arith, p .ends, put-length p)) ∙ sym (List·getD-eq-default before 0 (omega (arith, p .ends)))
+
+put-around : {text before after : List ℕ} {at next : ℕ} → Put before at text after next → Around at next before after
+put-around {text} {before} {after} {at} p = record { long = put-length p; before-it = λ k h. ap (λ (l : List ℕ). getD l k 0) (p .holds) ∙ stored-before before at text k h; past = put-past p }
+
+wrote-around : {bytes before after : List ℕ} {at next : ℕ} → Wrote before after at next bytes → Around at next before after
+wrote-around {bytes} {before} {after} {at} w =
     record {
-      whole = λ h. omega (arith, p .ends);
-      filled = λ h. omega (arith, p .ends);
-      long = put-length p;
-      front = front;
-      past = past;
+      long = wrote-length w;
+      before-it = λ k h. ap (λ (l : List ℕ). getD l k 0) (w .buffer) ∙ stored-before before at bytes k h;
+      past = λ k h. ap (λ (l : List ℕ). getD l k 0) (w .buffer) ∙ stored-past before at bytes k (omega (arith, w .next));
     }
+
+texted : {text before after : List ℕ} {len : ℕ} → Put before 0 text after len → Texted text len before after
+texted {text} {before} {after} {len} p = record { whole = λ h. omega (arith, p .ends); filled = λ h. omega (arith, p .ends); long = put-length p; front = front; past = put-past p }
   where
     front : (k : ℕ) → k < len → getD after k 0 ≡ getD text k 0
     front k h =
         let place : 0 + k ≡ k = omega arith in
         ap (λ (l : List ℕ). getD l k 0) (p .holds) ∙ (rw place at (stored-at before 0 text k (omega (arith, p .ends)) (omega (arith, p .ends))))
-
-    past : (k : ℕ) → len ≤ k → getD after k 0 ≡ getD before k 0
-    past k h = go (decLe (length text) k)
-      where
-        go : Dec (length text ≤ k) → getD after k 0 ≡ getD before k 0
-        go (yes m) = ap (λ (l : List ℕ). getD l k 0) (p .holds) ∙ stored-past before 0 text k (omega arith)
-        go (no m) = List·getD-eq-default after 0 (omega (arith, p .ends, put-length p)) ∙ sym (List·getD-eq-default before 0 (omega (arith, p .ends)))
 
 -- ---- files
 
@@ -202,4 +209,14 @@ buffers =
       save = λ c. saved (c .met);
       answer-line = λ c. texted (c .met .puts .text);
       turn = λ c. texted (c .met .text);
+      -- ---- written by tests/unique.py: what puts a text
+      put = λ c. put-around (c .met);
+      put-text = λ c. put-around (c .met);
+      write = λ c. wrote-around (c .met);
+      put-number = λ c. put-around (c .met);
+      put-numbers = λ c. put-around (c .met);
+      put-word = λ c. put-around (c .met);
+      answer-text = λ c. put-around (c .met);
+      total-text = λ c. put-around (c .met);
+      -- ---- end of what tests/unique.py writes
     }

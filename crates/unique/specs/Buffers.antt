@@ -9,10 +9,17 @@ use Rattle.numbers.specs.Answers.{numberOf}
 use Rattle.state.specs.View.{view}
 use Rattle.textlines.specs.Parts.{partAt}
 use Rattle.script.specs.Script.{answerText, obey, lineFeed}
-use Rattle.policyfile.proofs as policyfile
-use Rattle.reviews.proofs as reviews
-use Rattle.script.proofs as script
 use Rattle.unique.specs.Handed.{Call}
+-- ---- written by tests/unique.py: the crates
+use Rattle.reviews.proofs as reviews
+use Rattle.text.proofs as text
+use Rattle.policywrite.proofs as policywrite
+use Rattle.policyfile.proofs as policyfile
+use Rattle.decimal.proofs as decimal
+use Rattle.words.proofs as words
+use Rattle.script.proofs as script
+
+-- ---- end of what tests/unique.py writes
 
 -- A buffer before and after a call that answered with this number and wrote so many places.
 pub record Lent (answer size : ℕ) (before after : List ℕ) : Type 0 where
@@ -33,6 +40,12 @@ pub record Texted (text : List ℕ) (len : ℕ) (before after : List ℕ) : Type
   -- Each byte before `len` is that of the text, and each byte from there on is as it was.
   pub front : (k : ℕ) → k < len → getD after k 0 ≡ getD text k 0
   pub past : (k : ℕ) → len ≤ k → getD after k 0 ≡ getD before k 0
+
+-- A buffer before and after bytes were put into it from the place `at` on: the places before that and from `next` on are as they were.
+pub record Around (at next : ℕ) (before after : List ℕ) : Type 0 where
+  pub long : length after ≡ length before
+  pub before-it : (k : ℕ) → k < at → getD after k 0 ≡ getD before k 0
+  pub past : (k : ℕ) → next ≤ k → getD after k 0 ≡ getD before k 0
 
 pub record Buffers : Type 0 where
   -- Every review, by its own function and by `ask`: the buffer has the results at its front.
@@ -60,3 +73,14 @@ pub record Buffers : Type 0 where
   -- So does the line at a place of a script.
   pub turn : (c : Call script.turn.Kinds.ps script.turn.Kinds.r script.turn.Reads.Post)
       → let t = obey (view (c .given .1 .0 .now)) (partAt lineFeed (c .given .0 .now) (c .given .1 .1 .0 .at)) in Texted (answerText (t .answer) (t .results)) (c .result .len) (c .given .1 .1 .1 .0 .now) (c .exits .1 .1 .1 .0 .now)
+  -- Every other function that puts bytes into a lent buffer: from the place that it is given on, or from the front, up to the place that it hands back.
+  -- ---- written by tests/unique.py: what puts a text
+  pub put : (c : Call text.put.Kinds.ps text.put.Kinds.r text.put.Reads.Post) → Around (c .given .1 .0) (c .result) (c .given .0 .now) (c .exits .0 .now)
+  pub put-text : (c : Call text.put_text.Kinds.ps text.put_text.Kinds.r text.put_text.Reads.Post) → Around (c .given .1 .0) (c .result) (c .given .0 .now) (c .exits .0 .now)
+  pub write : (c : Call policywrite.write.Kinds.ps policywrite.write.Kinds.r policywrite.write.Reads.Post) → Around 0 (c .result) (c .given .1 .0 .now) (c .exits .1 .0 .now)
+  pub put-number : (c : Call decimal.put_number.Kinds.ps decimal.put_number.Kinds.r decimal.put_number.Reads.Post) → Around (c .given .1 .0) (c .result) (c .given .0 .now) (c .exits .0 .now)
+  pub put-numbers : (c : Call decimal.put_numbers.Kinds.ps decimal.put_numbers.Kinds.r decimal.put_numbers.Reads.Post) → Around (c .given .1 .0) (c .result) (c .given .0 .now) (c .exits .0 .now)
+  pub put-word : (c : Call words.put_word.Kinds.ps words.put_word.Kinds.r words.put_word.Reads.Post) → Around (c .given .1 .0) (c .result) (c .given .0 .now) (c .exits .0 .now)
+  pub answer-text : (c : Call script.answer_text.Kinds.ps script.answer_text.Kinds.r script.answer_text.Reads.Post) → Around 0 (c .result) (c .given .0 .now) (c .exits .0 .now)
+  pub total-text : (c : Call script.total_text.Kinds.ps script.total_text.Kinds.r script.total_text.Reads.Post) → Around 0 (c .result) (c .given .0 .now) (c .exits .0 .now)
+  -- ---- end of what tests/unique.py writes

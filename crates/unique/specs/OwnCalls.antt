@@ -35,6 +35,9 @@ use Rattle.meaning.specs.declared.Meant.{Meant}
 use Rattle.meaning.specs.declared.Meant.the-variants.{Do, Ask, Nothing}
 use Rattle.script.specs.Script.{answerText, lineFeed}
 use Rattle.demands.specs.Demand2.{Exactly, refusals, results, effect, Checked, Granted}
+use Rattle.unique.specs.Handed.{Call, Handed}
+use Rattle.unique.specs.Unique.{State}
+-- ---- written by tests/unique.py: the crates
 use Rattle.users.proofs as users
 use Rattle.assigning.proofs as assigning
 use Rattle.inheriting.proofs as inheriting
@@ -44,8 +47,8 @@ use Rattle.engine.proofs as engine
 use Rattle.reviews.proofs as reviews
 use Rattle.policyfile.proofs as policyfile
 use Rattle.script.proofs as script
-use Rattle.unique.specs.Handed.{Call, Handed}
-use Rattle.unique.specs.Unique.{State}
+
+-- ---- end of what tests/unique.py writes
 
 -- ---- the commands
 
