@@ -49,7 +49,7 @@ use Rattle.demands.proofs.Demand2.{applies-none, none-applies, demand2}
 use Rattle.demands.proofs.PolicyFile.{faithful}
 use Rattle.unique.specs.Handed.{Handed}
 use Rattle.unique.specs.Unique.{State}
-use Rattle.unique.specs.OwnCalls.{Does, toldStepped, Commands, toldReview, Questions, Means, LineTells, Answered, Lines, Files, OwnCalls}
+use Rattle.unique.specs.OwnCalls.{Does, toldStepped, Commands, SaysYes, toldReview, Questions, Means, LineTells, Answered, Lines, Files, OwnCalls}
 use Rattle.unique.proofs.Handed.{reachable, owned}
 use Rattle.unique.proofs.Unique.{states}
 
@@ -132,7 +132,7 @@ said true false e = absurd (let z : _≡_ {A = ℕ} 0 1 = cc in omega arith)
 said false false e = absurd (omega (arith, ap length e))
 
 -- what `check` hands back says yes exactly where access is granted
-says-yes : (m : Model) (s op obj : ℕ) (x : code.Checked) → Shape m → Checked m s op obj (toldChecked m x) → (isDone (x .answer) ≡ false → x .yes ≡ false) → (x .yes ≡ true) ↔ ((op ≤ 15) × (obj ≤ 255) × Granted m s (op * 256 + obj))
+says-yes : (m : Model) (s op obj : ℕ) (x : code.Checked) → Shape m → Checked m s op obj (toldChecked m x) → (isDone (x .answer) ≡ false → x .yes ≡ false) → SaysYes m s op obj x
 unfolding toldChecked
 says-yes m s op obj x shape c silent = (granted (isDone (x .answer)) refl, yes)
   where

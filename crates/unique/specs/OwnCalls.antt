@@ -22,6 +22,7 @@ use Rattle.model.specs.declared.Question.{Question}
 use Rattle.model.specs.declared.Question.the-variants as questions
 use Rattle.state.specs.View.{view, told}
 use Rattle.sessions.specs.Answering.{given, toldOpened, toldChecked}
+use Rattle.sessions.specs.declared.Checked as code
 use Rattle.engine.specs.declared.Stepped.{Stepped}
 use Rattle.reviews.specs.Reviewing.{fitted}
 use Rattle.reviews.specs.declared.Review.{Review}
@@ -92,20 +93,24 @@ pub record Commands : Type 0 where
 
 -- ---- the questions
 
+-- "Yes exactly when some effective role of the session holds the grant": the operation is one of 0 to 15, the object one of 0 to 255, and the permission,
+-- "written as operation * 256 + object", is granted.
+abbrev pub SaysYes : Model → ℕ → ℕ → ℕ → code.Checked → Type 0
+SaysYes m s op obj x = (x .yes ≡ true) ↔ ((op ≤ 15) × (obj ≤ 255) × Granted m s (op * 256 + obj))
+
 -- What a review told over m that left this buffer: the answer's number, and as many results at the buffer's front as it counted. A question changes nothing.
 unfoldable pub toldReview : Model → Review → List ℕ → Told
 toldReview m x after = record { answer = numberOf (x .answer); results = take (x .count) after; after = m }
 
--- It is what the model's `ask` tells of the question, asked of the state l with as much room as the buffer had before.
+-- What a review handed back is what the model's `ask` tells of the question, asked of the state l with as much room as the buffer had before.
 abbrev pub Tells : List ℕ → Question → List ℕ → List ℕ → Review → Type 0
 Tells l q before after x = toldReview (view l) x after ≡ model.ask (view l) (length before) q
 
 pub record Questions : Type 0 where
   -- `check`, asked with the lent state and the session's number, is refused and answered as demand 2 says.
   pub check : (c : Call sessions.check.Kinds.ps sessions.check.Kinds.r sessions.check.Reads.Post) → Handed (c .given .0 .now) → Checked (view (c .given .0 .now)) (c .given .1 .0 .number) (c .given .1 .1 .0) (c .given .1 .1 .1 .0) (toldChecked (view (c .given .0 .now)) (c .result))
-  -- "Yes exactly when some effective role of the session holds the grant": of an operation 0 to 15 on an object 0 to 255.
-  pub yes : (c : Call sessions.check.Kinds.ps sessions.check.Kinds.r sessions.check.Reads.Post) → Handed (c .given .0 .now)
-      → (c .result .yes ≡ true) ↔ ((c .given .1 .1 .0 ≤ 15) × (c .given .1 .1 .1 .0 ≤ 255) × Granted (view (c .given .0 .now)) (c .given .1 .0 .number) (c .given .1 .1 .0 * 256 + c .given .1 .1 .1 .0))
+  -- And it says yes exactly then.
+  pub yes : (c : Call sessions.check.Kinds.ps sessions.check.Kinds.r sessions.check.Reads.Post) → Handed (c .given .0 .now) → SaysYes (view (c .given .0 .now)) (c .given .1 .0 .number) (c .given .1 .1 .0) (c .given .1 .1 .1 .0) (c .result)
   -- Any question through `ask`, of any state, with a buffer that has a place.
   pub ask : (c : Call reviews.ask.Kinds.ps reviews.ask.Kinds.r reviews.ask.Reads.Post) → 1 ≤ length (c .given .1 .1 .0 .now)
       → Tells (c .given .0 .now) (c .given .1 .0) (c .given .1 .1 .0 .now) (c .exits .1 .1 .0 .now) (c .result)
