@@ -49,7 +49,7 @@ use Rattle.demands.proofs.Demand2.{applies-none, none-applies, demand2}
 use Rattle.demands.proofs.PolicyFile.{faithful}
 use Rattle.unique.specs.Handed.{Handed}
 use Rattle.unique.specs.Unique.{State}
-use Rattle.unique.specs.OwnCalls.{Does, toldStepped, Commands, SaysYes, toldReview, Questions, Means, LineTells, Answered, Lines, Files, OwnCalls}
+use Rattle.unique.specs.OwnCalls.{Does, toldStepped, Commands, MayDo, toldReview, Questions, Means, LineTells, Answered, Lines, Files, OwnCalls}
 use Rattle.unique.proofs.Handed.{reachable, owned}
 use Rattle.unique.proofs.Unique.{states}
 
@@ -132,24 +132,24 @@ said true false e = absurd (let z : _≡_ {A = ℕ} 0 1 = cc in omega arith)
 said false false e = absurd (omega (arith, ap length e))
 
 -- what `check` hands back says yes exactly where access is granted
-says-yes : (m : Model) (s op obj : ℕ) (x : code.Checked) → Shape m → Checked m s op obj (toldChecked m x) → (isDone (x .answer) ≡ false → x .yes ≡ false) → SaysYes m s op obj x
+says-yes : (m : Model) (s op obj : ℕ) (x : code.Checked) → Shape m → Checked m s op obj (toldChecked m x) → (isDone (x .answer) ≡ false → x .yes ≡ false) → (x .yes ≡ true) ↔ MayDo m s op obj
 unfolding toldChecked
 says-yes m s op obj x shape c silent = (granted (isDone (x .answer)) refl, yes)
   where
-    granted : (b : Bool) → isDone (x .answer) ≡ b → x .yes ≡ true → (op ≤ 15) × (obj ≤ 255) × Granted m s (op * 256 + obj)
+    granted : (b : Bool) → isDone (x .answer) ≡ b → x .yes ≡ true → MayDo m s op obj
     granted false d y = clash (x .yes) y (silent d)
     granted true d y =
         let zero = eqb-true (numberOf (x .answer)) 0 d in
         let clear = applies-none (checkRefusals m s op obj) (c .done .0 zero) .0 in
         let ranges = or-clear (op beyond 15) (obj beyond 255) (or-clear (s beyond 63) (op beyond 15 || obj beyond 255) clear .1) in
-        (omega (arith, leb-false 16 op (ranges .0)), omega (arith, leb-false 256 obj (ranges .1)), c .exactly zero .0 (rw (d, y)))
+        record { operation = omega (arith, leb-false 16 op (ranges .0)); object = omega (arith, leb-false 256 obj (ranges .1)); granted = c .exactly zero .0 (rw (d, y)) }
 
-    yes : (op ≤ 15) × (obj ≤ 255) × Granted m s (op * 256 + obj) → x .yes ≡ true
-    yes (o, b, g) =
-        let there = open-session shape (g .effective) in
+    yes : MayDo m s op obj → x .yes ≡ true
+    yes may =
+        let there = open-session shape (may .granted .effective) in
         let within : (s beyond 63 || (op beyond 15 || obj beyond 255)) ≡ false = rw (lt-leb 64 s (omega (arith, there .1)), lt-leb 16 op (omega arith), lt-leb 256 obj (omega arith)) in
         let zero = c .done .1 (none-applies (checkRefusals m s op obj) (within, (rw (there .0), tt))) in
-        said (isDone (x .answer)) (x .yes) (c .exactly zero .1 g)
+        said (isDone (x .answer)) (x .yes) (c .exactly zero .1 (may .granted))
 
 of-questions : Questions
 unfolding ask

@@ -22,7 +22,6 @@ use Rattle.model.specs.declared.Question.{Question}
 use Rattle.model.specs.declared.Question.the-variants as questions
 use Rattle.state.specs.View.{view, told}
 use Rattle.sessions.specs.Answering.{given, toldOpened, toldChecked}
-use Rattle.sessions.specs.declared.Checked as code
 use Rattle.engine.specs.declared.Stepped.{Stepped}
 use Rattle.reviews.specs.Reviewing.{fitted}
 use Rattle.reviews.specs.declared.Review.{Review}
@@ -93,10 +92,12 @@ pub record Commands : Type 0 where
 
 -- ---- the questions
 
--- "Yes exactly when some effective role of the session holds the grant": the operation is one of 0 to 15, the object one of 0 to 255, and the permission,
--- "written as operation * 256 + object", is granted.
-abbrev pub SaysYes : Model → ℕ → ℕ → ℕ → code.Checked → Type 0
-SaysYes m s op obj x = (x .yes ≡ true) ↔ ((op ≤ 15) × (obj ≤ 255) × Granted m s (op * 256 + obj))
+-- The session may do the operation on the object: the operation is one of 0 to 15, the object is one of 0 to 255, and the permission, "written as
+-- operation * 256 + object", is granted to an effective role of the session.
+pub record MayDo (m : Model) (s op obj : ℕ) : Type 0 where
+  pub operation : op ≤ 15
+  pub object : obj ≤ 255
+  pub granted : Granted m s (op * 256 + obj)
 
 -- What a review told over m that left this buffer: the answer's number, and as many results at the buffer's front as it counted. A question changes nothing.
 unfoldable pub toldReview : Model → Review → List ℕ → Told
@@ -109,8 +110,8 @@ Tells l q before after x = toldReview (view l) x after ≡ model.ask (view l) (l
 pub record Questions : Type 0 where
   -- `check`, asked with the lent state and the session's number, is refused and answered as demand 2 says.
   pub check : (c : Call sessions.check.Kinds.ps sessions.check.Kinds.r sessions.check.Reads.Post) → Handed (c .given .0 .now) → Checked (view (c .given .0 .now)) (c .given .1 .0 .number) (c .given .1 .1 .0) (c .given .1 .1 .1 .0) (toldChecked (view (c .given .0 .now)) (c .result))
-  -- And it says yes exactly then.
-  pub yes : (c : Call sessions.check.Kinds.ps sessions.check.Kinds.r sessions.check.Reads.Post) → Handed (c .given .0 .now) → SaysYes (view (c .given .0 .now)) (c .given .1 .0 .number) (c .given .1 .1 .0) (c .given .1 .1 .1 .0) (c .result)
+  -- "Yes exactly when some effective role of the session holds the grant."
+  pub yes : (c : Call sessions.check.Kinds.ps sessions.check.Kinds.r sessions.check.Reads.Post) → Handed (c .given .0 .now) → (c .result .yes ≡ true) ↔ MayDo (view (c .given .0 .now)) (c .given .1 .0 .number) (c .given .1 .1 .0) (c .given .1 .1 .1 .0)
   -- Any question through `ask`, of any state, with a buffer that has a place.
   pub ask : (c : Call reviews.ask.Kinds.ps reviews.ask.Kinds.r reviews.ask.Reads.Post) → 1 ≤ length (c .given .1 .1 .0 .now)
       → Tells (c .given .0 .now) (c .given .1 .0) (c .given .1 .1 .0 .now) (c .exits .1 .1 .0 .now) (c .result)
