@@ -43,6 +43,7 @@ BY_HAND = {
 STATE = "[u64; PLACES]"
 
 FILES = ["specs/Promises.antt", "proofs/Promises.antt", "specs/Handed.antt", "proofs/Handed.antt"]
+FILES += ["specs/OwnCalls.antt", "proofs/OwnCalls.antt", "specs/Buffers.antt", "proofs/Buffers.antt"]
 BEGIN = "-- ---- written by tests/unique.py: "
 END = "-- ---- end of what tests/unique.py writes"
 
@@ -306,7 +307,129 @@ def parts():
     yield "specs/Handed.antt", "the functions that change the state and answer", [f.constructor() for f in handing] + [""]
     yield "proofs/Handed.antt", "their names", ["use Rattle.unique.specs.Handed.{" + ", ".join(f.field() for f in handing) + "}", ""]
     yield "proofs/Handed.antt", "the commands", [f.reached(arms) for f in handing if f.tells()]
+    yield from own_calls(every, arms)
+    yield from reviews_of(every)
+    yield from putters_of(every)
+    yield from outside(every)
     met.update(f.place for f in every)
+
+
+# ---- what the code's own calls tell (OwnCalls), what they leave in a buffer (Buffers), and what is no call of the engine's own (Handed)
+
+# The public functions that can change an array of the state's numbers and are no line of `Handed`, by their module, and what they are for. A crate
+# cannot hide a function from the crates outside the workspace and show it to those inside.
+OUTSIDE = {
+    "state.stores": (
+        "put_all put_user put_roles put_juniors put_assigned put_holders put_lines put_assignments put_set put_members clear_set open_session put_active close_session put_all_active",
+        "each stores one part of the state as it is given, for the commands, which ask their refusals first",
+    ),
+    "sweeps": ("end_all strip", "passes of `nouser` and `norole` over the sessions, and over a table that is lent as a slice"),
+    "policyread": ("gather", "the numbers of any file, stored without a test, for `load`, which tests them before it stores them as the state"),
+}
+
+# The one function of these that `Handed` begins with.
+START = "state.stores.start"
+
+
+def call_of(f):
+    return f"(c : Call {f}.Kinds.ps {f}.Kinds.r {f}.Reads.Post)"
+
+
+def applied(kind, variant, numbers, given):
+    """The command or question that a function is called with, of the call c."""
+    arguments = " ".join(f"(c .given {place(given.index(n))})" for n in numbers)
+    return f"({kind}.{variant} {arguments})" if numbers else f"{kind}.{variant}"
+
+
+def own_calls(every, arms):
+    """The commands: the functions that the arms of `engine::step` call."""
+    tellers = {"Answer": ("told", ".met"), "Opened": ("toldOpened", ".met .tells")}
+    says, shows = [], []
+    for f in [f for f in every if f.place in arms]:
+        if f.result not in tellers:
+            f.bad("answers as no command does")
+        teller, met_by = tellers[f.result]
+        variant, numbers, given = arms[f.place]
+        at = place(f.types.index("&mut " + STATE))
+        command = applied("commands", variant, numbers, given)
+        named = f"(c .given {place(given.index('list'))} .now)" if "list" in given else "[]"
+        says.append(f"  pub {f.field()} : {call_of(f.place)} → Obeyed (c .given {at} .now) {command} {named} ({teller} (c .result) (c .exits {at} .now))")
+        shows.append(f"      {f.field()} = λ c h. does h {command} {named} (c {met_by});")
+    if len(says) != len(arms):
+        stop("`engine::step` calls a function that is not public")
+    crates = dict.fromkeys(f.crate for f in every if f.place in arms or f.crate in ("engine", "reviews", "policyfile", "script"))
+    yield "specs/OwnCalls.antt", "the crates", [f"use Rattle.{c}.proofs as {c}" for c in crates] + [""]
+    yield "specs/OwnCalls.antt", "the commands", says
+    yield "proofs/OwnCalls.antt", "the commands", shows
+
+
+def questions_of(path):
+    """Which question of the model each review is: the arms of `reviews::ask`, as (variant, its numbers, what the function is given)."""
+    arms = {}
+    for m in re.finditer(r"Question::(\w+)(?:\(([^)]*)\))?\s*=>\s*(\w+)\(\s*(state\b[^)]*)\)", bare(path)):
+        arms["reviews." + m[3]] = (m[1], split(m[2] or ""), split(m[4]))
+    return arms
+
+
+def reviews_of(every):
+    """The reviews: the functions that are lent a buffer for their results."""
+    arms = questions_of(ROOT / "crates/reviews/src/lib.rt")
+    says, shows, tell, told = [], [], [], []
+    for f in [f for f in every if f.crate == "reviews"]:
+        buffers = [i for i, t in enumerate(f.types) if t == "&mut [u16]"]
+        if len(buffers) != 1 or f.types[0] != "&" + STATE or f.result != "Review":
+            f.bad("is not given a state and lent one buffer for its results")
+        out = place(buffers[0])
+        lent = f"(c .given {out} .now) (c .exits {out} .now)"
+        says.append(f"  pub {f.field()} : {call_of(f.place)} → Lent (numberOf (c .result .answer)) (c .result .count) {lent}")
+        if f.name == "ask":
+            shows.append("      ask = λ c. asked-any (view (c .given .0 .now)) (c .given .1 .0) (c .met);")
+            continue
+        if f.place not in arms:
+            f.bad("is a review that `reviews::ask` does not call")
+        question = applied("questions", *arms[f.place])
+        shows.append(f"      {f.field()} = λ c. reviewed (view (c .given .0 .now)) {question} refl (c .met);")
+        tell.append(f"  pub {f.field()} : {call_of(f.place)} → Tells (c .given .0 .now) {question} {lent} (c .result)")
+        told.append(f"      {f.field()} = λ c. reviewed-tells (demand1 .asking _ _ {question}) (c .met);")
+    yield "specs/Buffers.antt", "the reviews", says
+    yield "proofs/Buffers.antt", "the reviews", shows
+    yield "specs/OwnCalls.antt", "the reviews", tell
+    yield "proofs/OwnCalls.antt", "the reviews", told
+
+
+# The functions that are lent a buffer of bytes and have a line of `Buffers` that is written by hand.
+BUFFER_BY_HAND = {"policyfile.save", "script.answer_line", "script.turn"}
+
+
+def putters_of(every):
+    """The functions that put a text or a file into a buffer of bytes: from which place on, and the place past it is their result."""
+    says, shows = [], []
+    for f in [f for f in every if "&mut [u8]" in f.types and f.place not in BUFFER_BY_HAND]:
+        form = re.match(r"(Put) \(now \(\w+ \.entry\)\) (\w+) |(Wrote) \(now \(\w+ \.entry\)\) \(now \(\w+ \.exit\)\) (\w+) ", f.promise)
+        if not form or f.result != "usize" or f.types.count("usize") != ((form[2] or form[4]) != "0"):
+            f.bad("is lent a buffer: write its line in crates/unique/specs/Buffers.antt and name it in BUFFER_BY_HAND; its promise is one")
+        at = "0" if "usize" not in f.types else f"(c .given {place(f.types.index('usize'))})"
+        out = place(f.types.index("&mut [u8]"))
+        says.append(f"  pub {f.field()} : {call_of(f.place)} → Around {at} (c .result) (c .given {out} .now) (c .exits {out} .now)")
+        shows.append(f"      {f.field()} = λ c. {'put-around' if form[1] else 'wrote-around'} (c .met);")
+    crates = dict.fromkeys(f.crate for f in every if any(t in ("&mut [u8]", "&mut [u16]") for t in f.types))
+    yield "specs/Buffers.antt", "the crates", [f"use Rattle.{c}.proofs as {c}" for c in crates] + [""]
+    yield "specs/Buffers.antt", "what puts a text", says
+    yield "proofs/Buffers.antt", "what puts a text", shows
+
+
+def outside(every):
+    """The functions that are lent an array of numbers to change and are no line of `Handed`: each is on the list, and the list has no other."""
+    changing = [f.place for f in every if any(re.fullmatch(r"&mut \[u64(; \w+)?\]", t) for t in f.types)]
+    left = [f for f in changing if f != START and f not in {g.place for g in every if g.hands_back()}]
+    listed = [f"{module}.{name}" for module, (names, _) in OUTSIDE.items() for name in names.split()]
+    for f in left:
+        if f not in listed:
+            stop(f"{f} can change the state, and is neither a line of Handed nor on the list of those outside (OUTSIDE in tests/unique.py)")
+    for f in listed:
+        if f not in left:
+            stop(f"tests/unique.py says that {f} is outside Handed, and it is no public function that can change the state, or has a line")
+    yield "specs/Handed.antt", "the functions outside", [f"-- `{module}` ({', '.join(names.split())}): {why}." for module, (names, why) in OUTSIDE.items()]
 
 
 # the public functions that were found, with or without a line

@@ -16,6 +16,7 @@ use Rattle.script.specs.declared.Progress.{Progress}
 use Rattle.program.specs.Printing.{Stage, stageOf, over, total, tooLong, line, piece}
 use Rattle.transcripts.proofs.ScriptLines.{script-lines}
 use Rattle.demands.specs.Reachable.{Reachable, start, after, loaded}
+use Rattle.demands.proofs.Conditions.{conditions}
 use Rattle.demands.proofs.Demand3.{demand3}
 use Rattle.unique.specs.Handed.{Handed, Owned, empty}
 -- ---- written by tests/unique.py: their names
@@ -35,7 +36,7 @@ piece-reachable total script l p r = r
 piece-reachable tooLong script l p r = r
 piece-reachable line script l p r = script-lines .reachable _ (partAt lineFeed script (p .at)) r
 
-reachable : {l : List ℕ} → Handed l → Reachable (view l)
+pub reachable : {l : List ℕ} → Handed l → Reachable (view l)
 unfolding steps.step told toldOpened
 reachable (empty c) = subst Reachable (sym (c .met)) start
 -- ---- written by tests/unique.py: the commands
@@ -66,6 +67,13 @@ reachable (begin c) = subst Reachable (sym (c .met .state)) start
 reachable (next c h) = subst Reachable (sym (c .met .state)) (piece-reachable (stageOf (c .given .0 .now) (c .given .1 .1 .0)) (c .given .0 .now) (c .given .1 .0 .now) (c .given .1 .1 .0 .progress) (reachable h))
 reachable (load c h) = loaded (reachable h) (c .given .1 .0 .now) _ (c .met)
 
--- the code's own states keep demand 3
+-- the code's own states keep demand 3, and the refusals' conditions mean what the paper says
 pub owned : Owned
-owned = record { reachable = reachable; rules = λ {l} h. demand3 .rules (view l) (reachable h) }
+owned =
+    record {
+      reachable = reachable;
+      rules = λ {l} h. demand3 .rules (view l) (reachable h);
+      shape = λ {l} h. demand3 .shape (view l) (reachable h);
+      limits = λ {l} h. demand3 .limits (view l) (reachable h);
+      conditions = λ {l} h. conditions .policy (view l) (reachable h);
+    }

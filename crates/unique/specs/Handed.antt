@@ -1,12 +1,22 @@
 -- "The policy and sessions that a function takes are the engine's own: the empty policy, or what an earlier answer handed back." The code's own
 -- states: from `start`, by calls of the functions in any order and with any arguments. Assumes nothing.
+--
+-- The engine's own functions are `start`, the commands, `step`, `load` and the lines of a script. These public functions can change an array of
+-- numbers too and are none of them. They are the engine's parts, and a crate cannot hide a function from some crates only. What they leave of a
+-- state is the engine's own only where one of the engine's own functions calls them; the same is true of a caller that stores numbers into the array by itself.
+-- ---- written by tests/unique.py: the functions outside
+-- `state.stores` (put_all, put_user, put_roles, put_juniors, put_assigned, put_holders, put_lines, put_assignments, put_set, put_members, clear_set, open_session, put_active, close_session, put_all_active): each stores one part of the state as it is given, for the commands, which ask their refusals first.
+-- `sweeps` (end_all, strip): passes of `nouser` and `norole` over the sessions, and over a table that is lent as a slice.
+-- `policyread` (gather): the numbers of any file, stored without a test, for `load`, which tests them before it stores them as the state.
+-- ---- end of what tests/unique.py writes
 use mathlib.Core.List.{List}
 use Prim.Native.Nat.{ℕ}
 use contract.Lifetimes.{Lfts}
 use denote.Triple.Clauses.{AtExit}
 use borrow.Fn.Kinds.{PK, RK, Dens, resT, endedOf, Out}
 use Rattle.state.specs.View.{view}
-use Rattle.demands.specs.Demand3.{Rules}
+use Rattle.demands.specs.Conditions.{OfPolicy}
+use Rattle.demands.specs.Demand3.{Rules, Shape, Limits}
 use Rattle.demands.specs.Reachable.{Reachable}
 use Rattle.state.proofs as state
 -- ---- written by tests/unique.py: the crates
@@ -63,7 +73,13 @@ pub data Handed : List ℕ → Type 0 where
 
 -- ---- end of what tests/unique.py writes
 
--- What such a state holds can be reached from the empty policy by the commands of the paper and by loads, and so demands 2 and 3 are about it.
+-- What such a state holds can be reached from the empty policy by the commands of the paper and by loads, and so the demands are about it. (What each
+-- call on it tells is in OwnCalls.)
 pub record Owned : Type 0 where
   pub reachable : {l : List ℕ} → Handed l → Reachable (view l)
+  -- Demand 3: the rules; that every user and role that it names exists, and its sets have the paper's shape; the paper's limits.
   pub rules : {l : List ℕ} → Handed l → Rules (view l)
+  pub shape : {l : List ℕ} → Handed l → Shape (view l)
+  pub limits : {l : List ℕ} → Handed l → Limits (view l)
+  -- Demand 2: the conditions of the refusals 6, 8, 9, 10, 11 and 12 are of it what the paper's words say.
+  pub conditions : {l : List ℕ} → Handed l → OfPolicy (view l)

@@ -1,0 +1,243 @@
+-- What the code's own calls tell. Assumes nothing.
+use mathlib.Core.Bool.{Bool, true, false, _||_}
+use mathlib.Core.List.{List, [], _∷_, _++_}
+use mathlib.Core.Logic.{_⊎_, inl, inr, _↔_}
+use mathlib.Core.Path.{_≡_, refl, sym, ap, subst, _∙_}
+use Prim.Native.Nat.{ℕ, _+_, _*_, _≤_}
+use native.Mathlib.Omega.{arith}
+use lib.Dec.{eqb, leb, ltb}
+use lib.ListN.{length, getD, take, drop}
+use lib.Seq.{take-at}
+use borrow.Author.Tests.{eqb-true, leb-false, lt-leb}
+use Rattle.roleset.specs.Bounded.{bit}
+use Rattle.roleset.specs.Roles.{has}
+use Rattle.roleset.proofs.BoundedLaws.{clash, or-clear}
+use Rattle.numbers.specs.Answers.{numberOf}
+use Rattle.numbers.specs.declared.Answer.{Answer}
+use Rattle.model.specs.Model.{Model}
+use Rattle.model.specs.Questions.{ask}
+use Rattle.model.specs.Sheet.{Told, refused}
+use Rattle.model.specs.Step as steps
+use Rattle.model.specs.declared.Command.{Command}
+use Rattle.model.specs.declared.Command.the-variants as commands
+use Rattle.model.specs.declared.Question.{Question}
+use Rattle.model.specs.declared.Question.the-variants as questions
+use Rattle.state.specs.View.{view, told}
+use Rattle.sessions.specs.Answering.{isDone, given, toldOpened, toldChecked}
+use Rattle.sessions.specs.declared.Checked as code
+use Rattle.engine.specs.Stepping.{Steps}
+use Rattle.engine.specs.declared.Stepped.{Stepped}
+use Rattle.reviews.specs.Reviewing.{Reviewed, fitted}
+use Rattle.reviews.specs.declared.Review.{Review}
+use Rattle.reviews.proofs.Promised.{asked-with-room}
+use Rattle.policyform.specs.Encode.{encode}
+use Rattle.policyform.specs.Promises.{Saves, Loads}
+use Rattle.policyfile.proofs.Laws.{saved-buffer}
+use Rattle.words.specs.ScriptWords.{wordOf}
+use Rattle.reading.specs.Form.{Written}
+use Rattle.meaning.specs.Meaning.{meant}
+use Rattle.meaning.specs.declared.Meant.{Meant}
+use Rattle.meaning.specs.declared.Meant.the-variants.{Do, Ask, Nothing}
+use Rattle.script.specs.Script.{obey, doing}
+use Rattle.transcripts.proofs.ScriptLines.{script-lines}
+use Rattle.demands.specs.Authorised.{InOrBelow, Effective}
+use Rattle.demands.specs.Demand2.{_beyond_, checkRefusals, Checked, Granted}
+use Rattle.demands.specs.Demand3.{Shape}
+use Rattle.demands.specs.Reachable.{Reachable}
+use Rattle.demands.proofs.Demand1.{demand1}
+use Rattle.demands.proofs.Demand2.{applies-none, none-applies, demand2}
+use Rattle.demands.proofs.PolicyFile.{faithful}
+use Rattle.unique.specs.Handed.{Handed}
+use Rattle.unique.specs.Unique.{State}
+use Rattle.unique.specs.OwnCalls.{Does, toldStepped, Commands, MayDo, toldReview, Questions, Means, LineTells, Answered, Lines, Files, OwnCalls}
+use Rattle.unique.proofs.Handed.{reachable, owned}
+use Rattle.unique.proofs.Unique.{states}
+
+-- ---- the commands
+
+-- what is told as the model's command tells it, on a state of the code's own, is what demand 2 says
+does : {l : List ℕ} {t : Told} → Handed l → (c : Command) (list : List ℕ) → t ≡ steps.step (view l) c list → Does (view l) c list t
+does {l} h c list e = subst (Does (view l) c list) (sym e) (demand2 .commands (view l) (reachable h) c list)
+
+stepped-tells : {t : Told} {x : Stepped} {l : List ℕ} → Steps t x l → toldStepped x l ≡ t
+unfolding toldStepped
+stepped-tells s = λ i. record { answer = s .answer i; results = s .results i; after = s .after i }
+
+of-commands : Commands
+unfolding steps.step
+of-commands =
+    record {
+      -- ---- written by tests/unique.py: the commands
+      user = λ c h. does h (commands.AddUser (c .given .1 .0)) [] (c .met);
+      role = λ c h. does h (commands.AddRole (c .given .1 .0)) [] (c .met);
+      nouser = λ c h. does h (commands.NoUser (c .given .1 .0)) [] (c .met);
+      norole = λ c h. does h (commands.NoRole (c .given .1 .0)) [] (c .met);
+      assign = λ c h. does h (commands.Assign (c .given .1 .0) (c .given .1 .1 .0)) [] (c .met);
+      deassign = λ c h. does h (commands.Deassign (c .given .1 .0) (c .given .1 .1 .0)) [] (c .met);
+      grant = λ c h. does h (commands.Grant (c .given .1 .0) (c .given .1 .1 .0) (c .given .1 .1 .1 .0)) [] (c .met);
+      revoke = λ c h. does h (commands.Revoke (c .given .1 .0) (c .given .1 .1 .0) (c .given .1 .1 .1 .0)) [] (c .met);
+      inherit = λ c h. does h (commands.Inherit (c .given .1 .0) (c .given .1 .1 .0)) [] (c .met);
+      disinherit = λ c h. does h (commands.Disinherit (c .given .1 .0) (c .given .1 .1 .0)) [] (c .met);
+      make-set = λ c h. does h (commands.MakeSet (c .given .1 .0) (c .given .1 .1 .0) (c .given .1 .1 .1 .0)) (c .given .1 .1 .1 .1 .0 .now) (c .met);
+      drop-set = λ c h. does h (commands.DropSet (c .given .1 .0) (c .given .1 .1 .0)) [] (c .met);
+      add-member = λ c h. does h (commands.AddMember (c .given .1 .0) (c .given .1 .1 .0) (c .given .1 .1 .1 .0)) [] (c .met);
+      drop-member = λ c h. does h (commands.DropMember (c .given .1 .0) (c .given .1 .1 .0) (c .given .1 .1 .1 .0)) [] (c .met);
+      set-cardinality = λ c h. does h (commands.SetCardinality (c .given .1 .0) (c .given .1 .1 .0) (c .given .1 .1 .1 .0)) [] (c .met);
+      session = λ c h. does h (commands.OpenSession (c .given .1 .0)) (c .given .1 .1 .0 .now) (c .met .tells);
+      activate = λ c h. does h (commands.Activate (c .given .1 .0) (c .given .1 .1 .0) (c .given .1 .1 .1 .0)) [] (c .met);
+      drop = λ c h. does h (commands.DropActive (c .given .1 .0) (c .given .1 .1 .0) (c .given .1 .1 .1 .0)) [] (c .met);
+      end = λ c h. does h (commands.EndSession (c .given .1 .0) (c .given .1 .1 .0)) [] (c .met);
+      -- ---- end of what tests/unique.py writes
+      step = λ c h. does h (c .given .1 .0) (c .given .1 .1 .0 .now) (stepped-tells (c .met));
+    }
+
+-- ---- the questions
+
+-- what a review hands back is what was told, where that changes nothing
+reviewed-tells : {t : Told} {m : Model} {before after : List ℕ} {x : Review} → t .after ≡ m → Reviewed t before after x → toldReview m x after ≡ t
+unfolding toldReview
+reviewed-tells {t} {m} {before} {after} {x} same r = λ i. record { answer = r .answer i; results = results i; after = sym same i }
+  where
+    results : take (x .count) after ≡ t .results
+    results = ap (take (x .count)) (r .buffer) ∙ take-at (t .results) (drop (length (t .results)) before) (x .count) (sym (r .count))
+
+-- what is told where it is to stand in a buffer leaves the same policy
+fitted-after : (room : ℕ) (t : Told) → fitted room t .after ≡ t .after
+unfolding fitted
+fitted-after room t = go (ltb room (length (t .results))) refl
+  where
+    go : (b : Bool) → ltb room (length (t .results)) ≡ b → fitted room t .after ≡ t .after
+    go true e = rw (e, fitted)
+    go false e = rw (e, fitted)
+
+-- with no place in the buffer
+no-room : (m : Model) (q : Question) {before after : List ℕ} {x : Review} → length before ≡ 0 → Reviewed (fitted (length before) (ask m (length before) q)) before after x → toldReview m x after ≡ fitted 0 (ask m 0 q)
+no-room m q z r = reviewed-tells (fitted-after 0 (ask m 0 q) ∙ demand1 .asking m 0 q) (rw z at r)
+
+-- a session with an effective role is open, and is one of the 64
+open-session : {m : Model} {s r : ℕ} → Shape m → Effective m s r → (m .sessions s .live ≡ true) × (s ≤ 63)
+open-session {m} {s} {r} shape e = go (e .through)
+  where
+    live : (a : ℕ) → has (m .sessions s .active) a ≡ true → (m .sessions s .live ≡ true) × (s ≤ 63)
+    live a h = let l = shape .actives s a h .0 in (l, shape .sessions s l)
+
+    go : InOrBelow m (m .sessions s .active) r → (m .sessions s .live ≡ true) × (s ≤ 63)
+    go (inl h) = live r h
+    go (inr (a, h, below)) = live a h
+
+-- one result that is 1 says yes
+said : (b y : Bool) → given b (bit y) ≡ 1 ∷ [] → y ≡ true
+said b true e = refl
+said true false e = absurd (let z : _≡_ {A = ℕ} 0 1 = cc in omega arith)
+said false false e = absurd (omega (arith, ap length e))
+
+-- what `check` hands back says yes exactly where access is granted
+says-yes : (m : Model) (s op obj : ℕ) (x : code.Checked) → Shape m → Checked m s op obj (toldChecked m x) → (isDone (x .answer) ≡ false → x .yes ≡ false) → (x .yes ≡ true) ↔ MayDo m s op obj
+unfolding toldChecked
+says-yes m s op obj x shape c silent = (granted (isDone (x .answer)) refl, yes)
+  where
+    granted : (b : Bool) → isDone (x .answer) ≡ b → x .yes ≡ true → MayDo m s op obj
+    granted false d y = clash (x .yes) y (silent d)
+    granted true d y =
+        let zero = eqb-true (numberOf (x .answer)) 0 d in
+        let clear = applies-none (checkRefusals m s op obj) (c .done .0 zero) .0 in
+        let ranges = or-clear (op beyond 15) (obj beyond 255) (or-clear (s beyond 63) (op beyond 15 || obj beyond 255) clear .1) in
+        record { operation = omega (arith, leb-false 16 op (ranges .0)); object = omega (arith, leb-false 256 obj (ranges .1)); granted = c .exactly zero .0 (rw (d, y)) }
+
+    yes : MayDo m s op obj → x .yes ≡ true
+    yes may =
+        let there = open-session shape (may .granted .effective) in
+        let within : (s beyond 63 || (op beyond 15 || obj beyond 255)) ≡ false = rw (lt-leb 64 s (omega (arith, there .1)), lt-leb 16 op (omega arith), lt-leb 256 obj (omega arith)) in
+        let zero = c .done .1 (none-applies (checkRefusals m s op obj) (within, (rw (there .0), tt))) in
+        said (isDone (x .answer)) (x .yes) (c .exactly zero .1 (may .granted))
+
+of-questions : Questions
+unfolding ask
+of-questions =
+    record {
+      check = λ c h. subst (Checked _ _ _ _) (sym (c .met .tells)) (demand2 .access _ (reachable h) _ _ _);
+      yes = λ c h. says-yes _ _ _ _ (c .result) (owned .shape h) (subst (Checked _ _ _ _) (sym (c .met .tells)) (demand2 .access _ (reachable h) _ _ _)) (c .met .silent);
+      ask = λ c h. reviewed-tells (demand1 .asking _ _ (c .given .1 .0)) (rw (asked-with-room _ _ (c .given .1 .0) h) at (c .met));
+      no-place = λ c z. no-room (view (c .given .0 .now)) (c .given .1 .0) z (c .met);
+      -- ---- written by tests/unique.py: the reviews
+      assigned-users = λ c. reviewed-tells (demand1 .asking _ _ (questions.AssignedUsers (c .given .1 .0))) (c .met);
+      assigned-roles = λ c. reviewed-tells (demand1 .asking _ _ (questions.AssignedRoles (c .given .1 .0))) (c .met);
+      auth-users = λ c. reviewed-tells (demand1 .asking _ _ (questions.AuthUsers (c .given .1 .0))) (c .met);
+      auth-roles = λ c. reviewed-tells (demand1 .asking _ _ (questions.AuthRoles (c .given .1 .0))) (c .met);
+      role-perms = λ c. reviewed-tells (demand1 .asking _ _ (questions.RolePerms (c .given .1 .0))) (c .met);
+      user-perms = λ c. reviewed-tells (demand1 .asking _ _ (questions.UserPerms (c .given .1 .0))) (c .met);
+      session-roles = λ c. reviewed-tells (demand1 .asking _ _ (questions.SessionRoles (c .given .1 .0))) (c .met);
+      session-perms = λ c. reviewed-tells (demand1 .asking _ _ (questions.SessionPerms (c .given .1 .0))) (c .met);
+      role-ops = λ c. reviewed-tells (demand1 .asking _ _ (questions.RoleOps (c .given .1 .0) (c .given .1 .1 .0))) (c .met);
+      user-ops = λ c. reviewed-tells (demand1 .asking _ _ (questions.UserOps (c .given .1 .0) (c .given .1 .1 .0))) (c .met);
+      set-names = λ c. reviewed-tells (demand1 .asking _ _ (questions.Sets (c .given .1 .0))) (c .met);
+      set-roles = λ c. reviewed-tells (demand1 .asking _ _ (questions.SetRoles (c .given .1 .0) (c .given .1 .1 .0))) (c .met);
+      set-count = λ c. reviewed-tells (demand1 .asking _ _ (questions.SetCount (c .given .1 .0) (c .given .1 .1 .0))) (c .met);
+      -- ---- end of what tests/unique.py writes
+    }
+
+-- ---- lines of a script
+
+means : {m : Model} → Reachable m → (x : Meant) (list : List ℕ) → Means m x list (doing m x list)
+means {m} r (Do c) list = demand2 .commands m r c list
+means {m} r (Ask q) list = refl
+means {m} r Nothing list = refl
+
+line-tells : {m : Model} → Reachable m → (text : List ℕ) → LineTells m text (obey m text)
+line-tells {m} r text = record { formed = formed; not-formed = script-lines .not-formed m text }
+  where
+    formed : (k : ℕ) (ns : List ℕ) → Written text k ns → Means m (meant k (getD ns 0 0) (getD ns 1 0) (getD ns 2 0)) (drop (wordOf k .numbers) ns) (obey m text)
+    formed k ns w =
+        let word = meant k (getD ns 0 0) (getD ns 1 0) (getD ns 2 0) in
+        let list = drop (wordOf k .numbers) ns in
+        subst (Means m word list) (sym (script-lines .formed m text k ns w)) (means r word list)
+
+of-lines : Lines
+of-lines =
+    record {
+      answer-line = λ c h. (record { line = _; tells = line-tells (reachable h) _; puts = c .met .puts .text; state = c .met .state }, c .met .puts .ok);
+      turn = λ c h. (record { line = _; tells = line-tells (reachable h) _; puts = c .met .text; state = c .met .state }, c .met .tally, c .met .place);
+    }
+
+-- ---- the policy file
+
+-- what a save that is done wrote is the file
+saved-file : {m : Model} {out after : List ℕ} {answer n : ℕ} → answer ≡ 0 → Saves m out after answer n → take n after ≡ encode m
+saved-file z (inl x) = absurd (omega (arith, x .answered))
+saved-file {m} {out} {after} {answer} {n} z (inr x) = ap (take n) (saved-buffer m out after answer n x) ∙ take-at (encode m) (drop n out) n (sym (x .long))
+
+-- and with room for the file it is done
+saved-done : {m : Model} {out after : List ℕ} {a n : ℕ} → Saves m out after a n → length (encode m) ≤ length out → (a ≡ 0) × (n ≡ length (encode m))
+saved-done (inl x) h = absurd (omega (arith, x .short))
+saved-done (inr x) h = (x .answered, x .long)
+
+loaded-itself : {saved out after bytes left : List ℕ} {answer n : ℕ} (before : List ℕ) (a : Answer) → Handed saved → State saved → State left → answer ≡ 0 → Saves (view saved) out after answer n → bytes ≡ take n after → Loads (view before) bytes (told a left) → (numberOf a ≡ 0) × (left ≡ saved)
+unfolding told
+loaded-itself {saved} {left = left} before a h ss sl z s e l =
+    let t = faithful .itself (view saved) (view before) (told a left) (reachable h) (subst (λ (b : List ℕ). Loads (view before) b (told a left)) (e ∙ saved-file z s) l) in
+    (ap (λ (x : Told). x .answer) t, states sl ss (ap (λ (x : Told). x .after) t) refl)
+
+saved-again : {before : Model} {bytes out after : List ℕ} {answer n : ℕ} (saved left : List ℕ) (a : Answer) → Loads before bytes (told a left) → Saves (view saved) out after answer n → numberOf a ≡ 0 → saved ≡ left → length bytes ≤ length out → (answer ≡ 0) × (n ≡ length bytes) × (take n after ≡ bytes)
+unfolding told
+saved-again {before} {bytes} {out} {after} {answer} {n} saved left a l s z e room =
+    let file = ap (λ (x : List ℕ). encode (view x)) e ∙ faithful .again before bytes (told a left) l z in
+    let done = saved-done s (omega (arith, ap length file)) in
+    (done .0, done .1 ∙ ap length file, saved-file (done .0) s ∙ file)
+
+of-files : Files
+of-files =
+    record {
+      room = λ s h r. faithful .room _ _ _ _ _ (reachable h) r (s .met);
+      itself = λ s l h ss sl z e. loaded-itself _ (l .result) h ss sl z (s .met) e (l .met);
+      again = λ l s z e r. saved-again _ _ (l .result) (l .met) (s .met) z e r;
+    }
+
+pub own-calls : OwnCalls
+own-calls =
+    record {
+      commands = of-commands;
+      unchanged = λ before after sb sa c list told e d h. states sa sb (sym e ∙ d .unchanged h) refl;
+      questions = of-questions;
+      lines = of-lines;
+      files = of-files;
+    }
