@@ -6,6 +6,7 @@ ghost use Rattle.roleset.specs.Roles.{union};
 ghost use Rattle.hierarchy.specs.Lines.{tableOf};
 ghost use Rattle.hierarchy.specs.Walks.{juniorsOf, walk, reach, turned, atOrAbove, circular};
 ghost use Rattle.hierarchy.specs.Marks.{Marked};
+use numbers::Role;
 
 // What a walk met: the roles, and whether it was cut off at a chain of more roles than were allowed.
 pub struct Walk {
@@ -89,10 +90,10 @@ pub fn turned(juniors: &[u64; 64]) -> [u64; 64]
 }
 
 // The role r and all that inherit it; no role where r is beyond 63.
-pub fn at_or_above(juniors: &[u64; 64], r: u16) -> Walk
-    ensures { λ w. ⌜ w ≡ atOrAbove (tableOf (now (juniors .entry))) r ⌝ }
+pub fn at_or_above(juniors: &[u64; 64], r: Role) -> Walk
+    ensures { λ w. ⌜ w ≡ atOrAbove (tableOf (now (juniors .entry))) (r .number) ⌝ }
 {
     let above = turned(juniors);
-    let from = roleset::with(0, r);
+    let from = roleset::with(0, r.number);
     reach(&above, from)
 }

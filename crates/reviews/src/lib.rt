@@ -66,7 +66,7 @@ pub fn auth_users(state: &[u64; PLACES], r: Role, out: &mut [u16]) -> Review
     ensures { λ x. ⌜ Asked (view (now (state .entry))) (AuthUsers r) (now (out .entry)) (now (out .exit)) x ⌝ }
 {
     let juniors = juniors_table(state);
-    let above = hierarchy::at_or_above(&juniors, r.number);
+    let above = hierarchy::at_or_above(&juniors, r);
     listing::review(
         numbers::role_beyond(r),
         !has_role(state, r),

@@ -1,4 +1,5 @@
 // A set of roles 0 to 63 in one `u64`: role r is a member where bit r is 1. A number beyond 63 is a member of no set, and adding or removing it changes nothing.
+// Its members are bare numbers, and not `numbers::Role`: it is a set of bits, which the state uses for the users too (64 of them to a number) and the policy file for permissions. What kind of number a member is, the functions above say, by their structs and their promises.
 ghost use mathlib.Core.Bool.{Bool, true, false, _&&_, _||_, not};
 ghost use mathlib.Core.Path.{_≡_};
 ghost use Prim.Native.Nat.{ℕ, _<_, _≤_};

@@ -79,17 +79,16 @@ pub fn session(state: &mut [u64; PLACES], u: User, list: &[u16]) -> Opened
         return not_opened(Answer::BreaksDynamic);
     }
     let free = sweeps::lowest_free(state);
-    if 64 <= free {
+    if numbers::session_beyond(free) {
         return not_opened(Answer::TableFull);
     }
     if walk.cut {
         return not_opened(Answer::ChainTooLong);
     }
-    let opened = Session { number: free };
-    open_session(state, opened, u, asked.roles);
+    open_session(state, free, u, asked.roles);
     Opened {
         answer: Answer::Done,
-        session: opened,
+        session: free,
     }
 }
 

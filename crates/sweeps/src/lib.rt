@@ -11,6 +11,7 @@ use hierarchy::Walk;
 use model::Kind;
 use model::RoleSet;
 use model::SessionRecord;
+use numbers::Role;
 use numbers::Session;
 use numbers::User;
 use separation::breaks;
@@ -174,32 +175,33 @@ pub fn end_all(state: &mut [u64; PLACES], u: User)
     }
 }
 
-// The lowest number that no live session has; 64 where there is none.
-pub fn lowest_free(state: &[u64; PLACES]) -> u16
-    ensures { λ n. ⌜ n ≡ lowestFree (view (now (state .entry))) ⌝ }
+// The session with the lowest number that no live one has; session 64, which is beyond its range, where there is none.
+pub fn lowest_free(state: &[u64; PLACES]) -> Session
+    ensures { λ x. ⌜ x ≡ record { number = lowestFree (view (now (state .entry))) } ⌝ }
 {
     let mut k: u16 = 0;
     while k < 64 {
-        let session = session_at(state, Session { number: k });
+        let x = Session { number: k };
+        let session = session_at(state, x);
         if !session.live {
-            return k;
+            return x;
         }
         k += 1;
     }
-    64
+    Session { number: 64 }
 }
 
 // The role is taken out of every set of a table, and how many had it.
-pub fn strip(table: &mut [u64], r: u16) -> u64
-    ensures { λ n. ⌜ Strips (now (table .entry)) (now (table .exit)) r n ⌝ }
+pub fn strip(table: &mut [u64], r: Role) -> u64
+    ensures { λ n. ⌜ Strips (now (table .entry)) (now (table .exit)) (r .number) n ⌝ }
 {
     let mut n: u64 = 0;
     let mut k: usize = 0;
     while k < table.len() {
-        if roleset::has(table[k], r) {
+        if roleset::has(table[k], r.number) {
             n += 1;
         }
-        table[k] = roleset::without(table[k], r);
+        table[k] = roleset::without(table[k], r.number);
         k += 1;
     }
     n

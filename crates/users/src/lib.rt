@@ -154,11 +154,11 @@ pub fn norole(state: &mut [u64; PLACES], r: Role) -> Answer
     }
     let at = r.number as usize;
     let mut juniors = juniors_table(state);
-    let above = sweeps::strip(&mut juniors, r.number);
+    let above = sweeps::strip(&mut juniors, r);
     let below = roleset::count(juniors[at]) as u64;
     juniors[at] = 0;
     let mut assigned = assigned_table(state);
-    let held = sweeps::strip(&mut assigned, r.number);
+    let held = sweeps::strip(&mut assigned, r);
     let kept = sweeps::shed(&juniors, &assigned, state);
     if kept.cut {
         return Answer::ChainTooLong;

@@ -12,7 +12,7 @@ returns : tie.Need-returns
 unfolding atOrAbove
 returns c =
     let start = c .before .before .before .before in
-    c .reach .ensures ∙ rw (c .before .before .with .ensures .is) (reach-ext (tableOf (c .before .before .before .turned .result)) (turned (tableOf (start .args .juniors .now))) (with none (start .args .r)) (c .before .before .before .turned .ensures))
+    c .reach .ensures ∙ rw (c .before .before .with .ensures .is) (reach-ext (tableOf (c .before .before .before .turned .result)) (turned (tableOf (start .args .juniors .now))) (with none (start .args .r .number)) (c .before .before .before .turned .ensures))
 
 pub at-or-above-spec : {M : Type 1} → statement M
 at-or-above-spec = tie.close (tie.spec (λ c κs. search needs) (λ c κs. search needs) (λ c κs. search needs) returns)

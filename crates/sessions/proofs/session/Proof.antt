@@ -1,6 +1,6 @@
 -- Each test of `session` is a refusal of the sheet, in its order; past all seven, the lowest free session is open for the user. Assumes nothing.
 use borrow.Author.Needs.{needs}
-use borrow.Author.Tests.{le-leb, lt-leb}
+use borrow.Author.Tests.{leb-false}
 use mathlib.Core.Bool.{Bool, true, false, not, _||_}
 use mathlib.Core.List.{List, [], _∷_}
 use mathlib.Core.Path.{_≡_, refl, sym, ap, ap₂, _∙_}
@@ -11,6 +11,7 @@ use Rattle.roleset.proofs.BoundedLaws.{clash}
 use Rattle.hierarchy.specs.Walks.{reach}
 use Rattle.hierarchy.specs.declared.Walk.{Walk}
 use Rattle.numbers.specs.Ranges.{sessions}
+use Rattle.numbers.specs.declared.Session.{Session}
 use Rattle.model.specs.Model.{Model}
 use Rattle.model.specs.Sheet.{verdict, settle, done}
 use Rattle.model.specs.Words.{reached, authorised, breaksSome, dynamicBroken, sessionsOpen}
@@ -81,7 +82,7 @@ abbrev to-4 : tie.Else5 → tie.Else4
 to-4 c = c .before .before .before
 
 abbrev to-5 : tie.Else6 → tie.Else5
-to-5 c = c .before .before .before
+to-5 c = c .before .before .before .before
 
 abbrev to-6 : tie.Else7 → tie.Else6
 to-6 c = c .before
@@ -129,12 +130,12 @@ found-5 c =
 clear-5 : (c : tie.Else5) → breaking (to-start (to-1 (to-2 (to-3 (to-4 c))))) ≡ false
 clear-5 c = found-5 (c .before) ∙ c .if5 .left
 
-found-6 : (c : tie.After-lowest-free) → full (to-start (to-1 (to-2 (to-3 (to-4 (c .before .before)))))) ≡ leb 64 (c .lowest-free .result)
+found-6 : (c : tie.After-session-beyond) → full (to-start (to-1 (to-2 (to-3 (to-4 (c .before .before .before)))))) ≡ c .session-beyond .result
 unfolding sessionsOpen
-found-6 c = full-free (m (to-start (to-1 (to-2 (to-3 (to-4 (c .before .before)))))) .sessions) ∙ ap (leb 64) (sym (c .lowest-free .ensures))
+found-6 c = full-free (m (to-start (to-1 (to-2 (to-3 (to-4 (c .before .before .before)))))) .sessions) ∙ ap (λ (x : Session). leb 64 (x .number)) (sym (c .before .lowest-free .ensures)) ∙ sym (c .session-beyond .ensures)
 
 clear-6 : (c : tie.Else6) → full (to-start (to-1 (to-2 (to-3 (to-4 (to-5 c)))))) ≡ false
-clear-6 c = found-6 (c .before) ∙ lt-leb 64 (c .before .lowest-free .result) (c .if6 .left)
+clear-6 c = found-6 (c .before) ∙ c .if6 .left
 
 cut : (c : tie.Else6) → tooLong (to-start (to-1 (to-2 (to-3 (to-4 (to-5 c)))))) ≡ to-reach (to-4 (to-5 c)) .reach .result .cut
 cut c = ap (λ (w : Walk). w .cut) (walked (to-reach (to-4 (to-5 c))))
@@ -175,11 +176,11 @@ returns-5 c =
 returns-6 : tie.Need-returns-6
 unfolding toldOpened session settle verdict
 returns-6 c =
-    let c5 = c .before .before .before .before in
+    let c5 = c .before .before .before .before .before in
     let c4 = to-4 c5 in
     let c3 = to-3 c4 in
     let c2 = to-2 c3 in
-    rw (c .not-opened6 .ensures) (record { tells = rw (clear-1 (to-1 c2), clear-2 c2, clear-3 c3, clear-4 c4, clear-5 c5, found-6 (c .before .before) ∙ le-leb 64 (c .before .before .lowest-free .result) (c .before .if6 .taken)); silent = λ h. refl })
+    rw (c .not-opened6 .ensures) (record { tells = rw (clear-1 (to-1 c2), clear-2 c2, clear-3 c3, clear-4 c4, clear-5 c5, found-6 (c .before .before) ∙ c .before .if6 .taken); silent = λ h. refl })
 
 returns-7 : tie.Need-returns-7
 unfolding toldOpened session settle verdict
@@ -202,10 +203,12 @@ returns-8 c =
     let c2 = to-2 c3 in
     let c1 = to-1 c2 in
     let s = to-start c1 in
-    let free = c6 .before .lowest-free in
+    let free = c6 .before .before .lowest-free in
+    let number : free .result .number ≡ lowestFree (m s) = ap (λ (x : Session). x .number) (free .ensures) in
+    let within = leb-false 64 (free .result .number) (sym (c6 .before .session-beyond .ensures) ∙ c6 .if6 .left) in
     record {
       tells = rw (clear-1 c1, clear-2 c2, clear-3 c3, clear-4 c4, clear-5 c5, clear-6 c6, cut c6 ∙ c7 .if7 .left)
-          (stored (m s) _ (user s) (free .result) _ _ _ (c .open-session .ensures) (c6 .if6 .left) (free .ensures) (asked c1));
+          (stored (m s) _ (user s) (free .result .number) _ _ _ (c .open-session .ensures) within number (asked c1));
       silent = λ h. clash true refl h;
     }
 
@@ -234,6 +237,7 @@ session-spec =
     (λ c κs. search needs)
     (λ c κs. search needs)
     returns-5
+    (λ c κs. search needs)
     (λ c κs. search needs)
     (λ c κs. search needs)
     returns-6

@@ -4,6 +4,7 @@ use mathlib.Core.Path.{_≡_, refl, sym, ap, _∙_}
 use Prim.Native.Nat.{ℕ, _≤_, _-_}
 use native.Mathlib.Omega.{arith}
 use borrow.Author.Tests.{not-true, not-false}
+use Rattle.numbers.specs.declared.Session as numbered
 use Rattle.model.specs.Model.{Session}
 use Rattle.model.specs.commands.Sessions.{freeFrom}
 use Rattle.state.specs.View.{view}
@@ -28,10 +29,14 @@ sessions c = view (c .before .args .state .now) .sessions
 found : (c : tie.After-session-at Inv-loop μ-loop) → sessions (c .before .before) (c .before .before .loop .k) .live ≡ c .session-at .result .live
 found c = ap (λ (s : Session). s .live) (sym (c .session-at .ensures))
 
+-- the session with a number
+abbrev session : ℕ → numbered.Session
+session n = record { number = n }
+
 returns : tie.Need-returns Inv-loop μ-loop
 returns c =
     let at = c .before .before .before .before in
-    sym (look-found (sessions at) (at .loop .k) (omega arith) (found (c .before .before) ∙ not-true _ (c .if1 .taken))) ∙ at .loop .inv .1
+    ap session (sym (look-found (sessions at) (at .loop .k) (omega arith) (found (c .before .before) ∙ not-true _ (c .if1 .taken))) ∙ at .loop .inv .1)
 
 loop-again : tie.Need-loop-again Inv-loop μ-loop
 loop-again c =
@@ -42,7 +47,7 @@ returns-2 : tie.Need-returns-2 Inv-loop μ-loop
 returns-2 c =
     let at = c .before in
     let whole : at .loop .k ≡ 64 = omega arith in
-    sym (look-end (sessions at) (at .loop .k) whole) ∙ at .loop .inv .1
+    ap session (sym (look-end (sessions at) (at .loop .k) whole) ∙ at .loop .inv .1)
 
 pub lowest-free-spec : {M : Type 1} → statement M
 lowest-free-spec = tie.close (tie.spec Inv-loop μ-loop loop-holds (λ c κs. search needs) returns (λ c. search needs) (λ c. search needs) loop-again returns-2)

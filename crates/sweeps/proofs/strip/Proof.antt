@@ -17,7 +17,7 @@ use Rattle.sweeps.proofs.strip.Statement.{statement}
 use Rattle.sweeps.proofs.strip.Tie as tie
 
 abbrev Inv-loop : tie.InvT-loop
-Inv-loop table₀ r n₀ k₀ table n k = (k ≤ length table₀) × Swept (tableOf table₀) (λ j. without (tableOf table₀ j) r) (length table₀) k table × (n ≡ tally k (λ j. has (tableOf table₀ j) r))
+Inv-loop table₀ r n₀ k₀ table n k = (k ≤ length table₀) × Swept (tableOf table₀) (λ j. without (tableOf table₀ j) (r .number)) (length table₀) k table × (n ≡ tally k (λ j. has (tableOf table₀ j) (r .number)))
 
 abbrev μ-loop : tie.MeasureT-loop
 μ-loop table₀ r n₀ k₀ table n k = length table₀ - k
@@ -29,14 +29,14 @@ loop-holds c = (omega arith, swept-start _ _ _ _ refl (λ k. refl), refl)
 add-n : tie.Need-add-n Inv-loop μ-loop
 add-n c =
     let at = c .before .before .before .before in
-    omega (arith, at .loop .inv .2, tally-le (at .loop .k) (λ j. has (tableOf (at .before .before .args .table .now) j) (at .before .before .args .r)))
+    omega (arith, at .loop .inv .2, tally-le (at .loop .k) (λ j. has (tableOf (at .before .before .args .table .now) j) (at .before .before .args .r .number)))
 
 loop-again : tie.Need-loop-again Inv-loop μ-loop
 loop-again c =
     let joined = c .before .before in
     let at = joined .before .before .before .before in
     let first = at .before .before .args .table .now in
-    let r = at .before .before .args .r in
+    let r = at .before .before .args .r .number in
     let k = at .loop .k in
     let l : k < length first = omega (arith, at .loop .inv .1 .long) in
     let here : tableOf (at .loop .table) k ≡ tableOf first k = at .loop .inv .1 .left k (omega arith) in
@@ -57,7 +57,7 @@ returns : tie.Need-returns Inv-loop μ-loop
 returns c =
     let at = c .before in
     let first = at .before .before .args .table .now in
-    let r = at .before .before .args .r in
+    let r = at .before .before .args .r .number in
     let s = at .loop .inv .1 in
     let whole : at .loop .k ≡ length first = omega (arith, s .long) in
     record {
