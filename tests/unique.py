@@ -398,7 +398,7 @@ def reviews_of(every):
 
 
 # The functions that are lent a buffer of bytes and have a line of `Buffers` that is written by hand.
-BUFFER_BY_HAND = {"policyfile.save", "script.answer_line", "script.turn"}
+BUFFER_BY_HAND = {"policyfile.save", "script.answer_line", "script.turn", "program.next"}
 
 
 def putters_of(every):

@@ -209,6 +209,7 @@ buffers =
       save = λ c. saved (c .met);
       answer-line = λ c. texted (c .met .puts .text);
       turn = λ c. texted (c .met .text);
+      next = λ c. texted (c .met .puts .text);
       -- ---- written by tests/unique.py: what puts a text
       put = λ c. put-around (c .met);
       put-text = λ c. put-around (c .met);

@@ -9,6 +9,7 @@ use Rattle.numbers.specs.Answers.{numberOf}
 use Rattle.state.specs.View.{view}
 use Rattle.textlines.specs.Parts.{partAt}
 use Rattle.script.specs.Script.{answerText, obey, lineFeed}
+use Rattle.program.specs.Printing.{stageOf, piece}
 use Rattle.unique.specs.Handed.{Call}
 -- ---- written by tests/unique.py: the crates
 use Rattle.reviews.proofs as reviews
@@ -18,6 +19,7 @@ use Rattle.policyfile.proofs as policyfile
 use Rattle.decimal.proofs as decimal
 use Rattle.words.proofs as words
 use Rattle.script.proofs as script
+use Rattle.program.proofs as program
 
 -- ---- end of what tests/unique.py writes
 
@@ -73,6 +75,9 @@ pub record Buffers : Type 0 where
   -- So does the line at a place of a script.
   pub turn : (c : Call script.turn.Kinds.ps script.turn.Kinds.r script.turn.Reads.Post)
       → let t = obey (view (c .given .1 .0 .now)) (partAt lineFeed (c .given .0 .now) (c .given .1 .1 .0 .at)) in Texted (answerText (t .answer) (t .results)) (c .result .len) (c .given .1 .1 .1 .0 .now) (c .exits .1 .1 .1 .0 .now)
+  -- A call of the program puts what is printed next.
+  pub next : (c : Call program.next.Kinds.ps program.next.Kinds.r program.next.Reads.Post)
+      → Texted (piece (stageOf (c .given .0 .now) (c .given .1 .1 .0)) (c .given .0 .now) (c .given .1 .0 .now) (c .given .1 .1 .0 .progress) .text) (c .result .len) (c .given .1 .1 .1 .0 .now) (c .exits .1 .1 .1 .0 .now)
   -- Every other function that puts bytes into a lent buffer: from the place that it is given on, or from the front, up to the place that it hands back.
   -- ---- written by tests/unique.py: what puts a text
   pub put : (c : Call text.put.Kinds.ps text.put.Kinds.r text.put.Reads.Post) → Around (c .given .1 .0) (c .result) (c .given .0 .now) (c .exits .0 .now)
