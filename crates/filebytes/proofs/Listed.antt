@@ -119,9 +119,9 @@ module _ (m : Model) (f : Formed m) where
       record {
         users = good-numbers 256 (λ u. u < 256) 256 (m .users) (members-most 256 (m .users)) (λ k l e. l);
         roles = good-numbers 64 (λ r. r < 64) 64 (has (m .roles)) (members-most 64 (has (m .roles))) (λ k l e. l);
-        lines = good-members 512 _ pairBefore pairOf 4096 (pairIn (m .juniors)) (few-lines m (f .limits)) (λ k l e. (a-role (k / 64) (f .seniors (k / 64) (k % 64) e), a-role (k % 64) (f .juniors (k / 64) .exist (k % 64) e))) pair-up;
-        assignments = good-members 2048 _ pairBefore pairOf 16384 (pairIn (m .assigned)) (few-assigned m (f .limits)) (λ k l e. (a-user (k / 64) (f .assignees (k / 64) (k % 64) e), a-role (k % 64) (f .assigned (k / 64) .exist (k % 64) e))) pair-up;
-        grants = good-members 2048 _ grantBefore grantOf 262144 (grantIn (m .holders)) (few-grants m (f .limits)) (λ k l e. (a-role (k / 4096) (f .holders (k % 4096) .exist (k / 4096) e), omega arith, omega arith)) grant-up;
+        lines = good-members _ _ pairBefore pairOf 4096 (pairIn (m .juniors)) (omega (arith, few-lines m (f .limits))) (λ k l e. (a-role (k / 64) (f .seniors (k / 64) (k % 64) e), a-role (k % 64) (f .juniors (k / 64) .exist (k % 64) e))) pair-up;
+        assignments = good-members _ _ pairBefore pairOf 16384 (pairIn (m .assigned)) (omega (arith, few-assigned m (f .limits))) (λ k l e. (a-user (k / 64) (f .assignees (k / 64) (k % 64) e), a-role (k % 64) (f .assigned (k / 64) .exist (k % 64) e))) pair-up;
+        grants = good-members _ _ grantBefore grantOf 262144 (grantIn (m .holders)) (omega (arith, few-grants m (f .limits))) (λ k l e. (a-role (k / 4096) (f .holders (k % 4096) .exist (k / 4096) e), omega arith, omega arith)) grant-up;
         ssd = sets-form (m .ssd) (f .ssd);
         dsd = sets-form (m .dsd) (f .dsd);
         sessions = good-members 64 (FineSession (sectionsOf m)) (λ a b. a .number < b .number) (sessionEntryOf (m .sessions)) 64 (λ s. m .sessions s .live) (members-most 64 (λ s. m .sessions s .live)) (λ s l e. record { number = l; owner = a-user (m .sessions s .owner) (f .sessions s .owned e); active = role-list (m .sessions s .active) (f .sessions s .active) }) (λ k j l. l);
