@@ -15,6 +15,8 @@ use Rattle.filebytes.proofs.Lists.{every-elim}
 use Rattle.filebytes.proofs.OneWay.{file-one-way}
 use Rattle.filebytes.proofs.Listed.{sectionsOf, sections-bytes, sections-form, sections-say, form-sixteen}
 use Rattle.filebytes.proofs.Same.{sections-same}
+use Rattle.filebytes.proofs.AnyBytes.{any-bytes}
+use Rattle.filebytes.proofs.Faultless.{faultless-form}
 use Rattle.filebytes.proofs.Built.{modelOf, built-says, built-formed}
 
 file-form : (m : Model) (bytes : List ℕ) → FileOf m bytes → AsThePaperSays bytes
@@ -106,4 +108,4 @@ module _ (f : Sections) (x : OfTheForm f) where
 
 -- what a file is and says, and what is no file
 pub paper-form : FileForm
-paper-form = record { file-form = file-form; form-file = form-file; file-says = file-says; says-file = says-file; obeys = obeys; faults = λ f six h m x. fault-free f (obeys m f six x) h; early-end = early-end; left-over = left-over; no-front = no-front }
+paper-form = record { file-form = file-form; form-file = form-file; file-says = file-says; says-file = says-file; obeys = obeys; faults = λ f six h m x. fault-free f (obeys m f six x) h; early-end = early-end; left-over = left-over; faultless = λ f six none. form-file (bytesOf f) (record { sections = f; form = faultless-form f six none; written = refl }); any-bytes = any-bytes; no-front = no-front }
