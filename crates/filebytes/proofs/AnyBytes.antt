@@ -1,11 +1,11 @@
 -- Any bytes are sections written in full, or a front of such, or such with bytes left over: they are read number by number, and where they end
 -- early the rest is filled up. Assumes nothing.
 use mathlib.Core.List.{List, [], _∷_, _++_, append-assoc, append-nil}
-use mathlib.Core.Path.{_≡_, refl, sym, ap, ap₂, subst, _∙_}
+use mathlib.Core.Path.{_≡_, refl, sym, ap, ap₂, _∙_}
 use Prim.Native.Nat.{ℕ, zero, suc, _+_, _*_, _/_, _%_, _<_}
 use native.Mathlib.Omega.{arith}
 use lib.ListN.{length}
-use Rattle.filebytes.specs.Sections.{SetEntry, SessionEntry, Sections, number, entries, listing, pair, grant, set, session, bytesOf, Every, Writable, Fits, Sixteen}
+use Rattle.filebytes.specs.Sections.{SetEntry, SessionEntry, number, entries, listing, pair, grant, set, session, bytesOf, Every, Writable, Fits, Sixteen}
 use Rattle.filebytes.specs.FileForm.{AnyBytes, in-full, cut-short, left-over}
 
 abbrev Bytes : List ℕ → Type 0

@@ -1,10 +1,9 @@
 -- Sections of the form are the file of a policy: the one that holds what they list. Assumes nothing.
 use mathlib.Core.Bool.{Bool, true, false, _&&_}
-use mathlib.Core.List.{List, [], _∷_, _++_, map, List·Memᴰ, List·Memᴰ·head, List·Memᴰ·tail, List·Memᴰ·not-nil, Memᴰ·cast}
+use mathlib.Core.List.{List, [], _∷_, List·Memᴰ, List·Memᴰ·head, List·Memᴰ·tail, Memᴰ·cast}
 use mathlib.Core.Logic.{_⊎_, inl, inr, _↔_}
-use mathlib.Core.Path.{_≡_, refl, sym, ap, ap₂, subst, _∙_}
-use Prim.Native.Nat.{ℕ, _+_, _*_, _/_, _%_, _≤_, _<_, _^_}
-use native.Mathlib.Decide.{decLt}
+use mathlib.Core.Path.{_≡_, refl, sym, ap, subst, _∙_}
+use Prim.Native.Nat.{ℕ, _+_, _*_, _/_, _%_, _<_}
 use native.Mathlib.Omega.{arith}
 use lib.Dec.{eqb}
 use lib.ListN.{length, length-map}
@@ -19,7 +18,7 @@ use Rattle.model.specs.Words.{assignments, grants, linesStanding}
 use Rattle.policyform.specs.Encode.{pairIn, grantIn}
 use Rattle.policyform.specs.Form.{SetForm, Formed}
 use Rattle.policyform.proofs.Counts.{pairs-count, grants-count}
-use Rattle.filebytes.specs.Sections.{SetEntry, SessionEntry, Sections, Every, Ascending, Good, Listed, pairBefore, grantBefore, RoleList, FineSet, FineSession, OfTheForm}
+use Rattle.filebytes.specs.Sections.{SetEntry, SessionEntry, Sections, Ascending, Good, Listed, RoleList, FineSet, FineSession, OfTheForm}
 use Rattle.filebytes.specs.Meaning.{SetAs, SessionAs, SetNamed, SessionNumbered, Says}
 use Rattle.filebytes.proofs.Lists.{every-elim, any, any-in, in-any}
 use Rattle.filebytes.proofs.Listed.{pairOf, grantOf}

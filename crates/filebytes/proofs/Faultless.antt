@@ -2,16 +2,16 @@
 use mathlib.Core.Bool.{Bool, true, false}
 use mathlib.Core.List.{List, [], _∷_, _++_, List·Memᴰ, Memᴰ·cast}
 use mathlib.Core.Logic.{_⊎_, inl, inr}
-use mathlib.Core.Path.{_≡_, refl, sym, ap, _∙_}
-use Prim.Native.Nat.{ℕ, _+_, _≤_, _<_}
+use mathlib.Core.Path.{_≡_, refl, ap, _∙_}
+use Prim.Native.Nat.{ℕ, _+_, _<_}
 use native.Mathlib.Decide.{decLt, ℕ-discrete}
 use native.Mathlib.Omega.{arith}
 use lib.Dec.{eqb}
 use lib.ListN.{length}
 use borrow.Author.Tests.{eqb-true, eq-eqb}
 use Rattle.roleset.proofs.BoundedLaws.{clash}
-use Rattle.filebytes.specs.Sections.{SetEntry, SessionEntry, Sections, Every, Ascending, Good, Listed, pairBefore, grantBefore, RoleList, FineSet, FineSession, OfTheForm, Sixteen}
-use Rattle.filebytes.specs.Faults.{Disordered, ListFault, SetFault, SessionFault, Fault, too-long, not-ascending, not-listed, name-beyond, in-members, number-beyond, owner-unlisted, in-active}
+use Rattle.filebytes.specs.Sections.{SetEntry, Sections, Ascending, Good, Listed, pairBefore, grantBefore, RoleList, FineSet, FineSession, OfTheForm, Sixteen}
+use Rattle.filebytes.specs.Faults.{Disordered, ListFault, SetFault, Fault, too-long, not-ascending, not-listed, name-beyond, in-members, number-beyond, owner-unlisted, in-active}
 use Rattle.filebytes.specs.Faults as faults
 use Rattle.filebytes.proofs.Lists.{every-intro, every-elim, every-weaker, any, any-in, in-any}
 

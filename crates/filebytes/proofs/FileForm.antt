@@ -1,13 +1,12 @@
 -- The form of the policy file is the paper's. Assumes nothing.
-use mathlib.Core.List.{List, [], _∷_, _++_, append-nil, List·Memᴰ}
+use mathlib.Core.List.{List, [], _∷_, _++_, append-nil}
 use mathlib.Core.Path.{_≡_, refl, sym, ap, subst, _∙_}
 use Prim.Native.Nat.{ℕ, _<_}
 use native.Mathlib.Omega.{arith}
 use Rattle.model.specs.Model.{Model}
-use Rattle.policyform.specs.Encode.{encode}
 use Rattle.policyform.specs.Form.{Formed, FileOf}
-use Rattle.filebytes.specs.Sections.{SetEntry, Sections, bytesOf, Ascending, Good, Listed, RoleList, FineSet, FineSession, OfTheForm, Sixteen}
-use Rattle.filebytes.specs.Faults.{Disordered, ListFault, SetFault, SessionFault, Fault, too-long, not-ascending, not-listed, name-beyond, in-members, number-beyond, owner-unlisted, in-active}
+use Rattle.filebytes.specs.Sections.{SetEntry, Sections, bytesOf, Ascending, Listed, RoleList, FineSet, FineSession, OfTheForm, Sixteen}
+use Rattle.filebytes.specs.Faults.{Disordered, ListFault, SetFault, Fault, too-long, not-ascending, not-listed, name-beyond, in-members, number-beyond, owner-unlisted, in-active}
 use Rattle.filebytes.specs.Faults as faults
 use Rattle.filebytes.specs.Meaning.{Says}
 use Rattle.filebytes.specs.FileForm.{AsThePaperSays, NoFile, FileForm}

@@ -1,6 +1,6 @@
 -- Loading answers as the paper says. Assumes nothing.
 use mathlib.Core.Bool.{false}
-use mathlib.Core.List.{List, [], _∷_}
+use mathlib.Core.List.{List, []}
 use mathlib.Core.Logic.{inl, inr, _↔_}
 use mathlib.Core.Path.{_≡_, refl, sym, ap, subst, _∙_}
 use Prim.Native.Nat.{ℕ}
@@ -20,7 +20,7 @@ use Rattle.filebytes.specs.FileForm.{AsThePaperSays}
 use Rattle.filebytes.proofs.FileForm.{paper-form}
 use Rattle.demands.proofs.Exact.{exact}
 use Rattle.demands.specs.Demand2.{Exactly}
-use Rattle.loading.specs.Loading.{Asked, loadRefusals, Answered, Loading}
+use Rattle.loading.specs.Loading.{loadRefusals, Answered, Loading}
 use Rattle.loading.proofs.Conditions.{circle-says, acyclic, asked}
 
 -- Where no role inherits itself no chain is cut off; so the list with 13 and the one without it answer alike.
