@@ -21,7 +21,7 @@ use Rattle.filebytes.proofs.FileForm.{paper-form}
 use Rattle.demands.proofs.Exact.{exact}
 use Rattle.demands.specs.Demand2.{Exactly}
 use Rattle.loading.specs.Loading.{loadRefusals, Answered, Loading}
-use Rattle.loading.proofs.Conditions.{circle-says, acyclic, asked}
+use Rattle.loading.proofs.Conditions.{circle-says, acyclic, chain-circle, asked}
 
 -- Where no role inherits itself no chain is cut off; so the list with 13 and the one without it answer alike.
 uncut : (m : Model) (f : Formed m) → circular (m .juniors) ≡ false → usersCut m ≡ false
@@ -63,4 +63,4 @@ never-13 before bytes told (inr y) e = not-told 13 (loadRefusals (asked (y .mode
 
 -- what loading answers, for any bytes
 pub loading : Loading
-loading = record { fourteen = fourteen; unchanged = unchanged; answers = answers; never-13 = never-13 }
+loading = record { fourteen = fourteen; unchanged = unchanged; answers = answers; chains = λ m bytes x. chain-circle m (x .formed); never-13 = never-13 }

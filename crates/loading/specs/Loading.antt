@@ -7,7 +7,7 @@ use mathlib.Core.Path.{_≡_}
 use Prim.Native.Nat.{ℕ, _<_}
 use lib.ListN.{length}
 use Rattle.roleset.specs.Roles.{has}
-use Rattle.hierarchy.specs.Lines.{Inherits}
+use Rattle.hierarchy.specs.Lines.{Inherits, Chain}
 use Rattle.model.specs.Model.{Model}
 use Rattle.model.specs.Sheet.{Refusal, _when_, Told, refused}
 use Rattle.model.specs.commands.Sets.{setsOf}
@@ -106,5 +106,6 @@ pub record Loading : Type 0 where
   pub unchanged : (before : Model) (bytes : List ℕ) (told : Told) → Loads before bytes told → told .answer ≡ 14 → told ≡ refused 14 before
   -- the file of a policy gets the first of 6, 7, 9, 10 and 11 that applies to this policy; or it is loaded, and the policy is this one
   pub answers : (before m : Model) (bytes : List ℕ) (told : Told) → FileOf m bytes → Loads before bytes told → Answered before m told
-  -- no load answers 13
+  -- a chain of more than 64 roles is a circle, which is 6; so no load answers 13
+  pub chains : (m : Model) (bytes : List ℕ) → FileOf m bytes → (r : ℕ) → Chain (m .juniors) 65 r → Circle m
   pub never-13 : (before : Model) (bytes : List ℕ) (told : Told) → Loads before bytes told → told .answer ≡ 13 → ⊥
