@@ -27,9 +27,9 @@ use Rattle.policyform.specs.Form.{SetForm, Formed}
 use Rattle.policyform.specs.Rules.{badSet, unauthorised}
 use Rattle.filebytes.specs.Sections.{Every}
 use Rattle.demands.specs.Authorised.{InOrBelow, Authorised}
-use Rattle.loading.specs.Loading.{AsMany, Circle, BadCardinality, NotAuthorised, StaticBroken, DynamicBroken, Clear, Asked}
-use Rattle.loading.proofs.Bare.{authorised-formed}
-use Rattle.loading.proofs.Counted.{as-many, many-common}
+use Rattle.fileanswers.specs.Loading.{AsMany, Circle, BadCardinality, NotAuthorised, StaticBroken, DynamicBroken, Clear, Asked}
+use Rattle.fileanswers.proofs.Bare.{authorised-formed}
+use Rattle.fileanswers.proofs.Counted.{as-many, many-common}
 
 -- one of so many
 first-of : (n : ℕ) (P : ℕ → Type 0) → 0 < n → AsMany n P → (k : ℕ) × P k

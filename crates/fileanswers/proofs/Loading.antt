@@ -20,8 +20,8 @@ use Rattle.filebytes.specs.FileForm.{AsThePaperSays}
 use Rattle.filebytes.proofs.FileForm.{paper-form}
 use Rattle.demands.proofs.Exact.{exact}
 use Rattle.demands.specs.Demand2.{Exactly}
-use Rattle.loading.specs.Loading.{loadRefusals, Answered, Loading}
-use Rattle.loading.proofs.Conditions.{circle-says, acyclic, chain-circle, asked}
+use Rattle.fileanswers.specs.Loading.{loadRefusals, Answered, Loading}
+use Rattle.fileanswers.proofs.Conditions.{circle-says, acyclic, chain-circle, asked}
 
 -- Where no role inherits itself no chain is cut off; so the list with 13 and the one without it answer alike.
 uncut : (m : Model) (f : Formed m) → circular (m .juniors) ≡ false → usersCut m ≡ false

@@ -18,7 +18,7 @@ use Rattle.filebytes.specs.FileForm.{AsThePaperSays}
 use Rattle.filebytes.proofs.FileForm.{paper-form}
 use Rattle.filebytes.proofs.Listed.{form-sixteen}
 use Rattle.demands.proofs.Kept.{reachable-sound}
-use Rattle.loading.specs.Saving.{Saving, SavesAsThePaperSays}
+use Rattle.fileanswers.specs.Saving.{Saving, SavesAsThePaperSays}
 
 module _ (m : Model) (s : Sound m) where
   file : FileOf m (encode m)
