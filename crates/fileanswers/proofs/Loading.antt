@@ -63,4 +63,4 @@ never-13 before bytes told (inr y) e = not-told 13 (loadRefusals (asked (y .mode
 
 -- what loading answers, for any bytes
 pub loading : Loading
-loading = record { fourteen = fourteen; unchanged = unchanged; answers = answers; chains = λ m bytes x. chain-circle m (x .formed); never-13 = never-13 }
+loading = record { fourteen = fourteen; unchanged = unchanged; answers = answers; one-policy = λ m m′ bytes. file-one bytes m m′; chains = λ m bytes x. chain-circle m (x .formed); never-13 = never-13 }

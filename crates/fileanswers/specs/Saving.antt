@@ -22,13 +22,13 @@ pub record Saved (m : Model) (out after : List ℕ) (size : ℕ) : Type 0 where
 pub record Saving (m : Model) (out after : List ℕ) (answer size : ℕ) : Type 0 where
   -- "Saving answers 15 or 0"
   pub answers : (answer ≡ 15) ⊎ (answer ≡ 0)
-  -- where it answers 0 the file is written
+  -- Where it answers 0 the file is written.
   pub done : answer ≡ 0 → Saved m out after size
-  -- 15: "the lent output buffer is shorter than the whole result", which is the file that says this policy
+  -- 15: "the lent output buffer is shorter than the whole result", which is the file that says this policy.
   pub short : (answer ≡ 15) ↔ ((f : Sections) → OfTheForm f → Says f m → length out < length (bytesOf f))
-  -- and then the buffer is as it was
+  -- Where it answers 15 the buffer is as it was.
   pub untouched : answer ≡ 15 → after ≡ out
 
--- whatever saving promises of a policy of ours, it tells this
+-- Whatever meets the promise of saving, for a policy of ours, tells this.
 abbrev pub SavesAsThePaperSays : Type 0
 SavesAsThePaperSays = (m : Model) (out after : List ℕ) (answer size : ℕ) → Reachable m → Saves m out after answer size → Saving m out after answer size

@@ -6,7 +6,7 @@ use Prim.Native.Nat.{ℕ, zero, suc, _+_, _*_, _/_, _%_, _<_}
 use native.Mathlib.Omega.{arith}
 use lib.ListN.{length}
 use Rattle.filebytes.specs.Sections.{SetEntry, SessionEntry, number, entries, listing, pair, grant, set, session, bytesOf, Every, Writable, Fits, Sixteen}
-use Rattle.filebytes.specs.FileForm.{AnyBytes, in-full, cut-short, left-over}
+use Rattle.filebytes.specs.FileForm.{AnyBytes, in-full, cut-short, with-more}
 
 abbrev Bytes : List ℕ → Type 0
 Bytes l = Every (λ b. b < 256) l
@@ -127,5 +127,5 @@ any-bytes bytes r = go (file-reader .read bytes r)
   where
     go : Reading Sixteen bytesOf bytes → AnyBytes bytes
     go (whole f six [] p e) = in-full f six (sym (append-nil (bytesOf f)) ∙ sym e)
-    go (whole f six (next ∷ rest) p e) = left-over f six next rest (sym e)
+    go (whole f six (next ∷ rest) p e) = with-more f six next rest (sym e)
     go (early f six next more e) = cut-short f six next more e
