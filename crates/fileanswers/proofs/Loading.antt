@@ -16,7 +16,10 @@ use Rattle.policyform.specs.Form.{Formed, FileOf}
 use Rattle.policyform.specs.Rules.{rulesBroken}
 use Rattle.policyform.specs.Promises.{Loads}
 use Rattle.policyread.proofs.Whole.{file-one}
+use Rattle.filebytes.specs.Sections.{Sections, bytesOf, OfTheForm}
+use Rattle.filebytes.specs.Meaning.{Says}
 use Rattle.filebytes.specs.FileForm.{AsThePaperSays}
+use Rattle.filebytes.proofs.Listed.{form-sixteen}
 use Rattle.filebytes.proofs.FileForm.{paper-form}
 use Rattle.demands.proofs.Exact.{exact}
 use Rattle.demands.specs.Demand2.{Exactly}
@@ -42,6 +45,11 @@ answers before m bytes told x (inr y) = record { asked = asked m (x .formed); ex
     tells : told ≡ settle list before [] m
     tells = y .tells ∙ ap (λ (n : Model). settle (rulesBroken n) before [] n) (file-one bytes (y .model) m (y .file) x) ∙ alike-settle (rulesBroken m) list before [] m (alike m (x .formed))
 
+listed : (before : Model) (f : Sections) (told : Told) → OfTheForm f → Loads before (bytesOf f) told → (m : Model) × (Says f m) × Answered before m told
+listed before f told form l =
+    let q = paper-form .form-file (bytesOf f) (record { sections = f; form = form; written = refl }) in
+    (q .0, paper-form .file-says (q .0) f (form-sixteen f form) (q .1), answers before (q .0) (bytesOf f) told (q .1) l)
+
 -- ---- 14 and 13
 
 -- a model that a load answers for is refused with neither 14 nor 13
@@ -63,4 +71,4 @@ never-13 before bytes told (inr y) e = not-told 13 (loadRefusals (asked (y .mode
 
 -- what loading answers, for any bytes
 pub loading : Loading
-loading = record { fourteen = fourteen; unchanged = unchanged; answers = answers; one-policy = λ m m′ bytes. file-one bytes m m′; chains = λ m bytes x. chain-circle m (x .formed); never-13 = never-13 }
+loading = record { fourteen = fourteen; unchanged = unchanged; listed = listed; answers = answers; one-policy = λ m m′ bytes. file-one bytes m m′; chains = λ m bytes x. chain-circle m (x .formed); never-13 = never-13 }

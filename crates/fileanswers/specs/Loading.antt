@@ -14,7 +14,8 @@ use Rattle.model.specs.commands.Sets.{setsOf}
 use Rattle.model.specs.declared.Kind.{Kind}
 use Rattle.policyform.specs.Form.{FileOf}
 use Rattle.policyform.specs.Promises.{Loads}
-use Rattle.filebytes.specs.Sections.{Every, Ascending}
+use Rattle.filebytes.specs.Sections.{Sections, bytesOf, Every, Ascending, OfTheForm}
+use Rattle.filebytes.specs.Meaning.{Says}
 use Rattle.filebytes.specs.FileForm.{AsThePaperSays}
 use Rattle.demands.specs.Authorised.{Authorised}
 use Rattle.demands.specs.Demand2.{Exactly}
@@ -105,7 +106,11 @@ pub record Loading : Type 0 where
   pub fourteen : (before : Model) (bytes : List ℕ) (told : Told) → Loads before bytes told → (told .answer ≡ 14) ↔ (AsThePaperSays bytes → ⊥)
   -- 14 changes nothing.
   pub unchanged : (before : Model) (bytes : List ℕ) (told : Told) → Loads before bytes told → told .answer ≡ 14 → told ≡ refused 14 before
-  -- The file of a policy gets the first of 6, 7, 9, 10 and 11 that applies to this policy, or it is loaded and the policy is this one.
+  -- Sections of the form, written and loaded, get the first of 6, 7, 9, 10 and 11 that applies to the policy that they list, or they are loaded and
+  -- this policy is there.
+  pub listed : (before : Model) (f : Sections) (told : Told) → OfTheForm f → Loads before (bytesOf f) told → (m : Model) × (Says f m) × Answered before m told
+  -- The same, of the file of any policy: it gets the first of 6, 7, 9, 10 and 11 that applies to this policy, or it is loaded
+  -- and the policy is this one.
   pub answers : (before m : Model) (bytes : List ℕ) (told : Told) → FileOf m bytes → Loads before bytes told → Answered before m told
   -- A file is the file of one policy only.
   pub one-policy : (m m′ : Model) (bytes : List ℕ) → FileOf m bytes → FileOf m′ bytes → m ≡ m′

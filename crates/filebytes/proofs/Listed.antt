@@ -204,6 +204,7 @@ module _ (m : Model) (f : Formed m) where
         lines = pairs-say 64 (m .juniors) (λ s j e. (member-small (m .roles) s (f .roles) (f .seniors s j e), member-small (m .juniors s) j (f .juniors s .small) e));
         assignments = pairs-say 256 (m .assigned) (λ u r e. (f .users u (f .assignees u r e), member-small (m .assigned u) r (f .assigned u .small) e));
         grants = grants-say;
+        permissions = f .permissions;
         ssd = sets-say (m .ssd) (f .ssd);
         ssd-only = sets-only (m .ssd) (f .ssd);
         dsd = sets-say (m .dsd) (f .dsd);

@@ -39,6 +39,8 @@ pub record Says (f : Sections) (m : Model) : Type 0 where
   -- "grants (role, operation, object)"; "Permission: an operation on an object, written as operation * 256 + object": a role holds a permission
   -- exactly when that is listed.
   pub grants : (r op obj : ℕ) → op < 16 → obj < 256 → (has (m .holders (op * 256 + obj)) r ≡ true) ↔ List·Memᴰ (r, op, obj) (f .grants)
+  -- What is held is an operation, 0 to 15, on an object, 0 to 255.
+  pub permissions : (p r : ℕ) → has (m .holders p) r ≡ true → p < 4096
   -- Every set that is listed stands in the policy as it is listed, and there is no set of another name.
   pub ssd : (e : SetEntry) → List·Memᴰ e (f .ssd) → SetAs (m .ssd) e
   pub ssd-only : (n : ℕ) → m .ssd n .there ≡ true → SetNamed n (f .ssd)
