@@ -1,10 +1,9 @@
 -- Sections of the form are the file of a policy: the one that holds what they list. Assumes nothing.
 use mathlib.Core.Bool.{Bool, true, false, _&&_}
-use mathlib.Core.List.{List, [], _∷_, _++_, map, List·Memᴰ, List·Memᴰ·head, List·Memᴰ·tail, List·Memᴰ·not-nil, Memᴰ·cast}
+use mathlib.Core.List.{List, [], _∷_, List·Memᴰ, List·Memᴰ·head, List·Memᴰ·tail, Memᴰ·cast}
 use mathlib.Core.Logic.{_⊎_, inl, inr, _↔_}
-use mathlib.Core.Path.{_≡_, refl, sym, ap, ap₂, subst, _∙_}
-use Prim.Native.Nat.{ℕ, _+_, _*_, _/_, _%_, _≤_, _<_, _^_}
-use native.Mathlib.Decide.{decLt}
+use mathlib.Core.Path.{_≡_, refl, sym, ap, subst, _∙_}
+use Prim.Native.Nat.{ℕ, _+_, _*_, _/_, _%_, _<_}
 use native.Mathlib.Omega.{arith}
 use lib.Dec.{eqb}
 use lib.ListN.{length, length-map}
@@ -19,7 +18,7 @@ use Rattle.model.specs.Words.{assignments, grants, linesStanding}
 use Rattle.policyform.specs.Encode.{pairIn, grantIn}
 use Rattle.policyform.specs.Form.{SetForm, Formed}
 use Rattle.policyform.proofs.Counts.{pairs-count, grants-count}
-use Rattle.filebytes.specs.Sections.{SetEntry, SessionEntry, Sections, Every, Ascending, Good, Listed, pairBefore, grantBefore, RoleList, FineSet, FineSession, OfTheForm}
+use Rattle.filebytes.specs.Sections.{SetEntry, SessionEntry, Sections, Ascending, Good, Listed, RoleList, FineSet, FineSession, OfTheForm}
 use Rattle.filebytes.specs.Meaning.{SetAs, SessionAs, SetNamed, SessionNumbered, Says}
 use Rattle.filebytes.proofs.Lists.{every-elim, any, any-in, in-any}
 use Rattle.filebytes.proofs.Listed.{pairOf, grantOf}
@@ -179,6 +178,9 @@ module _ (f : Sections) (x : OfTheForm f) where
   holders-say : (p r : ℕ) → (has (holdersIn (f .grants) p) r ≡ true) ↔ List·Memᴰ (r, p / 256, p % 256) (f .grants)
   holders-say p = holders-in (f .grants) p (λ r m. role-small f x r (a-grant (r, p / 256, p % 256) m .0))
 
+  permissions-small : (p r : ℕ) → has (holdersIn (f .grants) p) r ≡ true → p < 4096
+  permissions-small p r e = omega (arith, a-grant (r, p / 256, p % 256) (holders-say p r .0 e) .1)
+
   grants-say : (r op obj : ℕ) → op < 16 → obj < 256 → (has (holdersIn (f .grants) (op * 256 + obj)) r ≡ true) ↔ List·Memᴰ (r, op, obj) (f .grants)
   grants-say r op obj a b =
       let first : op ≡ (op * 256 + obj) / 256 = omega arith in
@@ -230,6 +232,7 @@ module _ (f : Sections) (x : OfTheForm f) where
         lines = lines-say;
         assignments = assignments-say;
         grants = grants-say;
+        permissions = permissions-small;
         ssd = sets-say (f .ssd) (x .ssd);
         ssd-only = sets-only (f .ssd);
         dsd = sets-say (f .dsd) (x .dsd);
@@ -288,7 +291,7 @@ module _ (f : Sections) (x : OfTheForm f) where
         juniors = λ s. record { small = those-small (λ r. any (pairTest s r) (f .lines)); exist = λ j e. roles-say j .1 (a-line (s, j) (lines-say s j .0 e) .1) };
         assignees = λ u r e. users-say u .1 (an-assignment (u, r) (assignments-say u r .0 e) .0);
         assigned = λ u. record { small = those-small (λ r. any (pairTest u r) (f .assignments)); exist = λ r e. roles-say r .1 (an-assignment (u, r) (assignments-say u r .0 e) .1) };
-        permissions = λ p r e. omega (arith, a-grant (r, p / 256, p % 256) (holders-say p r .0 e) .1);
+        permissions = permissions-small;
         holders = λ p. record { small = those-small (λ r. any (grantTest (p / 256) (p % 256) r) (f .grants)); exist = λ r e. roles-say r .1 (a-grant (r, p / 256, p % 256) (holders-say p r .0 e) .0) };
         ssd = set-form (f .ssd) (x .ssd);
         dsd = set-form (f .dsd) (x .dsd);

@@ -1,13 +1,12 @@
 -- The form of the policy file is the paper's. Assumes nothing.
-use mathlib.Core.List.{List, [], _∷_, _++_, append-nil, List·Memᴰ}
+use mathlib.Core.List.{List, [], _∷_, _++_, append-nil}
 use mathlib.Core.Path.{_≡_, refl, sym, ap, subst, _∙_}
 use Prim.Native.Nat.{ℕ, _<_}
 use native.Mathlib.Omega.{arith}
 use Rattle.model.specs.Model.{Model}
-use Rattle.policyform.specs.Encode.{encode}
 use Rattle.policyform.specs.Form.{Formed, FileOf}
-use Rattle.filebytes.specs.Sections.{SetEntry, Sections, bytesOf, Ascending, Good, Listed, RoleList, FineSet, FineSession, OfTheForm, Sixteen}
-use Rattle.filebytes.specs.Faults.{Disordered, ListFault, SetFault, SessionFault, Fault, too-long, not-ascending, not-listed, name-beyond, in-members, number-beyond, owner-unlisted, in-active}
+use Rattle.filebytes.specs.Sections.{SetEntry, Sections, bytesOf, Ascending, Listed, RoleList, FineSet, FineSession, OfTheForm, Sixteen}
+use Rattle.filebytes.specs.Faults.{Disordered, ListFault, SetFault, Fault, too-long, not-ascending, not-listed, name-beyond, in-members, number-beyond, owner-unlisted, in-active}
 use Rattle.filebytes.specs.Faults as faults
 use Rattle.filebytes.specs.Meaning.{Says}
 use Rattle.filebytes.specs.FileForm.{AsThePaperSays, NoFile, FileForm}
@@ -15,6 +14,8 @@ use Rattle.filebytes.proofs.Lists.{every-elim}
 use Rattle.filebytes.proofs.OneWay.{file-one-way}
 use Rattle.filebytes.proofs.Listed.{sectionsOf, sections-bytes, sections-form, sections-say, form-sixteen}
 use Rattle.filebytes.proofs.Same.{sections-same}
+use Rattle.filebytes.proofs.AnyBytes.{any-bytes}
+use Rattle.filebytes.proofs.Faultless.{faultless-form}
 use Rattle.filebytes.proofs.Built.{modelOf, built-says, built-formed}
 
 file-form : (m : Model) (bytes : List ℕ) → FileOf m bytes → AsThePaperSays bytes
@@ -106,4 +107,4 @@ module _ (f : Sections) (x : OfTheForm f) where
 
 -- what a file is and says, and what is no file
 pub paper-form : FileForm
-paper-form = record { file-form = file-form; form-file = form-file; file-says = file-says; says-file = says-file; obeys = obeys; faults = λ f six h m x. fault-free f (obeys m f six x) h; early-end = early-end; left-over = left-over; no-front = no-front }
+paper-form = record { file-form = file-form; form-file = form-file; file-says = file-says; says-file = says-file; obeys = obeys; faults = λ f six h m x. fault-free f (obeys m f six x) h; early-end = early-end; left-over = left-over; faultless = λ f six none. form-file (bytesOf f) (record { sections = f; form = faultless-form f six none; written = refl }); any-bytes = any-bytes; no-front = no-front }

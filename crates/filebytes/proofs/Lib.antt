@@ -6,4 +6,6 @@ pub mod Same
 pub mod Built
 pub mod Decided
 pub mod Tables
+pub mod Faultless
+pub mod AnyBytes
 pub mod FileForm

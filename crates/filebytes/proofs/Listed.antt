@@ -1,23 +1,23 @@
 -- The sections of a policy: their bytes are its file, they are of the form, and they say this policy. Assumes nothing.
-use mathlib.Core.Bool.{Bool, true, false}
+use mathlib.Core.Bool.{true}
 use mathlib.Core.List.{List, [], _∷_, _++_, map, List·Memᴰ, Memᴰ·cast}
-use mathlib.Core.Logic.{_⊎_, inl, inr, _↔_}
+use mathlib.Core.Logic.{inl, inr, _↔_}
 use mathlib.Core.Path.{_≡_, refl, sym, ap, ap₂, subst, _∙_}
-use Prim.Native.Nat.{ℕ, _+_, _*_, _/_, _%_, _≤_, _<_, _^_}
+use Prim.Native.Nat.{ℕ, _+_, _*_, _/_, _%_, _<_, _^_}
 use native.Mathlib.Decide.{decLt}
 use native.Mathlib.Omega.{arith}
-use lib.ListN.{length, length-map}
+use lib.ListN.{length-map}
 use Rattle.roleset.specs.Bounded.{members}
 use Rattle.roleset.specs.Roles.{has}
 use Rattle.roleset.proofs.Laws.{member-small}
 use Rattle.roleset.proofs.MembersLaws.{members-most}
 use Rattle.model.specs.Model.{Model, RoleSet, Session}
-use Rattle.model.specs.Sound.{Existing, SessionShape}
+use Rattle.model.specs.Sound.{Existing}
 use Rattle.text.specs.Bytes.{two, flat, section}
-use Rattle.policyform.specs.Encode.{roleList, pairEntry, pairIn, grantEntry, grantIn, setEntry, sessionEntry, encode}
+use Rattle.policyform.specs.Encode.{pairEntry, pairIn, grantEntry, grantIn, setEntry, sessionEntry, encode}
 use Rattle.policyform.specs.Form.{SetForm, Formed}
 use Rattle.policyform.proofs.Size.{few-lines, few-assigned, few-grants}
-use Rattle.filebytes.specs.Sections.{SetEntry, SessionEntry, Sections, number, entries, listing, pair, grant, set, session, bytesOf, Every, Good, Listed, pairBefore, grantBefore, RoleList, FineSet, FineSession, OfTheForm, Fits, Writable, Sixteen}
+use Rattle.filebytes.specs.Sections.{SetEntry, SessionEntry, Sections, number, entries, listing, pair, grant, set, session, bytesOf, Good, Listed, pairBefore, grantBefore, RoleList, FineSet, FineSession, OfTheForm, Fits, Writable, Sixteen}
 use Rattle.filebytes.specs.Meaning.{SetAs, SessionAs, SetNamed, SessionNumbered, Says}
 use Rattle.filebytes.proofs.Lists.{every-elim, every-weaker, in-map, map-in, members-in, in-members, good-members, good-numbers}
 
@@ -28,6 +28,13 @@ pairOf k = (k / 64, k % 64)
 
 abbrev pub grantOf : ℕ → ℕ × ℕ × ℕ
 grantOf k = (k / 4096, k % 4096 / 256, k % 256)
+
+-- and the number of each
+abbrev pub pairNumber : ℕ × ℕ → ℕ
+pairNumber p = 64 * p .0 + p .1
+
+abbrev pub grantNumber : ℕ × ℕ × ℕ → ℕ
+grantNumber g = 4096 * g .0 + (g .1 * 256 + g .2)
 
 abbrev pub setEntryOf : (ℕ → RoleSet) → ℕ → SetEntry
 setEntryOf sets n = record { name = n; cardinality = sets n .card; members = members 64 (has (sets n .roles)) }
@@ -119,9 +126,9 @@ module _ (m : Model) (f : Formed m) where
       record {
         users = good-numbers 256 (λ u. u < 256) 256 (m .users) (members-most 256 (m .users)) (λ k l e. l);
         roles = good-numbers 64 (λ r. r < 64) 64 (has (m .roles)) (members-most 64 (has (m .roles))) (λ k l e. l);
-        lines = good-members 512 _ pairBefore pairOf 4096 (pairIn (m .juniors)) (few-lines m (f .limits)) (λ k l e. (a-role (k / 64) (f .seniors (k / 64) (k % 64) e), a-role (k % 64) (f .juniors (k / 64) .exist (k % 64) e))) pair-up;
-        assignments = good-members 2048 _ pairBefore pairOf 16384 (pairIn (m .assigned)) (few-assigned m (f .limits)) (λ k l e. (a-user (k / 64) (f .assignees (k / 64) (k % 64) e), a-role (k % 64) (f .assigned (k / 64) .exist (k % 64) e))) pair-up;
-        grants = good-members 2048 _ grantBefore grantOf 262144 (grantIn (m .holders)) (few-grants m (f .limits)) (λ k l e. (a-role (k / 4096) (f .holders (k % 4096) .exist (k / 4096) e), omega arith, omega arith)) grant-up;
+        lines = good-members _ _ pairBefore pairOf 4096 (pairIn (m .juniors)) (omega (arith, few-lines m (f .limits))) (λ k l e. (a-role (k / 64) (f .seniors (k / 64) (k % 64) e), a-role (k % 64) (f .juniors (k / 64) .exist (k % 64) e))) pair-up;
+        assignments = good-members _ _ pairBefore pairOf 16384 (pairIn (m .assigned)) (omega (arith, few-assigned m (f .limits))) (λ k l e. (a-user (k / 64) (f .assignees (k / 64) (k % 64) e), a-role (k % 64) (f .assigned (k / 64) .exist (k % 64) e))) pair-up;
+        grants = good-members _ _ grantBefore grantOf 262144 (grantIn (m .holders)) (omega (arith, few-grants m (f .limits))) (λ k l e. (a-role (k / 4096) (f .holders (k % 4096) .exist (k / 4096) e), omega arith, omega arith)) grant-up;
         ssd = sets-form (m .ssd) (f .ssd);
         dsd = sets-form (m .dsd) (f .dsd);
         sessions = good-members 64 (FineSession (sectionsOf m)) (λ a b. a .number < b .number) (sessionEntryOf (m .sessions)) 64 (λ s. m .sessions s .live) (members-most 64 (λ s. m .sessions s .live)) (λ s l e. record { number = l; owner = a-user (m .sessions s .owner) (f .sessions s .owned e); active = role-list (m .sessions s .active) (f .sessions s .active) }) (λ k j l. l);
@@ -129,17 +136,31 @@ module _ (m : Model) (f : Formed m) where
 
 -- ---- they say the policy
 
+-- a pair and a grant stand in the list at their own numbers
+pub pair-own : (size : ℕ) (table : ℕ → ℕ) (p : ℕ × ℕ) → p .0 < size → p .1 < 64 → has (table (p .0)) (p .1) ≡ true → (pairNumber p < 64 * size) × (pairIn table (pairNumber p) ≡ true) × (pairOf (pairNumber p) ≡ p)
+pair-own size table p i r e =
+    let row : pairNumber p / 64 ≡ p .0 = omega arith in
+    let col : pairNumber p % 64 ≡ p .1 = omega arith in
+    (omega arith, ap₂ (λ (a b : ℕ). has (table a) b) row col ∙ e, λ j. (row j, col j))
+
+pub pair-in : (size : ℕ) (table : ℕ → ℕ) (p : ℕ × ℕ) → p .0 < size → p .1 < 64 → has (table (p .0)) (p .1) ≡ true → List·Memᴰ p (map pairOf (members (64 * size) (pairIn table)))
+pair-in size table p i r e = let o = pair-own size table p i r e in Memᴰ·cast (sym (o .2)) (in-map pairOf (pairNumber p) (members (64 * size) (pairIn table)) (in-members (64 * size) (pairIn table) (pairNumber p) (o .0) (o .1)))
+
+pub grant-own : (holders : ℕ → ℕ) (g : ℕ × ℕ × ℕ) → g .0 < 64 → g .1 < 16 → g .2 < 256 → has (holders (g .1 * 256 + g .2)) (g .0) ≡ true → (grantNumber g < 262144) × (grantIn holders (grantNumber g) ≡ true) × (grantOf (grantNumber g) ≡ g)
+grant-own holders g a b d e =
+    let role : grantNumber g / 4096 ≡ g .0 = omega arith in
+    let all : grantNumber g % 4096 ≡ g .1 * 256 + g .2 = omega arith in
+    let operation : grantNumber g % 4096 / 256 ≡ g .1 = omega arith in
+    let object : grantNumber g % 256 ≡ g .2 = omega arith in
+    (omega arith, ap₂ (λ (a b : ℕ). has (holders a) b) all role ∙ e, λ j. (role j, operation j, object j))
+
+pub grant-in : (holders : ℕ → ℕ) (g : ℕ × ℕ × ℕ) → g .0 < 64 → g .1 < 16 → g .2 < 256 → has (holders (g .1 * 256 + g .2)) (g .0) ≡ true → List·Memᴰ g (map grantOf (members 262144 (grantIn holders)))
+grant-in holders g a b d e = let o = grant-own holders g a b d e in Memᴰ·cast (sym (o .2)) (in-map grantOf (grantNumber g) (members 262144 (grantIn holders)) (in-members 262144 (grantIn holders) (grantNumber g) (o .0) (o .1)))
+
 -- the pairs of a table of which no place is beyond `size` and no role beyond 63
 pairs-say : (size : ℕ) (table : ℕ → ℕ) → ((i r : ℕ) → has (table i) r ≡ true → (i < size) × (r < 64)) → (i r : ℕ) → (has (table i) r ≡ true) ↔ List·Memᴰ (i, r) (map pairOf (members (64 * size) (pairIn table)))
-pairs-say size table small i r = (to, back)
+pairs-say size table small i r = ((λ e. pair-in size table (i, r) (small i r e .0) (small i r e .1) e), back)
   where
-    to : has (table i) r ≡ true → List·Memᴰ (i, r) (map pairOf (members (64 * size) (pairIn table)))
-    to e =
-        let s = small i r e in
-        let row : (64 * i + r) / 64 ≡ i = omega (arith, s .1) in
-        let col : (64 * i + r) % 64 ≡ r = omega (arith, s .1) in
-        Memᴰ·cast (λ j. (sym row j, sym col j)) (in-map pairOf (64 * i + r) (members (64 * size) (pairIn table)) (in-members (64 * size) (pairIn table) (64 * i + r) (omega (arith, s .0, s .1)) (ap₂ (λ (a b : ℕ). has (table a) b) row col ∙ e)))
-
     back : List·Memᴰ (i, r) (map pairOf (members (64 * size) (pairIn table))) → has (table i) r ≡ true
     back x =
         let q = map-in pairOf (members (64 * size) (pairIn table)) (i, r) x in
@@ -150,18 +171,8 @@ module _ (m : Model) (f : Formed m) where
   roles-say s small r = ((λ e. in-members 64 (has s) r (member-small s r small e) e), (λ l. members-in 64 (has s) r l .1))
 
   grants-say : (r op obj : ℕ) → op < 16 → obj < 256 → (has (m .holders (op * 256 + obj)) r ≡ true) ↔ List·Memᴰ (r, op, obj) (sectionsOf m .grants)
-  grants-say r op obj lo hi = (to, back)
+  grants-say r op obj lo hi = ((λ e. grant-in (m .holders) (r, op, obj) (member-small (m .holders (op * 256 + obj)) r (f .holders (op * 256 + obj) .small) e) lo hi e), back)
     where
-      to : has (m .holders (op * 256 + obj)) r ≡ true → List·Memᴰ (r, op, obj) (sectionsOf m .grants)
-      to e =
-          let s = member-small (m .holders (op * 256 + obj)) r (f .holders (op * 256 + obj) .small) e in
-          let k : ℕ = 4096 * r + (op * 256 + obj) in
-          let role : k / 4096 ≡ r = omega arith in
-          let all : k % 4096 ≡ op * 256 + obj = omega arith in
-          let operation : k % 4096 / 256 ≡ op = omega arith in
-          let object : k % 256 ≡ obj = omega arith in
-          Memᴰ·cast (λ j. (sym role j, sym operation j, sym object j)) (in-map grantOf k (members 262144 (grantIn (m .holders))) (in-members 262144 (grantIn (m .holders)) k (omega arith) (ap₂ (λ (a b : ℕ). has (m .holders a) b) all role ∙ e)))
-
       back : List·Memᴰ (r, op, obj) (sectionsOf m .grants) → has (m .holders (op * 256 + obj)) r ≡ true
       back x =
           let q = map-in grantOf (members 262144 (grantIn (m .holders))) (r, op, obj) x in
@@ -193,6 +204,7 @@ module _ (m : Model) (f : Formed m) where
         lines = pairs-say 64 (m .juniors) (λ s j e. (member-small (m .roles) s (f .roles) (f .seniors s j e), member-small (m .juniors s) j (f .juniors s .small) e));
         assignments = pairs-say 256 (m .assigned) (λ u r e. (f .users u (f .assignees u r e), member-small (m .assigned u) r (f .assigned u .small) e));
         grants = grants-say;
+        permissions = f .permissions;
         ssd = sets-say (m .ssd) (f .ssd);
         ssd-only = sets-only (m .ssd) (f .ssd);
         dsd = sets-say (m .dsd) (f .dsd);

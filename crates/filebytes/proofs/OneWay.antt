@@ -2,10 +2,10 @@
 -- the lists are equal and the same stands after them. Assumes nothing.
 use mathlib.Core.List.{List, [], _∷_, _++_, append-assoc}
 use mathlib.Core.Path.{_≡_, refl, sym, ap₂, _∙_}
-use Prim.Native.Nat.{ℕ, _/_, _%_, _<_}
+use Prim.Native.Nat.{ℕ, _/_, _%_}
 use native.Mathlib.Omega.{arith}
 use lib.ListN.{length}
-use Rattle.filebytes.specs.Sections.{SetEntry, SessionEntry, Sections, number, entries, listing, pair, grant, set, session, bytesOf, Every, Writable, Fits, Sixteen}
+use Rattle.filebytes.specs.Sections.{number, entries, listing, pair, grant, set, session, bytesOf, Every, Writable, Fits, Sixteen}
 
 abbrev pub Reads : {A : Type 0} → (A → Type 0) → (A → List ℕ) → Type 0
 Reads {A} Ok write = (a b : A) (x y : List ℕ) → Ok a → Ok b → write a ++ x ≡ write b ++ y → (a ≡ b) × (x ≡ y)

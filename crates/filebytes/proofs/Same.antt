@@ -1,18 +1,18 @@
 -- The sections of a policy that holds what sections of the form list are these sections. Assumes nothing.
-use mathlib.Core.Bool.{Bool, true, false}
-use mathlib.Core.List.{List, [], _∷_, map, List·Memᴰ, Memᴰ·cast}
-use mathlib.Core.Logic.{_⊎_, inl, inr, _↔_}
-use mathlib.Core.Path.{_≡_, refl, sym, ap, ap₂, subst, _∙_}
-use Prim.Native.Nat.{ℕ, _+_, _*_, _/_, _%_, _≤_, _<_, _^_}
+use mathlib.Core.Bool.{Bool, true}
+use mathlib.Core.List.{List, map, List·Memᴰ, Memᴰ·cast}
+use mathlib.Core.Logic.{inl, inr, _↔_}
+use mathlib.Core.Path.{_≡_, sym, ap, _∙_}
+use Prim.Native.Nat.{ℕ, _+_, _*_, _/_, _%_, _<_}
 use native.Mathlib.Omega.{arith}
 use Rattle.roleset.specs.Bounded.{members}
 use Rattle.roleset.specs.Roles.{has}
 use Rattle.model.specs.Model.{Model, RoleSet, Session}
 use Rattle.policyform.specs.Encode.{pairIn, grantIn}
-use Rattle.filebytes.specs.Sections.{SetEntry, SessionEntry, Sections, Every, Ascending, Good, Listed, pairBefore, grantBefore, RoleList, FineSet, FineSession, OfTheForm}
+use Rattle.filebytes.specs.Sections.{SetEntry, SessionEntry, Sections, Ascending, Good, Listed, pairBefore, grantBefore, RoleList, FineSet, FineSession, OfTheForm}
 use Rattle.filebytes.specs.Meaning.{SetAs, SessionAs, SetNamed, SessionNumbered, Says}
 use Rattle.filebytes.proofs.Lists.{every-elim, members-in, in-members, ascending-members, same-list, listed-same, less-never}
-use Rattle.filebytes.proofs.Listed.{pairOf, grantOf, setEntryOf, sessionEntryOf, sectionsOf, pair-up, grant-up}
+use Rattle.filebytes.proofs.Listed.{pairOf, grantOf, pairNumber, grantNumber, setEntryOf, sessionEntryOf, sectionsOf, pair-up, grant-up, pair-own, grant-own}
 
 -- a list of numbers below n
 numbers-same : (n : ℕ) (test : ℕ → Bool) (l : List ℕ) → Ascending _<_ l → ((k : ℕ) → Listed k l → k < n) → ((k : ℕ) → (test k ≡ true) ↔ Listed k l) → members n test ≡ l
@@ -25,14 +25,7 @@ pair-never p q (inr a) (inl b) = omega (arith, a .0)
 pair-never p q (inr a) (inr b) = omega (arith, a .1, b .1)
 
 pub pairs-same : (size : ℕ) (table : ℕ → ℕ) (l : List (ℕ × ℕ)) → Ascending pairBefore l → ((p : ℕ × ℕ) → List·Memᴰ p l → (p .0 < size) × (p .1 < 64)) → ((i r : ℕ) → (has (table i) r ≡ true) ↔ List·Memᴰ (i, r) l) → map pairOf (members (64 * size) (pairIn table)) ≡ l
-pairs-same size table l p small says = listed-same pairBefore pair-never (λ p. 64 * p .0 + p .1) pairOf (64 * size) (pairIn table) pair-up l p own (λ k h e. says (k / 64) (k % 64) .0 e)
-  where
-    own : (p : ℕ × ℕ) → List·Memᴰ p l → (64 * p .0 + p .1 < 64 * size) × (pairIn table (64 * p .0 + p .1) ≡ true) × (pairOf (64 * p .0 + p .1) ≡ p)
-    own p m =
-        let s = small p m in
-        let row : (64 * p .0 + p .1) / 64 ≡ p .0 = omega (arith, s .1) in
-        let col : (64 * p .0 + p .1) % 64 ≡ p .1 = omega (arith, s .1) in
-        (omega (arith, s .0, s .1), ap₂ (λ (a b : ℕ). has (table a) b) row col ∙ says (p .0) (p .1) .1 m, λ j. (row j, col j))
+pairs-same size table l p small says = listed-same pairBefore pair-never pairNumber pairOf (64 * size) (pairIn table) pair-up l p (λ p m. pair-own size table p (small p m .0) (small p m .1) (says (p .0) (p .1) .1 m)) (λ k h e. says (k / 64) (k % 64) .0 e)
 
 pub grant-never : (p q : ℕ × ℕ × ℕ) → grantBefore p q → grantBefore q p → ⊥
 grant-never p q (inl a) (inl b) = omega arith
@@ -41,19 +34,10 @@ grant-never p q (inr a) (inl b) = omega (arith, a .0)
 grant-never p q (inr a) (inr b) = pair-never (p .1, p .2) (q .1, q .2) (a .1) (b .1)
 
 pub grants-same : (holders : ℕ → ℕ) (l : List (ℕ × ℕ × ℕ)) → Ascending grantBefore l → ((g : ℕ × ℕ × ℕ) → List·Memᴰ g l → (g .0 < 64) × (g .1 < 16) × (g .2 < 256)) → ((r op obj : ℕ) → op < 16 → obj < 256 → (has (holders (op * 256 + obj)) r ≡ true) ↔ List·Memᴰ (r, op, obj) l) → map grantOf (members 262144 (grantIn holders)) ≡ l
-grants-same holders l p small says = listed-same grantBefore grant-never key grantOf 262144 (grantIn holders) grant-up l p own each
+grants-same holders l p small says = listed-same grantBefore grant-never grantNumber grantOf 262144 (grantIn holders) grant-up l p own each
   where
-    key : ℕ × ℕ × ℕ → ℕ
-    key g = 4096 * g .0 + (g .1 * 256 + g .2)
-
-    own : (g : ℕ × ℕ × ℕ) → List·Memᴰ g l → (key g < 262144) × (grantIn holders (key g) ≡ true) × (grantOf (key g) ≡ g)
-    own g m =
-        let s = small g m in
-        let role : key g / 4096 ≡ g .0 = omega (arith, s .0, s .1, s .2) in
-        let all : key g % 4096 ≡ g .1 * 256 + g .2 = omega (arith, s .0, s .1, s .2) in
-        let operation : key g % 4096 / 256 ≡ g .1 = omega (arith, s .0, s .1, s .2) in
-        let object : key g % 256 ≡ g .2 = omega (arith, s .0, s .1, s .2) in
-        (omega (arith, s .0, s .1, s .2), ap₂ (λ (a b : ℕ). has (holders a) b) all role ∙ says (g .0) (g .1) (g .2) (s .1) (s .2) .1 m, λ j. (role j, operation j, object j))
+    own : (g : ℕ × ℕ × ℕ) → List·Memᴰ g l → (grantNumber g < 262144) × (grantIn holders (grantNumber g) ≡ true) × (grantOf (grantNumber g) ≡ g)
+    own g m = let s = small g m in grant-own holders g (s .0) (s .1) (s .2) (says (g .0) (g .1) (g .2) (s .1) (s .2) .1 m)
 
     each : (k : ℕ) → k < 262144 → grantIn holders k ≡ true → List·Memᴰ (grantOf k) l
     each k h e =

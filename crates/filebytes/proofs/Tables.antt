@@ -1,9 +1,9 @@
 -- The file of a policy that is computed: the sections are compared with what is listed; of the tables of pairs and of grants, which are long, each
 -- listed entry is looked up, and they hold no more, by their count. Assumes nothing.
 use mathlib.Core.Bool.{Bool, true, false}
-use mathlib.Core.List.{List, [], _∷_, map, List·Memᴰ, Memᴰ·cast}
-use mathlib.Core.Path.{_≡_, refl, sym, ap, ap₂, _∙_}
-use Prim.Native.Nat.{ℕ, _+_, _*_, _/_, _%_, _<_}
+use mathlib.Core.List.{List, [], _∷_, map, List·Memᴰ}
+use mathlib.Core.Path.{_≡_, refl, sym, ap, _∙_}
+use Prim.Native.Nat.{ℕ, _+_, _*_, _<_}
 use native.Mathlib.Omega.{arith}
 use lib.ListN.{length, getD, length-map}
 use Rattle.roleset.specs.Bounded.{bit, members}
@@ -15,8 +15,8 @@ use Rattle.policyform.specs.Form.{Formed}
 use Rattle.policyform.proofs.Counts.{pairs-count, grants-count}
 use Rattle.filebytes.specs.Sections.{SetEntry, SessionEntry, Sections, bytesOf, Every, Ascending, pairBefore, grantBefore, OfTheForm}
 use Rattle.filebytes.proofs.Decided.{all, all-every}
-use Rattle.filebytes.proofs.Lists.{every-elim, in-map, in-members, ascending-members, ascending-map, fills}
-use Rattle.filebytes.proofs.Listed.{pairOf, grantOf, setEntryOf, sessionEntryOf, sectionsOf, sections-bytes, pair-up, grant-up}
+use Rattle.filebytes.proofs.Lists.{every-elim, ascending-members, ascending-map, fills}
+use Rattle.filebytes.proofs.Listed.{pairOf, grantOf, setEntryOf, sessionEntryOf, sectionsOf, sections-bytes, pair-up, grant-up, pair-in, grant-in}
 use Rattle.filebytes.proofs.Same.{role-small, user-small, pair-never, grant-never}
 
 pub record Agrees (m : Model) (f : Sections) : Type 0 where
@@ -37,24 +37,13 @@ pairs-fill : (size : ℕ) (table : ℕ → ℕ) (l : List (ℕ × ℕ)) → Asce
 pairs-fill size table l p small there count = fills pairBefore pair-never l (map pairOf (members (64 * size) (pairIn table))) p (ascending-map _<_ pairBefore pairOf pair-up (members (64 * size) (pairIn table)) (ascending-members (64 * size) (pairIn table))) to (length-map (members (64 * size) (pairIn table)) pairOf ∙ pairs-count size table ∙ count)
   where
     to : (p : ℕ × ℕ) → List·Memᴰ p l → List·Memᴰ p (map pairOf (members (64 * size) (pairIn table)))
-    to p m =
-        let s = small p m in
-        let row : (64 * p .0 + p .1) / 64 ≡ p .0 = omega (arith, s .1) in
-        let col : (64 * p .0 + p .1) % 64 ≡ p .1 = omega (arith, s .1) in
-        Memᴰ·cast (λ j. (sym row j, sym col j)) (in-map pairOf (64 * p .0 + p .1) (members (64 * size) (pairIn table)) (in-members (64 * size) (pairIn table) (64 * p .0 + p .1) (omega (arith, s .0, s .1)) (ap₂ (λ (a b : ℕ). has (table a) b) row col ∙ every-elim (λ p. has (table (p .0)) (p .1) ≡ true) l there p m)))
+    to p m = let s = small p m in pair-in size table p (s .0) (s .1) (every-elim (λ p. has (table (p .0)) (p .1) ≡ true) l there p m)
 
 grants-fill : (holders : ℕ → ℕ) (l : List (ℕ × ℕ × ℕ)) → Ascending grantBefore l → ((g : ℕ × ℕ × ℕ) → List·Memᴰ g l → (g .0 < 64) × (g .1 < 16) × (g .2 < 256)) → Every (λ g. has (holders (g .1 * 256 + g .2)) (g .0) ≡ true) l → standing 4096 holders ≡ length l → map grantOf (members 262144 (grantIn holders)) ≡ l
 grants-fill holders l p small there count = fills grantBefore grant-never l (map grantOf (members 262144 (grantIn holders))) p (ascending-map _<_ grantBefore grantOf grant-up (members 262144 (grantIn holders)) (ascending-members 262144 (grantIn holders))) to (length-map (members 262144 (grantIn holders)) grantOf ∙ grants-count holders ∙ count)
   where
     to : (g : ℕ × ℕ × ℕ) → List·Memᴰ g l → List·Memᴰ g (map grantOf (members 262144 (grantIn holders)))
-    to g m =
-        let s = small g m in
-        let k : ℕ = 4096 * g .0 + (g .1 * 256 + g .2) in
-        let role : k / 4096 ≡ g .0 = omega (arith, s .0, s .1, s .2) in
-        let all : k % 4096 ≡ g .1 * 256 + g .2 = omega (arith, s .0, s .1, s .2) in
-        let operation : k % 4096 / 256 ≡ g .1 = omega (arith, s .0, s .1, s .2) in
-        let object : k % 256 ≡ g .2 = omega (arith, s .0, s .1, s .2) in
-        Memᴰ·cast (λ j. (sym role j, sym operation j, sym object j)) (in-map grantOf k (members 262144 (grantIn holders)) (in-members 262144 (grantIn holders) k (omega (arith, s .0, s .1, s .2)) (ap₂ (λ (a b : ℕ). has (holders a) b) all role ∙ every-elim (λ g. has (holders (g .1 * 256 + g .2)) (g .0) ≡ true) l there g m)))
+    to g m = let s = small g m in grant-in holders g (s .0) (s .1) (s .2) (every-elim (λ g. has (holders (g .1 * 256 + g .2)) (g .0) ≡ true) l there g m)
 
 -- A policy that agrees with sections of the form has these as its file.
 pub agrees-file : (m : Model) (f : Sections) → Formed m → OfTheForm f → Agrees m f → encode m ≡ bytesOf f
@@ -78,12 +67,12 @@ seen m f = (
     members 64 (has (m .roles)),
     (
       m .lineCount
-      ∷ m .assignmentCount
-      ∷ m .grantCount
-      ∷ bit (all (λ p. has (m .juniors (p .0)) (p .1)) (f .lines))
-      ∷ bit (all (λ p. has (m .assigned (p .0)) (p .1)) (f .assignments))
-      ∷ bit (all (λ g. has (m .holders (g .1 * 256 + g .2)) (g .0)) (f .grants))
-      ∷ [],
+          ∷ m .assignmentCount
+          ∷ m .grantCount
+          ∷ bit (all (λ p. has (m .juniors (p .0)) (p .1)) (f .lines))
+          ∷ bit (all (λ p. has (m .assigned (p .0)) (p .1)) (f .assignments))
+          ∷ bit (all (λ g. has (m .holders (g .1 * 256 + g .2)) (g .0)) (f .grants))
+          ∷ [],
       (
         map (setEntryOf (m .ssd)) (members 16 (λ n. m .ssd n .there)),
         (

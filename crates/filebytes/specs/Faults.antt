@@ -7,7 +7,7 @@ use Prim.Native.Nat.{ℕ, _<_}
 use lib.ListN.{length}
 use Rattle.filebytes.specs.Sections.{SetEntry, SessionEntry, Sections, Listed, pairBefore, grantBefore}
 
--- "a wrong order": somewhere an entry follows another that does not come before it
+-- "a wrong order": somewhere an entry is followed by one that it does not come before.
 pub record Disordered {A : Type 0} (Before : A → A → Type 0) (list : List A) : Type 0 where
   pub front : List A
   pub one : A
@@ -16,7 +16,7 @@ pub record Disordered {A : Type 0} (Before : A → A → Type 0) (list : List A)
   pub stand : list ≡ front ++ (one ∷ next ∷ rest)
   pub wrong : Before one next → ⊥
 
--- a list of roles inside an entry of a set or a session
+-- The faults of a list of roles inside an entry of a set or a session.
 pub data ListFault (f : Sections) (list : List ℕ) : Type 0 where
   -- "a count .. beyond its limit"
   too-long : 64 < length list → ListFault f list
@@ -25,18 +25,19 @@ pub data ListFault (f : Sections) (list : List ℕ) : Type 0 where
   -- "naming a .. role not listed"
   not-listed : (r : ℕ) → Listed r list → (Listed r (f .roles) → ⊥) → ListFault f list
 
--- an entry of a set
+-- The faults of an entry of a set.
 pub data SetFault (f : Sections) (e : SetEntry) : Type 0 where
   -- "a .. number beyond its limit"
   name-beyond : 15 < e .name → SetFault f e
   in-members : ListFault f (e .members) → SetFault f e
 
--- an entry of a session
+-- The faults of an entry of a session.
 pub data SessionFault (f : Sections) (e : SessionEntry) : Type 0 where
   number-beyond : 63 < e .number → SessionFault f e
   owner-unlisted : (Listed (e .owner) (f .users) → ⊥) → SessionFault f e
   in-active : ListFault f (e .active) → SessionFault f e
 
+-- The faults of the sections.
 pub data Fault (f : Sections) : Type 0 where
   -- "a count .. beyond its limit"
   many-users : 256 < length (f .users) → Fault f
@@ -67,7 +68,7 @@ pub data Fault (f : Sections) : Type 0 where
   user-unlisted : (a : ℕ × ℕ) → List·Memᴰ a (f .assignments) → (Listed (a .0) (f .users) → ⊥) → Fault f
   role-unlisted : (a : ℕ × ℕ) → List·Memᴰ a (f .assignments) → (Listed (a .1) (f .roles) → ⊥) → Fault f
   holder-unlisted : (g : ℕ × ℕ × ℕ) → List·Memᴰ g (f .grants) → (Listed (g .0) (f .roles) → ⊥) → Fault f
-  -- and the faults inside an entry
+  -- A fault inside an entry of a set or a session.
   in-ssd : (e : SetEntry) → List·Memᴰ e (f .ssd) → SetFault f e → Fault f
   in-dsd : (e : SetEntry) → List·Memᴰ e (f .dsd) → SetFault f e → Fault f
   in-sessions : (e : SessionEntry) → List·Memᴰ e (f .sessions) → SessionFault f e → Fault f

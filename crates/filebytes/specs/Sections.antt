@@ -38,16 +38,16 @@ pub record Sections : Type 0 where
 abbrev pub number : ℕ → List ℕ
 number x = x % 256 ∷ x / 256 % 256 ∷ []
 
--- the entries one after another, each as it is written
+-- The entries one after another, each as it is written.
 unfoldable pub entries : {A : Type 0} → (A → List ℕ) → List A → List ℕ
 entries write [] = []
 entries write (a ∷ rest) = write a ++ entries write rest
 
--- "each after its count": how many entries there are, and then the entries
+-- "each after its count": how many entries there are, and then the entries.
 unfoldable pub listing : {A : Type 0} → (A → List ℕ) → List A → List ℕ
 listing write list = number (length list) ++ entries write list
 
--- an entry: its numbers in the order in which the paper names them
+-- An entry: its numbers in the order in which the paper names them.
 abbrev pub pair : ℕ × ℕ → List ℕ
 pair p = number (p .0) ++ number (p .1)
 
@@ -60,7 +60,7 @@ set e = number (e .name) ++ (number (e .cardinality) ++ listing number (e .membe
 abbrev pub session : SessionEntry → List ℕ
 session e = number (e .number) ++ (number (e .owner) ++ listing number (e .active))
 
--- the whole file: the eight sections, one after another
+-- The whole file: the eight sections, one after another.
 unfoldable pub bytesOf : Sections → List ℕ
 bytesOf f =
     listing number (f .users)
@@ -74,37 +74,38 @@ bytesOf f =
 
 -- ---- when it is of the form
 
--- every entry of the list is so
+-- Every entry of the list is so.
 abbrev pub Every : {A : Type 0} → (A → Type 0) → List A → Type 0
 Every P [] = Unit
 Every P (a ∷ rest) = P a × Every P rest
 
--- "strictly ascending": every entry comes before each of those that follow it
+-- "strictly ascending": every entry comes before each of those that follow it.
 abbrev pub Ascending : {A : Type 0} → (A → A → Type 0) → List A → Type 0
 Ascending Before [] = Unit
 Ascending Before (a ∷ rest) = Every (Before a) rest × Ascending Before rest
 
 -- A section or an inner list: "a count or number beyond its limit .., a wrong order, an entry naming a user or role not listed" are its faults.
 pub record Good {A : Type 0} (limit : ℕ) (Fine : A → Type 0) (Before : A → A → Type 0) (list : List A) : Type 0 where
-  -- there are at most so many entries,
+  -- There are at most so many entries.
   pub count : length list ≤ limit
-  -- every entry is fine by itself: no number beyond its limit, and whom it names is listed
+  -- Every entry is fine by itself: none of its numbers is beyond its limit, and the users and roles that it names are listed.
   pub each : Every Fine list
-  -- and each comes before those that follow it
+  -- Each entry comes before those that follow it.
   pub order : Ascending Before list
 
--- the number is in the list
+-- The number is in the list.
 abbrev pub Listed : ℕ → List ℕ → Type 0
 Listed k list = List·Memᴰ k list
 
--- "compared by its leading numbers": the first number is lower; or it is the same, and the one after it is lower; and so on
+-- "compared by its leading numbers": the first number is lower; or it is the same and the second is lower; or both are the same and the third is
+-- lower.
 abbrev pub pairBefore : ℕ × ℕ → ℕ × ℕ → Type 0
 pairBefore p q = (p .0 < q .0) ⊎ ((p .0 ≡ q .0) × (p .1 < q .1))
 
 abbrev pub grantBefore : ℕ × ℕ × ℕ → ℕ × ℕ × ℕ → Type 0
 grantBefore p q = (p .0 < q .0) ⊎ ((p .0 ≡ q .0) × ((p .1 < q .1) ⊎ ((p .1 ≡ q .1) × (p .2 < q .2))))
 
--- a list of roles: at most 64, each of them listed, strictly ascending
+-- A list of roles inside an entry: at most 64, each of them listed in the section of roles, strictly ascending.
 abbrev pub RoleList : Sections → List ℕ → Type 0
 RoleList f list = Good 64 (λ r. Listed r (f .roles)) _<_ list
 
@@ -134,11 +135,11 @@ pub record OfTheForm (f : Sections) : Type 0 where
 
 -- ---- what can be written at all
 
--- at most 65,535 entries, since their count is a sixteen-bit number, and every entry such that it can be written
+-- A list that can be written: at most 65,535 entries, since their count is a sixteen-bit number, each of which can be written.
 abbrev pub Writable : {A : Type 0} → (A → Type 0) → List A → Type 0
 Writable Fits list = (length list < 65536) × Every Fits list
 
--- a sixteen-bit number
+-- The number is a sixteen-bit number.
 abbrev pub Fits : ℕ → Type 0
 Fits x = x < 65536
 

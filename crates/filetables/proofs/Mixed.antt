@@ -12,7 +12,6 @@ use Rattle.model.specs.Sheet.{Told, verdict, settle, done, refused}
 use Rattle.model.specs.Words.{breaks, breaksSome, staticBroken, dynamicBroken}
 use Rattle.model.specs.commands.Inheriting.{usersCut}
 use Rattle.sound.proofs.Sheet.{settle-done, settle-refused}
-use Rattle.policyform.specs.Encode.{encode}
 use Rattle.policyform.specs.Form.{FileOf}
 use Rattle.policyform.specs.Promises.{Loads}
 use Rattle.policyform.specs.Rules.{badSet, unauthorised, rulesBroken}

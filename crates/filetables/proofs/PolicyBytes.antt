@@ -1,5 +1,4 @@
 -- The tables hold. Assumes nothing.
-use mathlib.Core.Path.{refl}
 use Rattle.model.specs.Model.{empty}
 use Rattle.sound.proofs.Empty.{empty-sound}
 use Rattle.policyfile.proofs.Laws.{empty-file}

@@ -1,12 +1,11 @@
 -- Where the file of a reachable policy is known, so is what saving and loading it tell. Assumes nothing.
 use mathlib.Core.List.{List, [], _∷_, _++_}
 use mathlib.Core.Logic.{inl, inr}
-use mathlib.Core.Path.{_≡_, refl, sym, ap, ap₂, subst, _∙_}
+use mathlib.Core.Path.{_≡_, sym, ap, ap₂, subst, _∙_}
 use Prim.Native.Nat.{ℕ, _≤_, _<_}
 use native.Mathlib.Omega.{arith}
 use lib.ListN.{length, drop}
 use Rattle.model.specs.Model.{Model}
-use Rattle.model.specs.Sheet.{Told, done}
 use Rattle.model.specs.Sound.{Sound}
 use Rattle.policyform.specs.Encode.{encode}
 use Rattle.policyform.specs.Promises.{Saves, Loads}

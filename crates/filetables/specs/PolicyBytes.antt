@@ -117,19 +117,21 @@ NoRoomFor m bytes = (out after : List ℕ) (answer size : ℕ) → length out < 
 abbrev pub LoadedAs : List ℕ → Model → Type 0
 LoadedAs bytes m = (before : Model) (told : Told) → Loads before bytes told → told ≡ done [] m
 
--- the bytes are the policy's file, in each way that this can be asked
+-- The bytes are the policy's file, in each way that this can be asked.
 pub record FileIs (m : Model) (bytes : List ℕ) : Type 0 where
   pub saved : SavedAs m bytes
   pub short : NoRoomFor m bytes
   pub loaded : LoadedAs bytes m
 
 pub record PolicyBytes : Type 0 where
+  -- P12: the empty policy saved is sixteen zero bytes.
   pub empty-file : FileIs empty (bytesIn emptyFile)
+  -- The bench policy has the first table as its file.
   pub bench-file : FileIs atTheBench (bytesIn benchFile)
-  -- a policy of ours that holds what the second table lists has that file, and loading it gives such a policy
+  -- A policy of ours that holds what the sections above list has the second table as its file, and loading that gives such a policy.
   pub mixed-file : (m : Model) → Reachable m → Says mixedSections m → FileIs m (bytesIn mixedFile)
   pub mixed-loaded : (before : Model) (told : Told) → Loads before (bytesIn mixedFile) told → (told .answer ≡ 0) × Says mixedSections (told .after)
-  -- the third is the file of a policy whose set 3 has the cardinality 258, and no other; it is refused with 7, and nothing changes
+  -- The third table is a file, and only of a policy whose static set 3 has the cardinality 258. Loading it is refused with 7, and nothing changes.
   pub wide-file : (m : Model) × FileOf m (bytesIn wideFile)
   pub wide-number : (m : Model) → FileOf m (bytesIn wideFile) → (m .ssd 3 .there ≡ true) × (m .ssd 3 .card ≡ 258)
   pub wide-refused : (before : Model) (told : Told) → Loads before (bytesIn wideFile) told → told ≡ refused 7 before

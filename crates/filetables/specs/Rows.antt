@@ -4,11 +4,11 @@ use Prim.Native.Nat.{ℕ}
 use Prim.Native.String.{String}
 
 infixl 90 _⇒_
--- what is written, in words, and its bytes
+-- A row: what is written, in words, and its bytes.
 pub data Row : Type 0 where
   _⇒_ : String → List ℕ → Row
 
--- the bytes of all rows, one after another
+-- The bytes of all rows, one after another.
 abbrev pub bytesIn : List Row → List ℕ
 bytesIn [] = []
 bytesIn ((words ⇒ bytes) ∷ rest) = bytes ++ bytesIn rest

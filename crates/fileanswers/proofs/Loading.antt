@@ -1,6 +1,6 @@
 -- Loading answers as the paper says. Assumes nothing.
 use mathlib.Core.Bool.{false}
-use mathlib.Core.List.{List, [], _∷_}
+use mathlib.Core.List.{List, []}
 use mathlib.Core.Logic.{inl, inr, _↔_}
 use mathlib.Core.Path.{_≡_, refl, sym, ap, subst, _∙_}
 use Prim.Native.Nat.{ℕ}
@@ -16,12 +16,15 @@ use Rattle.policyform.specs.Form.{Formed, FileOf}
 use Rattle.policyform.specs.Rules.{rulesBroken}
 use Rattle.policyform.specs.Promises.{Loads}
 use Rattle.policyread.proofs.Whole.{file-one}
+use Rattle.filebytes.specs.Sections.{Sections, bytesOf, OfTheForm}
+use Rattle.filebytes.specs.Meaning.{Says}
 use Rattle.filebytes.specs.FileForm.{AsThePaperSays}
+use Rattle.filebytes.proofs.Listed.{form-sixteen}
 use Rattle.filebytes.proofs.FileForm.{paper-form}
 use Rattle.demands.proofs.Exact.{exact}
 use Rattle.demands.specs.Demand2.{Exactly}
-use Rattle.loading.specs.Loading.{Asked, loadRefusals, Answered, Loading}
-use Rattle.loading.proofs.Conditions.{circle-says, acyclic, asked}
+use Rattle.fileanswers.specs.Loading.{loadRefusals, Answered, Loading}
+use Rattle.fileanswers.proofs.Conditions.{circle-says, acyclic, chain-circle, asked}
 
 -- Where no role inherits itself no chain is cut off; so the list with 13 and the one without it answer alike.
 uncut : (m : Model) (f : Formed m) → circular (m .juniors) ≡ false → usersCut m ≡ false
@@ -41,6 +44,11 @@ answers before m bytes told x (inr y) = record { asked = asked m (x .formed); ex
 
     tells : told ≡ settle list before [] m
     tells = y .tells ∙ ap (λ (n : Model). settle (rulesBroken n) before [] n) (file-one bytes (y .model) m (y .file) x) ∙ alike-settle (rulesBroken m) list before [] m (alike m (x .formed))
+
+listed : (before : Model) (f : Sections) (told : Told) → OfTheForm f → Loads before (bytesOf f) told → (m : Model) × (Says f m) × Answered before m told
+listed before f told form l =
+    let q = paper-form .form-file (bytesOf f) (record { sections = f; form = form; written = refl }) in
+    (q .0, paper-form .file-says (q .0) f (form-sixteen f form) (q .1), answers before (q .0) (bytesOf f) told (q .1) l)
 
 -- ---- 14 and 13
 
@@ -63,4 +71,4 @@ never-13 before bytes told (inr y) e = not-told 13 (loadRefusals (asked (y .mode
 
 -- what loading answers, for any bytes
 pub loading : Loading
-loading = record { fourteen = fourteen; unchanged = unchanged; answers = answers; never-13 = never-13 }
+loading = record { fourteen = fourteen; unchanged = unchanged; listed = listed; answers = answers; one-policy = λ m m′ bytes. file-one bytes m m′; chains = λ m bytes x. chain-circle m (x .formed); never-13 = never-13 }

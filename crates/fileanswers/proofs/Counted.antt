@@ -1,18 +1,15 @@
 -- "As many as n of them" is what counting tells. Assumes nothing.
 use mathlib.Core.Bool.{true}
 use mathlib.Core.Logic.{_↔_}
-use mathlib.Core.Path.{_≡_, sym}
+use mathlib.Core.Path.{_≡_}
 use Prim.Native.Nat.{ℕ, _≤_, _<_, _^_}
 use native.Mathlib.Omega.{arith}
-use lib.ListN.{length}
-use Rattle.roleset.specs.Bounded.{members}
 use Rattle.roleset.specs.Roles.{has, common, count}
 use Rattle.roleset.proofs.Laws.{member-small, common-small}
 use Rattle.roleset.proofs.MembersLaws.{members-length}
 use Rattle.sound.proofs.Members.{common-member, common-intro}
-use Rattle.filebytes.specs.Sections.{Every}
 use Rattle.filebytes.proofs.Lists.{every-weaker, some-passing, passing-few}
-use Rattle.loading.specs.Loading.{AsMany}
+use Rattle.fileanswers.specs.Loading.{AsMany}
 
 pub many-weaker : (n : ℕ) (P Q : ℕ → Type 0) → ((k : ℕ) → P k → Q k) → AsMany n P → AsMany n Q
 many-weaker n P Q f a = record { numbers = a .numbers; many = a .many; different = a .different; each = every-weaker P Q f (a .numbers) (a .each) }

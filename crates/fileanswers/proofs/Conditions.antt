@@ -2,20 +2,21 @@
 use mathlib.Core.Bool.{Bool, true, false, not, _&&_, _||_}
 use mathlib.Core.List.{List, [], _∷_}
 use mathlib.Core.Logic.{_⊎_, inl, inr, _↔_}
-use mathlib.Core.Path.{_≡_, refl, sym, ap, _∙_}
+use mathlib.Core.Path.{_≡_, refl, ap, _∙_}
 use Prim.Native.Nat.{ℕ, _≤_, _<_, _^_}
 use native.Mathlib.Decide.{decLt}
 use native.Mathlib.Omega.{arith}
 use lib.Dec.{ltb}
 use lib.ListN.{length}
-use borrow.Author.Tests.{ltb-true, lt-ltb}
+use borrow.Author.Tests.{ltb-true, lt-ltb, eq-eqb}
 use Rattle.roleset.specs.Bounded.{some}
-use Rattle.roleset.specs.Roles.{has, subset, common, count}
+use Rattle.roleset.specs.Roles.{has, subset, common, count, with, none}
 use Rattle.roleset.proofs.BoundedLaws.{clash, never, not-yes, yes-not, and-left, and-right, and-both, or-cases, or-left, or-right, some-elim, some-intro}
-use Rattle.roleset.proofs.Laws.{has-none, member-small, subset-true, subset-false}
-use Rattle.hierarchy.specs.Lines.{Small, Acyclic}
+use Rattle.roleset.proofs.Laws.{has-none, has-with, member-small, subset-true, subset-false}
+use Rattle.hierarchy.specs.Lines.{Small, Acyclic, Chain, down}
 use Rattle.hierarchy.specs.Walks.{circular}
-use Rattle.hierarchy.proofs.CircleLaws.{circular-sound, circular-complete}
+use Rattle.hierarchy.proofs.CircleLaws.{circular-sound, circular-complete, cut-circle}
+use Rattle.hierarchy.proofs.WalkLaws.{cut-complete}
 use Rattle.model.specs.Model.{Model, RoleSet, Session}
 use Rattle.model.specs.Words.{authorised, breaks, breaksSome, staticBroken, dynamicBroken}
 use Rattle.model.specs.commands.Sets.{setsOf, badCardinality}
@@ -26,9 +27,9 @@ use Rattle.policyform.specs.Form.{SetForm, Formed}
 use Rattle.policyform.specs.Rules.{badSet, unauthorised}
 use Rattle.filebytes.specs.Sections.{Every}
 use Rattle.demands.specs.Authorised.{InOrBelow, Authorised}
-use Rattle.loading.specs.Loading.{AsMany, Circle, BadCardinality, NotAuthorised, StaticBroken, DynamicBroken, Clear, Asked}
-use Rattle.loading.proofs.Bare.{authorised-formed}
-use Rattle.loading.proofs.Counted.{as-many, many-common}
+use Rattle.fileanswers.specs.Loading.{AsMany, Circle, BadCardinality, NotAuthorised, StaticBroken, DynamicBroken, Clear, Asked}
+use Rattle.fileanswers.proofs.Bare.{authorised-formed}
+use Rattle.fileanswers.proofs.Counted.{as-many, many-common}
 
 -- one of so many
 first-of : (n : ℕ) (P : ℕ → Type 0) → 0 < n → AsMany n P → (k : ℕ) × P k
@@ -48,7 +49,15 @@ module _ (m : Model) (f : Formed m) where
   circle-says = ((λ e. let q = circular-sound (m .juniors) e in record { role = q .0; itself = q .1 }), (λ x. circular-complete (m .juniors) lines-small (x .role) (x .itself)))
 
   pub acyclic : (Circle m → ⊥) → Acyclic (m .juniors)
-  acyclic none = record { never = λ r i. none (record { role = r; itself = i }) }
+  acyclic clear = record { never = λ r i. clear (record { role = r; itself = i }) }
+
+  -- a chain of 65 roles among 64 goes in a circle
+  pub chain-circle : (r : ℕ) → Chain (m .juniors) 65 r → Circle m
+  chain-circle r (down h c) =
+      let small = lines-small .within r _ h .0 in
+      let cut = cut-complete (m .juniors) (with none r) lines-small (record { role = r; small = small; member = has-with none r r small ∙ or-right (has none r) _ (eq-eqb r r refl); chain = down h c }) in
+      let q = cut-circle (m .juniors) (with none r) cut in
+      record { role = q .0; itself = q .1 }
 
   -- ---- 7
 

@@ -7,19 +7,20 @@ use mathlib.Core.Path.{_≡_}
 use Prim.Native.Nat.{ℕ, _<_}
 use lib.ListN.{length}
 use Rattle.roleset.specs.Roles.{has}
-use Rattle.hierarchy.specs.Lines.{Inherits}
+use Rattle.hierarchy.specs.Lines.{Inherits, Chain}
 use Rattle.model.specs.Model.{Model}
 use Rattle.model.specs.Sheet.{Refusal, _when_, Told, refused}
 use Rattle.model.specs.commands.Sets.{setsOf}
 use Rattle.model.specs.declared.Kind.{Kind}
 use Rattle.policyform.specs.Form.{FileOf}
 use Rattle.policyform.specs.Promises.{Loads}
-use Rattle.filebytes.specs.Sections.{Every, Ascending}
+use Rattle.filebytes.specs.Sections.{Sections, bytesOf, Every, Ascending, OfTheForm}
+use Rattle.filebytes.specs.Meaning.{Says}
 use Rattle.filebytes.specs.FileForm.{AsThePaperSays}
 use Rattle.demands.specs.Authorised.{Authorised}
 use Rattle.demands.specs.Demand2.{Exactly}
 
--- as many as n different numbers are so: a strictly ascending list of n numbers, each of which is so
+-- As many as n different numbers are so: there is a strictly ascending list of n numbers, each of which is so.
 pub record AsMany (n : ℕ) (So : ℕ → Type 0) : Type 0 where
   pub numbers : List ℕ
   pub many : length numbers ≡ n
@@ -28,19 +29,20 @@ pub record AsMany (n : ℕ) (So : ℕ → Type 0) : Type 0 where
 
 -- ---- what a file of the form may break
 
--- 6: "a role would inherit itself"
+-- 6: "a role would inherit itself": some role inherits itself. A line from a role to itself is such a chain.
 pub record Circle (m : Model) : Type 0 where
   pub role : ℕ
   pub itself : Inherits (m .juniors) role role
 
--- 7: "a cardinality would be below 2 or above its set's size": some set, static or dynamic, has not as many roles as its cardinality
+-- 7: "a cardinality would be below 2 or above its set's size": the cardinality of some set, static or dynamic, is below 2, or the set has not as
+-- many roles.
 pub record BadCardinality (m : Model) : Type 0 where
   pub kind : Kind
   pub name : ℕ
   pub there : setsOf kind m name .there ≡ true
   pub bad : (setsOf kind m name .card < 2) ⊎ (AsMany (setsOf kind m name .card) (λ r. has (setsOf kind m name .roles) r ≡ true) → ⊥)
 
--- 9: "the owner is not authorised for an asked role": some open session has an active role that its owner is not authorised for
+-- 9: "the owner is not authorised for an asked role": some open session has an active role that its owner is not authorised for.
 pub record NotAuthorised (m : Model) : Type 0 where
   pub session : ℕ
   pub role : ℕ
@@ -48,7 +50,7 @@ pub record NotAuthorised (m : Model) : Type 0 where
   pub active : has (m .sessions session .active) role ≡ true
   pub not-authorised : Authorised m (m .sessions session .owner) role → ⊥
 
--- 10: "an SSD rule would be broken for some user": some user is authorised for as many roles of a static set as its cardinality
+-- 10: "an SSD rule would be broken for some user": some user is authorised for as many roles of a static set as its cardinality.
 pub record StaticBroken (m : Model) : Type 0 where
   pub user : ℕ
   pub name : ℕ
@@ -56,7 +58,7 @@ pub record StaticBroken (m : Model) : Type 0 where
   pub there : m .ssd name .there ≡ true
   pub many : AsMany (m .ssd name .card) (λ r. (has (m .ssd name .roles) r ≡ true) × Authorised m user r)
 
--- 11: "a DSD rule would be broken in some session": some session has as many roles of a dynamic set active as its cardinality
+-- 11: "a DSD rule would be broken in some session": some session has as many roles of a dynamic set active as its cardinality.
 pub record DynamicBroken (m : Model) : Type 0 where
   pub session : ℕ
   pub name : ℕ
@@ -66,7 +68,7 @@ pub record DynamicBroken (m : Model) : Type 0 where
 
 -- ---- the answers
 
--- neither 6 nor 7 applies
+-- Neither 6 nor 7 applies.
 abbrev pub Clear : Model → Type 0
 Clear m = (Circle m → ⊥) × (BadCardinality m → ⊥)
 
@@ -83,7 +85,7 @@ pub record Asked (m : Model) : Type 0 where
   pub dynamic : Bool
   pub dynamic-says : Clear m → (dynamic ≡ true) ↔ DynamicBroken m
 
--- "Then 6 .., 7, 9, 10, 11". 13 is not on the list: a chain of more than 64 roles is a circle, which is 6
+-- "Then 6 .., 7, 9, 10, 11". 13 is not on the list: a chain of more than 64 roles is a circle, which is 6.
 abbrev pub loadRefusals : {m : Model} → Asked m → List Refusal
 loadRefusals asked =
     6 when asked .circle
@@ -93,18 +95,26 @@ loadRefusals asked =
     ∷ 11 when asked .dynamic
     ∷ []
 
--- the answers that are told exactly by this list: a number exactly when it is the first of the list that applies, and nothing changes then; 0
--- exactly when none applies, and then the policy and sessions are those of the file
+-- Exactly what this list says is told: a number where it is the first of the list that applies, and then nothing changes; 0 where none applies,
+-- and then the policy and sessions are those of the file.
 pub record Answered (before m : Model) (told : Told) : Type 0 where
   pub asked : Asked m
   pub exactly : Exactly before (loadRefusals asked) [] m told
 
 pub record Loading : Type 0 where
-  -- 14 is answered exactly when the bytes are not of the form that the paper says,
+  -- 14 is answered exactly when the bytes are not of the form that the paper says.
   pub fourteen : (before : Model) (bytes : List ℕ) (told : Told) → Loads before bytes told → (told .answer ≡ 14) ↔ (AsThePaperSays bytes → ⊥)
-  -- and it changes nothing
+  -- 14 changes nothing.
   pub unchanged : (before : Model) (bytes : List ℕ) (told : Told) → Loads before bytes told → told .answer ≡ 14 → told ≡ refused 14 before
-  -- the file of a policy gets the first of 6, 7, 9, 10 and 11 that applies to this policy; or it is loaded, and the policy is this one
+  -- Sections of the form, written and loaded, get the first of 6, 7, 9, 10 and 11 that applies to the policy that they list, or they are loaded and
+  -- this policy is there.
+  pub listed : (before : Model) (f : Sections) (told : Told) → OfTheForm f → Loads before (bytesOf f) told → (m : Model) × (Says f m) × Answered before m told
+  -- The same, of the file of any policy: it gets the first of 6, 7, 9, 10 and 11 that applies to this policy, or it is loaded
+  -- and the policy is this one.
   pub answers : (before m : Model) (bytes : List ℕ) (told : Told) → FileOf m bytes → Loads before bytes told → Answered before m told
-  -- no load answers 13
+  -- A file is the file of one policy only.
+  pub one-policy : (m m′ : Model) (bytes : List ℕ) → FileOf m bytes → FileOf m′ bytes → m ≡ m′
+  -- A chain of more than 64 roles goes in a circle, which is 6.
+  pub chains : (m : Model) (bytes : List ℕ) → FileOf m bytes → (r : ℕ) → Chain (m .juniors) 65 r → Circle m
+  -- No load answers 13.
   pub never-13 : (before : Model) (bytes : List ℕ) (told : Told) → Loads before bytes told → told .answer ≡ 13 → ⊥

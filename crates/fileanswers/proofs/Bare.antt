@@ -1,6 +1,6 @@
 -- A policy that may stand in a file, without its sets and sessions, is sound if no role inherits itself; so whom it is authorised for is what the
 -- paper says. Assumes nothing.
-use mathlib.Core.Bool.{true, false}
+use mathlib.Core.Bool.{true}
 use mathlib.Core.Logic.{_↔_}
 use mathlib.Core.Path.{_≡_, refl}
 use Prim.Native.Nat.{ℕ}

@@ -1,4 +1,0 @@
-pub mod Bare
-pub mod Counted
-pub mod Conditions
-pub mod Loading
