@@ -1,12 +1,10 @@
 -- The edges: a line of text at each limit of the paper and one just past it, each beside what it prints. Assumes nothing.
 use mathlib.Core.List.{List, [], _∷_, _++_}
 use mathlib.Core.Path.{_≡_}
-use Prim.Native.Nat.{ℕ}
 use Prim.Native.String.{String}
 use lib.ListN.{length}
-use Rattle.model.specs.Model.{empty}
 use Rattle.words.specs.Bytes.{bytes}
-use Rattle.transcripts.specs.Rows.{Row, _⇒_, Answered}
+use Rattle.transcripts.specs.Rows.{Row, _⇒_, Prints}
 
 -- "Users are 0 to 255, roles 0 to 63, sessions 0 to 63 .. Operations 0 to 15 and objects 0 to 255": beyond that a number is answered 1, in every
 -- command and in every question
@@ -326,12 +324,12 @@ openSessions =
     "session 7" ⇒ "12" ∷
     []
 
--- Each script, from the empty policy on, prints what stands beside its lines.
+-- Each script prints what stands beside its lines, and the total.
 pub record Edges : Type 0 where
-  pub numbers : Answered empty (numbers ++ removals)
-  pub sets : Answered empty sets
-  pub lists : Answered empty lists
-  pub forms : Answered empty forms
-  pub long : Answered empty (bytes512 ⇒ "1" ∷ bytes513 ⇒ "14" ∷ [])
+  pub numbers : Prints (numbers ++ removals) "total 23 51"
+  pub sets : Prints sets "total 19 36"
+  pub lists : Prints lists "total 9 12"
+  pub forms : Prints forms "total 2 26"
+  pub long : Prints (bytes512 ⇒ "1" ∷ bytes513 ⇒ "14" ∷ []) "total 0 2"
   pub lengths : (length (bytes bytes512) ≡ 512) × (length (bytes bytes513) ≡ 513)
-  pub openSessions : Answered empty openSessions
+  pub openSessions : Prints openSessions "total 70 4"
