@@ -1,6 +1,6 @@
 -- The edges, by computation over the script's definition: each line is obeyed and compared by a test. Assumes nothing.
 use mathlib.Core.Bool.{true}
-use mathlib.Core.List.{[], _∷_, _++_}
+use mathlib.Core.List.{_++_}
 use mathlib.Core.Path.{_≡_, refl}
 use Rattle.roleset.specs.Bounded.{some, every, tally, total, members}
 use Rattle.roleset.specs.Roles.{has, pack, those, with, without, union, common, minus, subset, isEmpty, count}
@@ -23,9 +23,8 @@ use Rattle.textlines.specs.Parts.{partsOf, upTo}
 use Rattle.reading.specs.Form.{render, wordIn, numbersIn, parse}
 use Rattle.meaning.specs.Meaning.{meanings, meant}
 use Rattle.script.specs.Script.{obey, answerText, totalText}
-use Rattle.transcripts.specs.Rows.{_⇒_}
 use Rattle.transcripts.proofs.Scripts.{plain, tallies, rightLines, noFeed, noFeeds, rightScript, prints-rows}
-use Rattle.edges.specs.Edges.{numbers, removals, sets, lists, forms, bytes512, bytes513, openSessions, Edges}
+use Rattle.edges.specs.Edges.{numbers, removals, sets, lists, forms, longLines, openSessions, Edges}
 
 numbers-right : rightScript (plain (numbers ++ removals)) "total 23 51" ≡ true
 unfolding some every tally total members has pack those with without union common minus subset isEmpty count juniorsOf joined walk reach turned atOrAbove rising someFrom listed setOf empty put ask assignedUsers assignedRoles authUsers authRoles sessionRoles roleOps userOps setNames setRoles setCount verdict settle step breaks breaksSome staticBroken dynamicBroken shedded shed shedCut sessionsOpen user role nouser norole inSet endedOf allEnded withoutUser withoutRole assign assigned deassign deassigned grant granted revoke revoked inherit lined usersCut disinherit unlined broken makeSet dropSet addMember dropMember setCardinality freeFrom opened session activeSet activate drop end permitted check decimal lead numbered takenFrom same words spelling takes placeIn which partsOf upTo render wordIn numbersIn parse meanings meant obey answerText totalText tallies rightLines noFeed noFeeds rightScript
@@ -47,9 +46,9 @@ openSessions-right : rightScript (plain openSessions) "total 70 4" ≡ true
 unfolding some every tally total members has pack those with without union common minus subset isEmpty count juniorsOf joined walk reach turned atOrAbove rising someFrom listed setOf empty put ask assignedUsers assignedRoles authUsers authRoles sessionRoles roleOps userOps setNames setRoles setCount verdict settle step breaks breaksSome staticBroken dynamicBroken shedded shed shedCut sessionsOpen user role nouser norole inSet endedOf allEnded withoutUser withoutRole assign assigned deassign deassigned grant granted revoke revoked inherit lined usersCut disinherit unlined broken makeSet dropSet addMember dropMember setCardinality freeFrom opened session activeSet activate drop end permitted check decimal lead numbered takenFrom same words spelling takes placeIn which partsOf upTo render wordIn numbersIn parse meanings meant obey answerText totalText tallies rightLines noFeed noFeeds rightScript
 openSessions-right = refl
 
-long-right : rightScript (plain (bytes512 ⇒ "1" ∷ bytes513 ⇒ "14" ∷ [])) "total 0 2" ≡ true
+longLines-right : rightScript (plain longLines) "total 0 2" ≡ true
 unfolding some every tally total members has pack those with without union common minus subset isEmpty count juniorsOf joined walk reach turned atOrAbove rising someFrom listed setOf empty put ask assignedUsers assignedRoles authUsers authRoles sessionRoles roleOps userOps setNames setRoles setCount verdict settle step breaks breaksSome staticBroken dynamicBroken shedded shed shedCut sessionsOpen user role nouser norole inSet endedOf allEnded withoutUser withoutRole assign assigned deassign deassigned grant granted revoke revoked inherit lined usersCut disinherit unlined broken makeSet dropSet addMember dropMember setCardinality freeFrom opened session activeSet activate drop end permitted check decimal lead numbered takenFrom same words spelling takes placeIn which partsOf upTo render wordIn numbersIn parse meanings meant obey answerText totalText tallies rightLines noFeed noFeeds rightScript
-long-right = refl
+longLines-right = refl
 
 pub edges : Edges
 edges =
@@ -58,7 +57,7 @@ edges =
       sets = prints-rows sets "total 19 36" sets-right;
       lists = prints-rows lists "total 9 12" lists-right;
       forms = prints-rows forms "total 2 26" forms-right;
-      long = prints-rows (bytes512 ⇒ "1" ∷ bytes513 ⇒ "14" ∷ []) "total 0 2" long-right;
+      longLines = prints-rows longLines "total 0 2" longLines-right;
       lengths = (refl, refl);
       openSessions = prints-rows openSessions "total 70 4" openSessions-right;
     }
