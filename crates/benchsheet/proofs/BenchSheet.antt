@@ -1,8 +1,13 @@
 -- The bench sheet, by computation over the script's definition: each line is obeyed and compared by a test, so that a wrong row shows at once.
 -- Assumes nothing.
 use mathlib.Core.Bool.{Bool, true, _&&_}
-use mathlib.Core.List.{List, [], _∷_}
-use mathlib.Core.Path.{_≡_, refl}
+use mathlib.Core.List.{List, [], _∷_, _++_}
+use mathlib.Core.Logic.{⊎-elim}
+use mathlib.Core.Path.{_≡_, refl, ap, _∙_}
+use Prim.Native.Nat.{ℕ, _≤_}
+use native.Mathlib.Omega.{arith}
+use lib.ListN.{length, drop}
+use lib.Seq.{sets, sets-eq}
 use Rattle.roleset.specs.Bounded.{some, every, tally, total, members}
 use Rattle.roleset.specs.Roles.{has, pack, those, with, without, union, common, minus, subset, isEmpty, count}
 use Rattle.hierarchy.specs.Walks.{juniorsOf, joined, walk, reach}
@@ -27,9 +32,10 @@ use Rattle.meaning.specs.Meaning.{meanings, meant}
 use Rattle.script.specs.Script.{obey, answerText}
 use Rattle.transcripts.specs.Rows.{Row, _⇒_, afterRows}
 use Rattle.transcripts.proofs.Rows.{tells, rightThen, right, answered-then, answered}
+use Rattle.policyform.specs.Promises.{Saves}
 use Rattle.policyfile.proofs.Laws.{empty-file}
 use Rattle.benchsheet.specs.Lines.{afterwards, firstTen, atTheBench}
-use Rattle.benchsheet.specs.BenchSheet.{firstTenLines, Labelled, P, sheet, EachAnswered, Bench}
+use Rattle.benchsheet.specs.BenchSheet.{firstTenLines, Labelled, P, sheet, EachAnswered, sixteenZeroBytes, Bench}
 
 -- each row passes the test
 unfoldable each : List Labelled → Model → Bool
@@ -51,9 +57,16 @@ same-policy : (m : Model) → afterRows m firstTenLines ≡ afterwards m firstTe
 unfolding lead decimal numbered takenFrom same words spelling takes placeIn which partsOf upTo render wordIn numbersIn parse meanings meant obey afterRows afterwards
 same-policy m = refl
 
+-- P12, through what saving promises
+saved : (out after : List ℕ) (answer size : ℕ) → 16 ≤ length out → Saves empty out after answer size → (answer ≡ 0) × (size ≡ 16) × (after ≡ sixteenZeroBytes ++ drop 16 out)
+saved out after answer size room =
+    ⊎-elim
+    (λ x. absurd (let short = x .short in omega (arith, ap length empty-file)))
+    (λ x. (x .answered, x .long ∙ ap length empty-file, x .stored ∙ ap (sets out 0) empty-file ∙ sets-eq sixteenZeroBytes out 0 (omega arith)))
+
 -- P1 to P12
 pub bench-sheet : Bench
 unfolding atTheBench
 bench-sheet =
     let c = answered-then empty firstTenLines (each sheet) computed in
-    record { example = c .0; rows = each-answered _ sheet (c .1); saved = empty-file; bench = same-policy empty }
+    record { example = c .0; rows = each-answered _ sheet (c .1); saved = saved; bench = same-policy empty }

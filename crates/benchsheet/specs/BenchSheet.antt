@@ -1,10 +1,11 @@
 -- "Bench sheet to prove": P1 to P11, each from the policy after the first ten lines of the paper's example, and P12 from the empty one. A row is a
 -- line of text and the line that it prints. Assumes nothing.
-use mathlib.Core.List.{List, [], _∷_}
+use mathlib.Core.List.{List, [], _∷_, _++_}
 use mathlib.Core.Path.{_≡_}
-use Prim.Native.Nat.{ℕ}
+use Prim.Native.Nat.{ℕ, _≤_}
+use lib.ListN.{length, drop}
 use Rattle.model.specs.Model.{Model, empty}
-use Rattle.policyform.specs.Encode.{encode}
+use Rattle.policyform.specs.Promises.{Saves}
 use Rattle.transcripts.specs.Rows.{Row, _⇒_, afterRows, Answered}
 use Rattle.benchsheet.specs.Lines.{atTheBench}
 
@@ -60,7 +61,8 @@ pub record Bench : Type 0 where
   pub example : Answered empty firstTenLines
   -- P1 to P11, "each from the policy after the first ten lines above"
   pub rows : EachAnswered (afterRows empty firstTenLines) sheet
-  -- P12, "from the empty one"
-  pub saved : encode empty ≡ sixteenZeroBytes
+  -- P12, "from the empty one": where the lent buffer has room for them, what saving promises is the answer 0 with the length 16, the sixteen zero
+  -- bytes in front, and past them the buffer as it was.
+  pub saved : (out after : List ℕ) (answer size : ℕ) → 16 ≤ length out → Saves empty out after answer size → (answer ≡ 0) × (size ≡ 16) × (after ≡ sixteenZeroBytes ++ drop 16 out)
   -- The policy after the first ten lines is the one that other statements look into.
   pub bench : afterRows empty firstTenLines ≡ atTheBench

@@ -1,12 +1,10 @@
 -- The edges: a line of text at each limit of the paper and one just past it, each beside what it prints. Assumes nothing.
 use mathlib.Core.List.{List, [], _∷_, _++_}
 use mathlib.Core.Path.{_≡_}
-use Prim.Native.Nat.{ℕ}
 use Prim.Native.String.{String}
 use lib.ListN.{length}
-use Rattle.model.specs.Model.{empty}
 use Rattle.words.specs.Bytes.{bytes}
-use Rattle.transcripts.specs.Rows.{Row, _⇒_, Answered}
+use Rattle.transcripts.specs.Rows.{Row, _⇒_, Prints}
 
 -- "Users are 0 to 255, roles 0 to 63, sessions 0 to 63 .. Operations 0 to 15 and objects 0 to 255": beyond that a number is answered 1, in every
 -- command and in every question
@@ -244,6 +242,12 @@ bytes512 = "session 0 1000 10000 10001 10002 10003 10004 10005 10006 10007 10008
 abbrev pub bytes513 : String
 bytes513 = "session 10 1000 10000 10001 10002 10003 10004 10005 10006 10007 10008 10009 10010 10011 10012 10013 10014 10015 10016 10017 10018 10019 10020 10021 10022 10023 10024 10025 10026 10027 10028 10029 10030 10031 10032 10033 10034 10035 10036 10037 10038 10039 10040 10041 10042 10043 10044 10045 10046 10047 10048 10049 10050 10051 10052 10053 10054 10055 10056 10057 10058 10059 10060 10061 10062 10063 10064 10065 10066 10067 10068 10069 10070 10071 10072 10073 10074 10075 10076 10077 10078 10079 10080 10081 10082"
 
+abbrev pub longLines : List Row
+longLines =
+    bytes512 ⇒ "1" ∷
+    bytes513 ⇒ "14" ∷
+    []
+
 -- "At most .. 64 open sessions stand at once. Room freed by a removal is used again."
 abbrev pub openSessions : List Row
 openSessions =
@@ -326,12 +330,12 @@ openSessions =
     "session 7" ⇒ "12" ∷
     []
 
--- Each script, from the empty policy on, prints what stands beside its lines.
+-- Each script prints what stands beside its lines, and the total.
 pub record Edges : Type 0 where
-  pub numbers : Answered empty (numbers ++ removals)
-  pub sets : Answered empty sets
-  pub lists : Answered empty lists
-  pub forms : Answered empty forms
-  pub long : Answered empty (bytes512 ⇒ "1" ∷ bytes513 ⇒ "14" ∷ [])
+  pub numbers : Prints (numbers ++ removals) "total 23 51"
+  pub sets : Prints sets "total 19 36"
+  pub lists : Prints lists "total 9 12"
+  pub forms : Prints forms "total 2 26"
+  pub longLines : Prints longLines "total 0 2"
   pub lengths : (length (bytes bytes512) ≡ 512) × (length (bytes bytes513) ≡ 513)
-  pub openSessions : Answered empty openSessions
+  pub openSessions : Prints openSessions "total 70 4"

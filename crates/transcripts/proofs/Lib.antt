@@ -2,4 +2,5 @@ pub mod LineForm
 pub mod ScriptLines
 pub mod Program
 pub mod Rows
+pub mod Scripts
 pub mod Permissions

@@ -1,9 +1,8 @@
 -- Lists of permissions said in a way that is quick to compute: a permission that no role holds is passed over. Assumes nothing.
 use mathlib.Core.Bool.{Bool, true, false, not, _&&_}
-use mathlib.Core.List.{List, [], _∷_}
-use mathlib.Core.Path.{_≡_, refl, sym, ap, subst, _∙_}
+use mathlib.Core.List.{List}
+use mathlib.Core.Path.{_≡_, refl, ap, _∙_}
 use Prim.Native.Nat.{ℕ}
-use Prim.Native.String.{String}
 use lib.Dec.{eqb}
 use borrow.Author.Tests.{eqb-true}
 use Rattle.roleset.specs.Bounded.{members}
@@ -16,11 +15,7 @@ use Rattle.model.specs.Sheet.{Told}
 use Rattle.model.specs.Words.{reached, authorised, effective}
 use Rattle.model.specs.commands.Naming.{userBeyond, roleBeyond, sessionBeyond, userMissing, roleMissing, sessionMissing}
 use Rattle.model.specs.declared.Question.the-variants.{RolePerms, UserPerms, SessionPerms}
-use Rattle.words.specs.Bytes.{bytes, same}
-use Rattle.words.proofs.Laws.{and-true, same-equal}
-use Rattle.script.specs.Script.{room, obey, answerText}
-use Rattle.transcripts.specs.Rows.{Row, _⇒_, lineOf, afterRows, Answered, ends, prints}
-use Rattle.transcripts.proofs.Rows.{tells}
+use Rattle.script.specs.Script.{room}
 
 -- ---- the list of the permissions that some role of the set holds
 
@@ -64,29 +59,3 @@ user-told u m = ap (λ (l : List ℕ). review m room (userBeyond u) (userMissing
 pub session-told : (s : ℕ) (m : Model) → ask m room (SessionPerms (record { number = s })) ≡ sessionTold s m
 unfolding ask sessionPerms
 session-told s m = ap (λ (l : List ℕ). review m room (sessionBeyond s) (sessionMissing m s) (reached m (m .sessions s .active) .cut) l) (quick-is m (effective m s))
-
--- ---- rows whose lines tell what is said in another way
-
-pub record Said : Type 0 where
-  pub line : String
-  pub answer : String
-  pub told : Model → Told
-  pub is : (m : Model) → obey m (bytes line) ≡ told m
-
-abbrev pub rowsOf : List Said → List Row
-rowsOf [] = []
-rowsOf (x ∷ rest) = (x .line ⇒ x .answer) ∷ rowsOf rest
-
-unfoldable pub rightSaid : List Said → (Model → Bool) → Model → Bool
-rightSaid [] later m = later m
-rightSaid (x ∷ rest) later m = tells (x .told m) (x .answer) (rightSaid rest later)
-
-pub answered-said : (m : Model) (rows : List Said) (later : Model → Bool) → rightSaid rows later m ≡ true → Answered m (rowsOf rows) × (later (afterRows m (rowsOf rows)) ≡ true)
-unfolding rightSaid tells afterRows
-answered-said m [] later e = (ends, e)
-answered-said m (x ∷ rest) later e =
-    let t = obey m (bytes (x .line)) in
-    let f = subst (λ (t : Told). tells t (x .answer) (rightSaid rest later) ≡ true) (sym (x .is m)) e in
-    let p = and-true (same (answerText (t .answer) (t .results)) (lineOf (x .answer))) (rightSaid rest later (t .after)) f in
-    let q = answered-said (t .after) rest later (p .1) in
-    (prints (same-equal _ _ (p .0)) (q .0), q .1)

@@ -1,6 +1,6 @@
 -- Rows are answered where a test says so: it obeys each line once, and compares what it prints with the answer beside it. Assumes nothing.
 use mathlib.Core.Bool.{Bool, true, _&&_}
-use mathlib.Core.List.{List, [], _∷_, _++_}
+use mathlib.Core.List.{List, [], _∷_}
 use mathlib.Core.Path.{_≡_}
 use Prim.Native.String.{String}
 use Rattle.model.specs.Model.{Model}
@@ -34,9 +34,3 @@ answered-then m ((line ⇒ answer) ∷ rest) later e =
 
 pub answered : (m : Model) (rows : List Row) → right rows m ≡ true → Answered m rows
 answered m rows e = answered-then m rows (λ n. true) e .0
-
--- rows, and then more of them
-pub answered-append : (m : Model) (rows more : List Row) → Answered m rows → Answered (afterRows m rows) more → Answered m (rows ++ more)
-unfolding afterRows
-answered-append m [] more ends b = b
-answered-append m ((line ⇒ answer) ∷ rest) more (prints e a) b = prints e (answered-append _ rest more a b)

@@ -5,7 +5,7 @@ use Prim.Native.Nat.{ℕ}
 use Prim.Native.String.{String}
 use Rattle.model.specs.Model.{Model}
 use Rattle.words.specs.Bytes.{bytes}
-use Rattle.script.specs.Script.{lineFeed, obey, answerText}
+use Rattle.script.specs.Script.{lineFeed, obey, answerText, runScript}
 
 infixl 90 _⇒_
 -- a line and its answer
@@ -24,6 +24,10 @@ scriptOf ((line ⇒ answer) ∷ rest) = lineOf line ++ scriptOf rest
 abbrev pub printedFor : List Row → String → List ℕ
 printedFor [] total = lineOf total
 printedFor ((line ⇒ answer) ∷ rest) total = lineOf answer ++ printedFor rest total
+
+-- The script prints, from the empty policy on, the answer beside each line, and then the total.
+abbrev pub Prints : List Row → String → Type 0
+Prints rows total = runScript (scriptOf rows) ≡ printedFor rows total
 
 -- The policy after the lines, obeyed one after another.
 unfoldable pub afterRows : Model → List Row → Model

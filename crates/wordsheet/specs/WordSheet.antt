@@ -2,8 +2,7 @@
 -- table is false of an engine in which two words have exchanged their meanings, in which one is spelt otherwise or means what another does, or in
 -- which a word takes its numbers in another order. Assumes nothing.
 use mathlib.Core.List.{List, [], _∷_, _++_}
-use Rattle.model.specs.Model.{empty}
-use Rattle.transcripts.specs.Rows.{Row, _⇒_, Answered}
+use Rattle.transcripts.specs.Rows.{Row, _⇒_, Prints}
 
 -- `user`, `role`, `nouser`, `norole`, `assign`, `deassign`, `inherit`, `disinherit`; `assigned-users`, `assigned-roles`, `auth-users`, `auth-roles`
 abbrev pub people : List Row
@@ -244,11 +243,11 @@ oneTooMany =
     "dsd-count 1 2" ⇒ "14" ∷
     []
 
--- Each script, from the empty policy on, prints what stands beside its lines.
+-- Each script prints what stands beside its lines, and the total.
 pub record WordSheet : Type 0 where
-  pub people : Answered empty people
-  pub sessions : Answered empty sessions
-  pub permissions : Answered empty (granting ++ (permissions ++ revoking))
-  pub sets : Answered empty sets
-  pub oneTooFew : Answered empty oneTooFew
-  pub oneTooMany : Answered empty oneTooMany
+  pub people : Prints people "total 25 1"
+  pub sessions : Prints sessions "total 18 1"
+  pub permissions : Prints (granting ++ (permissions ++ revoking)) "total 22 0"
+  pub sets : Prints sets "total 32 3"
+  pub oneTooFew : Prints oneTooFew "total 0 39"
+  pub oneTooMany : Prints oneTooMany "total 0 38"
