@@ -4,3 +4,4 @@ pub mod Program
 pub mod Rows
 pub mod Scripts
 pub mod Permissions
+mod Examples
