@@ -308,6 +308,7 @@ def parts():
     yield from reviews_of(every)
     yield from putters_of(every)
     yield from outside(every)
+    written_by_hand(every, arms)
     met.update(f.place for f in every)
 
 
@@ -413,6 +414,16 @@ def putters_of(every):
     yield "specs/Buffers.antt", "the crates", [f"use Rattle.{c}.proofs as {c}" for c in crates] + [""]
     yield "specs/Buffers.antt", "what puts a text", says
     yield "proofs/Buffers.antt", "what puts a text", shows
+
+
+def written_by_hand(every, arms):
+    """What is no command and changes the state and answers, is asked or saves has a line of OwnCalls; what is lent a buffer has one of Buffers."""
+    asked = {"sessions.check", "reviews.ask", "policyfile.save"}
+    for file, places in (("OwnCalls", asked | {f.place for f in every if f.hands_back() and f.place not in arms}), ("Buffers", BUFFER_BY_HAND)):
+        text = (HOME / f"specs/{file}.antt").read_text(encoding="utf-8")
+        for f in sorted(places):
+            if not re.search(rf"^  pub [\w-]+ : .*\bCall {re.escape(f)}\.Kinds\.ps ", text, re.M):
+                stop(f"crates/unique/specs/{file}.antt has no line for {f}")
 
 
 def outside(every):
