@@ -1,6 +1,7 @@
 #!/usr/bin/env python3
-"""Writes the lines of crates/unique that say one thing of each public function: that any two outcomes which meet its promise are equal, and, of
-the functions that change the state and answer, that what they hand back can be reached.
+"""Writes the lines of crates/unique that say one thing of each public function: that any two outcomes which meet its promise are equal; of the
+functions that change the state and answer, that what they hand back can be reached; of the commands and reviews, what their calls tell; of what is
+lent a buffer, what it leaves in it.
 
     tests/unique.py            compares what is there with what would be written, and fails where they differ
     tests/unique.py --write    writes it
@@ -402,15 +403,16 @@ BUFFER_BY_HAND = {"policyfile.save", "script.answer_line", "script.turn"}
 def putters_of(every):
     """The functions that put a text or a file into a buffer of bytes: from which place on, and the place past it is their result."""
     says, shows = [], []
-    for f in [f for f in every if "&mut [u8]" in f.types and f.place not in BUFFER_BY_HAND]:
+    lent = [f for f in every if any(re.fullmatch(r"&mut \[u(8|16|32)(; \w+)?\]", t) for t in f.types)]
+    for f in [f for f in lent if f.crate != "reviews" and f.place not in BUFFER_BY_HAND]:
         form = re.match(r"(Put) \(now \(\w+ \.entry\)\) (\w+) |(Wrote) \(now \(\w+ \.entry\)\) \(now \(\w+ \.exit\)\) (\w+) ", f.promise)
-        if not form or f.result != "usize" or f.types.count("usize") != ((form[2] or form[4]) != "0"):
-            f.bad("is lent a buffer: write its line in crates/unique/specs/Buffers.antt and name it in BUFFER_BY_HAND; its promise is one")
+        if not form or "&mut [u8]" not in f.types or f.result != "usize" or f.types.count("usize") != ((form[2] or form[4]) != "0"):
+            stop(f"{f.place} is lent a buffer, and its promise is of a new form: write its line in crates/unique/specs/Buffers.antt, and its name in BUFFER_BY_HAND of tests/unique.py")
         at = "0" if "usize" not in f.types else f"(c .given {place(f.types.index('usize'))})"
         out = place(f.types.index("&mut [u8]"))
         says.append(f"  pub {f.field()} : {call_of(f.place)} → Around {at} (c .result) (c .given {out} .now) (c .exits {out} .now)")
         shows.append(f"      {f.field()} = λ c. {'put-around' if form[1] else 'wrote-around'} (c .met);")
-    crates = dict.fromkeys(f.crate for f in every if any(t in ("&mut [u8]", "&mut [u16]") for t in f.types))
+    crates = dict.fromkeys(f.crate for f in lent)
     yield "specs/Buffers.antt", "the crates", [f"use Rattle.{c}.proofs as {c}" for c in crates] + [""]
     yield "specs/Buffers.antt", "what puts a text", says
     yield "proofs/Buffers.antt", "what puts a text", shows
