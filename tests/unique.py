@@ -14,6 +14,7 @@ by hand unless its promise is of a new form.
 import difflib
 import re
 import sys
+import textwrap
 from pathlib import Path
 
 ROOT = Path(__file__).resolve().parent.parent
@@ -439,7 +440,8 @@ def outside(every):
     for f in listed:
         if f not in left:
             stop(f"tests/unique.py says that {f} is outside Handed, and it is no public function that can change the state, or has a line")
-    yield "specs/Handed.antt", "the functions outside", [f"-- `{module}` ({', '.join(names.split())}): {why}." for module, (names, why) in OUTSIDE.items()]
+    said = [f"`{module}` ({', '.join(names.split())}): {why}." for module, (names, why) in OUTSIDE.items()]
+    yield "specs/Handed.antt", "the functions outside", ["-- " + line for text in said for line in textwrap.wrap(text, 145)]
 
 
 # the public functions that were found, with or without a line
