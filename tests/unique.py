@@ -355,8 +355,8 @@ def own_calls(every, arms):
         named = f"(c .given {place(given.index('list'))} .now)" if "list" in given else "[]"
         says.append(f"  pub {f.field()} : {call_of(f.place)} → Obeyed (c .given {at} .now) {command} {named} ({teller} (c .result) (c .exits {at} .now))")
         shows.append(f"      {f.field()} = λ c h. does h {command} {named} (c {met_by});")
-    if len(says) != len(arms):
-        stop("`engine::step` calls a function that is not public")
+    if len(says) != len(arms) or len(arms) != bare(ROOT / "crates/engine/src/lib.rt").count("Command::"):
+        stop("an arm of `engine::step` does not call a public function of its own, as tests/unique.py expects")
     crates = dict.fromkeys(f.crate for f in every if f.place in arms or f.crate in ("engine", "reviews", "policyfile", "script"))
     yield "specs/OwnCalls.antt", "the crates", [f"use Rattle.{c}.proofs as {c}" for c in crates] + [""]
     yield "specs/OwnCalls.antt", "the commands", says
@@ -368,6 +368,8 @@ def questions_of(path):
     arms = {}
     for m in re.finditer(r"Question::(\w+)(?:\(([^)]*)\))?\s*=>\s*(\w+)\(\s*(state\b[^)]*)\)", bare(path)):
         arms["reviews." + m[3]] = (m[1], split(m[2] or ""), split(m[4]))
+    if len(arms) != bare(path).count("Question::"):
+        stop("an arm of `reviews::ask` does not call a function of its own, as tests/unique.py expects")
     return arms
 
 
