@@ -1,6 +1,7 @@
 #!/usr/bin/env python3
-"""Writes the lines of crates/unique that say one thing of each public function: that any two outcomes which meet its promise are equal, and, of
-the functions that change the state and answer, that what they hand back can be reached.
+"""Writes the lines of crates/unique that say one thing of each public function: that any two outcomes which meet its promise are equal; of the
+functions that change the state and answer, that what they hand back can be reached; of the commands and reviews, what their calls tell; of what is
+lent a buffer, what it leaves in it.
 
     tests/unique.py            compares what is there with what would be written, and fails where they differ
     tests/unique.py --write    writes it
@@ -13,6 +14,7 @@ by hand unless its promise is of a new form.
 import difflib
 import re
 import sys
+import textwrap
 from pathlib import Path
 
 ROOT = Path(__file__).resolve().parent.parent
@@ -311,6 +313,7 @@ def parts():
     yield from reviews_of(every)
     yield from putters_of(every)
     yield from outside(every)
+    written_by_hand(every, arms)
     met.update(f.place for f in every)
 
 
@@ -355,8 +358,8 @@ def own_calls(every, arms):
         named = f"(c .given {place(given.index('list'))} .now)" if "list" in given else "[]"
         says.append(f"  pub {f.field()} : {call_of(f.place)} → Obeyed (c .given {at} .now) {command} {named} ({teller} (c .result) (c .exits {at} .now))")
         shows.append(f"      {f.field()} = λ c h. does h {command} {named} (c {met_by});")
-    if len(says) != len(arms):
-        stop("`engine::step` calls a function that is not public")
+    if len(says) != len(arms) or len(arms) != bare(ROOT / "crates/engine/src/lib.rt").count("Command::"):
+        stop("an arm of `engine::step` does not call a public function of its own, as tests/unique.py expects")
     crates = dict.fromkeys(f.crate for f in every if f.place in arms or f.crate in ("engine", "reviews", "policyfile", "script"))
     yield "specs/OwnCalls.antt", "the crates", [f"use Rattle.{c}.proofs as {c}" for c in crates] + [""]
     yield "specs/OwnCalls.antt", "the commands", says
@@ -368,6 +371,8 @@ def questions_of(path):
     arms = {}
     for m in re.finditer(r"Question::(\w+)(?:\(([^)]*)\))?\s*=>\s*(\w+)\(\s*(state\b[^)]*)\)", bare(path)):
         arms["reviews." + m[3]] = (m[1], split(m[2] or ""), split(m[4]))
+    if len(arms) != bare(path).count("Question::"):
+        stop("an arm of `reviews::ask` does not call a function of its own, as tests/unique.py expects")
     return arms
 
 
@@ -404,18 +409,29 @@ BUFFER_BY_HAND = {"policyfile.save", "script.answer_line", "script.turn", "progr
 def putters_of(every):
     """The functions that put a text or a file into a buffer of bytes: from which place on, and the place past it is their result."""
     says, shows = [], []
-    for f in [f for f in every if "&mut [u8]" in f.types and f.place not in BUFFER_BY_HAND]:
+    lent = [f for f in every if any(re.fullmatch(r"&mut \[u(8|16|32)(; \w+)?\]", t) for t in f.types)]
+    for f in [f for f in lent if f.crate != "reviews" and f.place not in BUFFER_BY_HAND]:
         form = re.match(r"(Put) \(now \(\w+ \.entry\)\) (\w+) |(Wrote) \(now \(\w+ \.entry\)\) \(now \(\w+ \.exit\)\) (\w+) ", f.promise)
-        if not form or f.result != "usize" or f.types.count("usize") != ((form[2] or form[4]) != "0"):
-            f.bad("is lent a buffer: write its line in crates/unique/specs/Buffers.antt and name it in BUFFER_BY_HAND; its promise is one")
+        if not form or "&mut [u8]" not in f.types or f.result != "usize" or f.types.count("usize") != ((form[2] or form[4]) != "0"):
+            stop(f"{f.place} is lent a buffer, and its promise is of a new form: write its line in crates/unique/specs/Buffers.antt, and its name in BUFFER_BY_HAND of tests/unique.py")
         at = "0" if "usize" not in f.types else f"(c .given {place(f.types.index('usize'))})"
         out = place(f.types.index("&mut [u8]"))
         says.append(f"  pub {f.field()} : {call_of(f.place)} → Around {at} (c .result) (c .given {out} .now) (c .exits {out} .now)")
         shows.append(f"      {f.field()} = λ c. {'put-around' if form[1] else 'wrote-around'} (c .met);")
-    crates = dict.fromkeys(f.crate for f in every if any(t in ("&mut [u8]", "&mut [u16]") for t in f.types))
+    crates = dict.fromkeys(f.crate for f in lent)
     yield "specs/Buffers.antt", "the crates", [f"use Rattle.{c}.proofs as {c}" for c in crates] + [""]
     yield "specs/Buffers.antt", "what puts a text", says
     yield "proofs/Buffers.antt", "what puts a text", shows
+
+
+def written_by_hand(every, arms):
+    """What is no command and changes the state and answers, is asked or saves has a line of OwnCalls; what is lent a buffer has one of Buffers."""
+    asked = {"sessions.check", "reviews.ask", "policyfile.save"}
+    for file, places in (("OwnCalls", asked | {f.place for f in every if f.hands_back() and f.place not in arms}), ("Buffers", BUFFER_BY_HAND)):
+        text = (HOME / f"specs/{file}.antt").read_text(encoding="utf-8")
+        for f in sorted(places):
+            if not re.search(rf"^  pub [\w-]+ : .*\bCall {re.escape(f)}\.Kinds\.ps ", text, re.M):
+                stop(f"crates/unique/specs/{file}.antt has no line for {f}")
 
 
 def outside(every):
@@ -429,7 +445,8 @@ def outside(every):
     for f in listed:
         if f not in left:
             stop(f"tests/unique.py says that {f} is outside Handed, and it is no public function that can change the state, or has a line")
-    yield "specs/Handed.antt", "the functions outside", [f"-- `{module}` ({', '.join(names.split())}): {why}." for module, (names, why) in OUTSIDE.items()]
+    said = [f"`{module}` ({', '.join(names.split())}): {why}." for module, (names, why) in OUTSIDE.items()]
+    yield "specs/Handed.antt", "the functions outside", ["-- " + line for text in said for line in textwrap.wrap(text, 145)]
 
 
 # the public functions that were found, with or without a line

@@ -1,11 +1,13 @@
 -- "The policy and sessions that a function takes are the engine's own: the empty policy, or what an earlier answer handed back." The code's own
 -- states: from `start`, by calls of the functions in any order and with any arguments. Assumes nothing.
 --
--- The engine's own functions are `start`, the commands, `step`, `load` and the lines of a script. These public functions can change an array of
--- numbers too and are none of them. They are the engine's parts, and a crate cannot hide a function from some crates only. What they leave of a
--- state is the engine's own only where one of the engine's own functions calls them; the same is true of a caller that stores numbers into the array by itself.
+-- The engine's own functions are `start`, the commands, `step`, `load` and the lines of a script. The public functions named here can change an array
+-- of numbers too and are none of them: they are parts that the engine is made of, and a crate cannot hide a function from some crates only. An array
+-- that a caller changed by one of them, or by storing into it, is not of the code's own states, and nothing is said of it here.
 -- ---- written by tests/unique.py: the functions outside
--- `state.stores` (put_all, put_user, put_roles, put_juniors, put_assigned, put_holders, put_lines, put_assignments, put_set, put_members, clear_set, open_session, put_active, close_session, put_all_active): each stores one part of the state as it is given, for the commands, which ask their refusals first.
+-- `state.stores` (put_all, put_user, put_roles, put_juniors, put_assigned, put_holders, put_lines, put_assignments, put_set, put_members,
+-- clear_set, open_session, put_active, close_session, put_all_active): each stores one part of the state as it is given, for the commands, which
+-- ask their refusals first.
 -- `sweeps` (end_all, strip): passes of `nouser` and `norole` over the sessions, and over a table that is lent as a slice.
 -- `policyread` (gather): the numbers of any file, stored without a test, for `load`, which tests them before it stores them as the state.
 -- ---- end of what tests/unique.py writes
