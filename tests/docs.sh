@@ -11,10 +11,28 @@ trap 'rm -f "$words"' EXIT
     ls crates
 } | sort -u >"$words"
 
+# Every line of every record in specs/, after the record's name.
+lines=$(mktemp)
+trap 'rm -f "$words" "$lines"' EXIT
+cat crates/*/specs/*.antt crates/*/specs/*/*.antt | awk '
+    /^pub record / { name = $3; next }
+    /^[^ ]/ { name = "" }
+    name != "" && $1 == "pub" && $3 == ":" { print name, $2 }' | sort -u >"$lines"
+
 missing=0
 cited=0
 check() { # DOC NAME
     cited=$((cited + 1))
+    # a line of a record, as Shape .users: the record has it; a line alone, as .users: there is one
+    case $2 in
+    *' .'*)
+        grep -qxF -- "${2%% .*} ${2##* .}" "$lines" && return
+        echo "docs: $1 cites $2, and no record in specs/ has this line"
+        missing=1
+        return
+        ;;
+    .*) grep -q -- " ${2#.}\$" "$lines" && return ;;
+    esac
     # a name with a part left open, as X-listed
     case $2 in X-*) grep -q -- "${2#X}\$" "$words" && return ;; esac
     grep -qxF -- "$2" "$words" && return
@@ -30,7 +48,22 @@ check() { # DOC NAME
 for doc in docs/PROMISES.md docs/HOW-TO-READ.md docs/LAYOUT.md; do
     while read -r name; do
         check "$doc" "$name"
-    done < <(sed '/^```/,/^```/d' "$doc" | grep -o '`[^`]*`' | tr -d '`' | grep -v ' ' | sort -u)
+    done < <(sed '/^```/,/^```/d' "$doc" | grep -o '`[^`]*`' | tr -d '`' | grep -e '^[^ ]*$' -e '^[A-Z][A-Za-z0-9]* \.[a-zA-Z0-9-]*$' | sort -u)
 done
+# What must be believed: the lines of the files in the table of docs/HOW-TO-READ.md that state something (no comment, no `use`, no empty line) are no
+# more than the page says.
+files=$(sed -n '/^## What must be believed/,/^What may be skipped/p' docs/HOW-TO-READ.md | grep '^|' | cut -d'|' -f2 | grep -o '`[^`]*`' | tr -d '`')
+believed=0
+for file in $files; do
+    believed=$((believed + $(grep -vc -e '^use ' -e '^ *--' -e '^ *$' "crates/$file.antt")))
+done
+most=$(sed -n 's/.* they are \([0-9,]*\) lines at most.*/\1/p' docs/HOW-TO-READ.md | tr -d ,)
+[ -n "$most" ] && [ "$believed" -gt 0 ]
+if [ "$believed" -gt "$most" ]; then
+    echo "docs: docs/HOW-TO-READ.md says that $most lines must be believed, and there are $believed"
+    missing=1
+fi
+
 [ "$missing" -eq 0 ]
+echo "docs: $believed lines must be believed, at most $most"
 echo "docs: $cited citations, all there"

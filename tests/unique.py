@@ -360,7 +360,7 @@ def own_calls(every, arms):
         shows.append(f"      {f.field()} = λ c h. does h {command} {named} (c {met_by});")
     if len(says) != len(arms) or len(arms) != bare(ROOT / "crates/engine/src/lib.rt").count("Command::"):
         stop("an arm of `engine::step` does not call a public function of its own, as tests/unique.py expects")
-    crates = dict.fromkeys(f.crate for f in every if f.place in arms or f.crate in ("engine", "reviews", "policyfile", "script"))
+    crates = dict.fromkeys(f.crate for f in every if f.place in arms or f.crate in ("engine", "reviews", "policyfile", "script", "program"))
     yield "specs/OwnCalls.antt", "the crates", [f"use Rattle.{c}.proofs as {c}" for c in crates] + [""]
     yield "specs/OwnCalls.antt", "the commands", says
     yield "proofs/OwnCalls.antt", "the commands", shows

@@ -16,28 +16,21 @@ use Rattle.roleset.proofs.Laws.{has-none, has-with, member-small, subset-true, 
 use Rattle.hierarchy.specs.Lines.{Small, Acyclic, Chain, down}
 use Rattle.hierarchy.specs.Walks.{circular}
 use Rattle.hierarchy.proofs.CircleLaws.{circular-sound, circular-complete, cut-circle}
-use Rattle.hierarchy.proofs.WalkLaws.{cut-complete}
+use Rattle.hierarchy.proofs.WalkLaws.{cut-complete, reach-small}
 use Rattle.model.specs.Model.{Model, RoleSet, Session}
 use Rattle.model.specs.Words.{authorised, breaks, breaksSome, staticBroken, dynamicBroken}
 use Rattle.model.specs.commands.Sets.{setsOf, badCardinality}
 use Rattle.model.specs.declared.Kind.{Kind}
 use Rattle.model.specs.declared.Kind.the-variants.{Static, Dynamic}
-use Rattle.sound.proofs.Breaking.{breaks-exact}
 use Rattle.policyform.specs.Form.{SetForm, Formed}
 use Rattle.policyform.specs.Rules.{badSet, unauthorised}
-use Rattle.filebytes.specs.Sections.{Every}
 use Rattle.demands.specs.Authorised.{InOrBelow, Authorised}
-use Rattle.fileanswers.specs.Loading.{AsMany, Circle, BadCardinality, NotAuthorised, StaticBroken, DynamicBroken, Clear, Asked}
+use Rattle.demands.specs.Broken.{StaticBroken, DynamicBroken}
+use Rattle.demands.specs.Many.{AsMany}
+use Rattle.demands.proofs.Broken.{broken-exact}
+use Rattle.demands.proofs.Counts.{many-in}
+use Rattle.fileanswers.specs.Loading.{Circle, BadCardinality, NotAuthorised, Clear, Asked}
 use Rattle.fileanswers.proofs.Bare.{authorised-formed}
-use Rattle.fileanswers.proofs.Counted.{as-many, many-common}
-
--- one of so many
-first-of : (n : ℕ) (P : ℕ → Type 0) → 0 < n → AsMany n P → (k : ℕ) × P k
-first-of n P h a = go (a .numbers) (a .many) (a .each)
-  where
-    go : (l : List ℕ) → length l ≡ n → Every P l → (k : ℕ) × P k
-    go [] e p = absurd (omega arith)
-    go (k ∷ l) e p = (k, p .0)
 
 module _ (m : Model) (f : Formed m) where
   -- ---- 6
@@ -74,7 +67,7 @@ module _ (m : Model) (f : Formed m) where
 
       go : (ltb (setsOf kind m (q .0) .card) 2 ≡ true) ⊎ (ltb (count (setsOf kind m (q .0) .roles)) (setsOf kind m (q .0) .card) ≡ true) → (setsOf kind m (q .0) .card < 2) ⊎ (AsMany (setsOf kind m (q .0) .card) (λ r. has (setsOf kind m (q .0) .roles) r ≡ true) → ⊥)
       go (inl h) = inl (ltb-true (setsOf kind m (q .0) .card) 2 h)
-      go (inr h) = inr (λ a. let few = ltb-true (count (setsOf kind m (q .0) .roles)) (setsOf kind m (q .0) .card) h in omega (arith, as-many (setsOf kind m (q .0) .card) (setsOf kind m (q .0) .roles) (set-form kind (q .0) .members .small) .0 a))
+      go (inr h) = inr (λ a. let few = ltb-true (count (setsOf kind m (q .0) .roles)) (setsOf kind m (q .0) .card) h in omega (arith, many-in (setsOf kind m (q .0) .card) (setsOf kind m (q .0) .roles) (set-form kind (q .0) .members .small) .1 a))
 
   found-bad : (kind : Kind) (n : ℕ) → setsOf kind m n .there ≡ true → (setsOf kind m n .card < 2) ⊎ (AsMany (setsOf kind m n .card) (λ r. has (setsOf kind m n .roles) r ≡ true) → ⊥) → badSet (setsOf kind m) ≡ true
   unfolding badSet
@@ -86,7 +79,7 @@ module _ (m : Model) (f : Formed m) where
         where
           decide : Dec (count (set .roles) < set .card) → ltb (count (set .roles)) (set .card) ≡ true
           decide (yes few) = lt-ltb (count (set .roles)) (set .card) few
-          decide (no enough) = absurd (h (as-many (set .card) (set .roles) small .1 (omega arith)))
+          decide (no enough) = absurd (h (many-in (set .card) (set .roles) small .0 (omega arith)))
 
   pub cardinality-says : ((badSet (m .ssd) || badSet (m .dsd)) ≡ true) ↔ BadCardinality m
   cardinality-says = ((λ e. to (or-cases (badSet (m .ssd)) (badSet (m .dsd)) e)), (λ x. back (x .kind) (found-bad (x .kind) (x .name) (x .there) (x .bad))))
@@ -140,52 +133,22 @@ module _ (m : Model) (f : Formed m) where
 
   -- ---- 10
 
-  authorised-user : (u r : ℕ) → Authorised m u r → m .users u ≡ true
-  authorised-user u r a = go (a .through)
+  nobody-beyond : (u r : ℕ) → 256 ≤ u → Authorised m u r → ⊥
+  nobody-beyond u r l a = go (a .through)
     where
-      go : InOrBelow m (m .assigned u) r → m .users u ≡ true
-      go (inl h) = f .assignees u r h
-      go (inr q) = f .assignees u (q .0) (q .1)
+      go : InOrBelow m (m .assigned u) r → ⊥
+      go (inl h) = let small = f .users u (f .assignees u r h) in omega arith
+      go (inr q) = let small = f .users u (f .assignees u (q .0) (q .1)) in omega arith
 
   pub static-says : Clear m → (some 256 (staticBroken m) ≡ true) ↔ StaticBroken m
-  unfolding staticBroken breaksSome
-  static-says clear = (to, back)
-    where
-      many : (u n : ℕ) → AsMany (m .ssd n .card) (λ r. (has (m .ssd n .roles) r ≡ true) × Authorised m u r) ↔ (m .ssd n .card ≤ count (common (m .ssd n .roles) (authorised m u)))
-      many u n = many-common (m .ssd n .card) (m .ssd n .roles) (authorised m u) (f .ssd n .members .small) (Authorised m u) (authorised-formed m f (acyclic (clear .0)) u)
-
-      to : some 256 (staticBroken m) ≡ true → StaticBroken m
-      to e =
-          let who = some-elim 256 (staticBroken m) e in
-          let which = some-elim 16 (λ n. breaks (m .ssd n) (authorised m (who .0))) (who .2) in
-          let broken = breaks-exact (m .ssd (which .0)) (authorised m (who .0)) .0 (which .2) in
-          let all = many (who .0) (which .0) .1 (broken .1) in
-          let one = first-of (m .ssd (which .0) .card) _ (at-least (clear .1) Static (which .0) (broken .0)) all in
-          record { user = who .0; name = which .0; exists = authorised-user (who .0) (one .0) (one .1 .1); there = broken .0; many = all }
-
-      back : StaticBroken m → some 256 (staticBroken m) ≡ true
-      back x = some-intro 256 (staticBroken m) (x .user) (f .users (x .user) (x .exists)) (some-intro 16 (λ n. breaks (m .ssd n) (authorised m (x .user))) (x .name) (f .ssd (x .name) .named (x .there)) (breaks-exact (m .ssd (x .name)) (authorised m (x .user)) .1 (x .there, many (x .user) (x .name) .0 (x .many))))
+  unfolding staticBroken
+  static-says clear = broken-exact 256 (m .ssd) (authorised m) (Authorised m) (λ u. reach-small (m .juniors) (m .assigned u)) (authorised-formed m f (acyclic (clear .0))) nobody-beyond (λ name. f .ssd name .named) (at-least (clear .1) Static)
 
   -- ---- 11
 
   pub dynamic-says : Clear m → (some 64 (dynamicBroken m) ≡ true) ↔ DynamicBroken m
-  unfolding dynamicBroken breaksSome
-  dynamic-says clear = (to, back)
-    where
-      many : (s n : ℕ) → AsMany (m .dsd n .card) (λ r. (has (m .dsd n .roles) r ≡ true) × (has (m .sessions s .active) r ≡ true)) ↔ (m .dsd n .card ≤ count (common (m .dsd n .roles) (m .sessions s .active)))
-      many s n = many-common (m .dsd n .card) (m .dsd n .roles) (m .sessions s .active) (f .dsd n .members .small) (λ r. has (m .sessions s .active) r ≡ true) (λ r. ((λ e. e), (λ e. e)))
-
-      to : some 64 (dynamicBroken m) ≡ true → DynamicBroken m
-      to e =
-          let open-one = some-elim 64 (dynamicBroken m) e in
-          let which = some-elim 16 (λ n. breaks (m .dsd n) (m .sessions (open-one .0) .active)) (open-one .2) in
-          let broken = breaks-exact (m .dsd (which .0)) (m .sessions (open-one .0) .active) .0 (which .2) in
-          let all = many (open-one .0) (which .0) .1 (broken .1) in
-          let one = first-of (m .dsd (which .0) .card) _ (at-least (clear .1) Dynamic (which .0) (broken .0)) all in
-          record { session = open-one .0; name = which .0; live = live-active (open-one .0) (one .0) (one .1 .1); there = broken .0; many = all }
-
-      back : DynamicBroken m → some 64 (dynamicBroken m) ≡ true
-      back x = some-intro 64 (dynamicBroken m) (x .session) (f .sessions (x .session) .numbered (x .live)) (some-intro 16 (λ n. breaks (m .dsd n) (m .sessions (x .session) .active)) (x .name) (f .dsd (x .name) .named (x .there)) (breaks-exact (m .dsd (x .name)) (m .sessions (x .session) .active) .1 (x .there, many (x .session) (x .name) .0 (x .many))))
+  unfolding dynamicBroken
+  dynamic-says clear = broken-exact 64 (m .dsd) (λ s. m .sessions s .active) (λ s r. has (m .sessions s .active) r ≡ true) (λ s. f .sessions s .active .small) (λ s r. ((λ e. e), (λ e. e))) (λ s r l h. let open-one = f .sessions s .numbered (live-active s r h) in let z : ⊥ = omega arith in z) (λ name. f .dsd name .named) (at-least (clear .1) Dynamic)
 
   abbrev pub asked : Asked m
   asked = record { circle = circular (m .juniors); circle-says = circle-says; cardinality = badSet (m .ssd) || badSet (m .dsd); cardinality-says = cardinality-says; owner = unauthorised m; owner-says = owner-says; static = some 256 (staticBroken m); static-says = static-says; dynamic = some 64 (dynamicBroken m); dynamic-says = dynamic-says }

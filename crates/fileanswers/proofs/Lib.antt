@@ -1,6 +1,5 @@
 -- The conditions of a load, and what saving and loading tell.
 pub mod Bare
-pub mod Counted
 pub mod Conditions
 pub mod Loading
 pub mod Saving

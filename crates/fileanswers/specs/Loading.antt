@@ -18,14 +18,9 @@ use Rattle.filebytes.specs.Sections.{Sections, bytesOf, Every, Ascending, OfThe
 use Rattle.filebytes.specs.Meaning.{Says}
 use Rattle.filebytes.specs.FileForm.{AsThePaperSays}
 use Rattle.demands.specs.Authorised.{Authorised}
+use Rattle.demands.specs.Broken.{StaticBroken, DynamicBroken}
 use Rattle.demands.specs.Demand2.{Exactly}
-
--- As many as n different numbers are so: there is a strictly ascending list of n numbers, each of which is so.
-pub record AsMany (n : ℕ) (So : ℕ → Type 0) : Type 0 where
-  pub numbers : List ℕ
-  pub many : length numbers ≡ n
-  pub different : Ascending _<_ numbers
-  pub each : Every So numbers
+use Rattle.demands.specs.Many.{AsMany}
 
 -- ---- what a file of the form may break
 
@@ -50,21 +45,8 @@ pub record NotAuthorised (m : Model) : Type 0 where
   pub active : has (m .sessions session .active) role ≡ true
   pub not-authorised : Authorised m (m .sessions session .owner) role → ⊥
 
--- 10: "an SSD rule would be broken for some user": some user is authorised for as many roles of a static set as its cardinality.
-pub record StaticBroken (m : Model) : Type 0 where
-  pub user : ℕ
-  pub name : ℕ
-  pub exists : m .users user ≡ true
-  pub there : m .ssd name .there ≡ true
-  pub many : AsMany (m .ssd name .card) (λ r. (has (m .ssd name .roles) r ≡ true) × Authorised m user r)
-
--- 11: "a DSD rule would be broken in some session": some session has as many roles of a dynamic set active as its cardinality.
-pub record DynamicBroken (m : Model) : Type 0 where
-  pub session : ℕ
-  pub name : ℕ
-  pub live : m .sessions session .live ≡ true
-  pub there : m .dsd name .there ≡ true
-  pub many : AsMany (m .dsd name .card) (λ r. (has (m .dsd name .roles) r ≡ true) × (has (m .sessions session .active) r ≡ true))
+-- 10: "an SSD rule would be broken for some user", and 11: "a DSD rule would be broken in some session", are `StaticBroken` and `DynamicBroken` of
+-- `demands/specs/Broken`, as for the commands.
 
 -- ---- the answers
 

@@ -6,7 +6,7 @@ use mathlib.Core.Path.{_≡_}
 use Prim.Native.Nat.{ℕ, _+_, _*_, _-_, _≤_, _<_}
 use lib.ListN.{length, getD}
 use Rattle.decimal.specs.Decimal.{decimal}
-use Rattle.words.specs.ScriptWords.{wordOf}
+use Rattle.words.specs.ScriptWords.{wordOf, wordCount}
 use Rattle.reading.specs.Form.{line, noLine, parse}
 
 -- ---- a number
@@ -46,8 +46,8 @@ spaced (text ∷ texts) = (32 ∷ text) ++ spaced texts
 
 -- The text is a line: the word with the number k, these numbers, and nothing else.
 pub record LineForm (text : List ℕ) (k : ℕ) (ns : List ℕ) : Type 0 where
-  -- there are 41 words; one that is none of them is "an unknown word"
-  pub known : k < 41
+  -- there are so many words; one that is none of them is "an unknown word"
+  pub known : k < wordCount
   -- no "wrong number of numbers": as many as the word takes, or that many and more where a list of roles follows
   pub exact : wordOf k .listed ≡ false → length ns ≡ wordOf k .numbers
   pub listed : wordOf k .listed ≡ true → wordOf k .numbers ≤ length ns

@@ -38,14 +38,19 @@ use Rattle.reading.specs.Form.{Written}
 use Rattle.meaning.specs.Meaning.{meant}
 use Rattle.meaning.specs.declared.Meant.{Meant}
 use Rattle.meaning.specs.declared.Meant.the-variants.{Do, Ask, Nothing}
-use Rattle.script.specs.Script.{obey, doing}
+use Rattle.text.specs.Putting.{Put}
+use Rattle.textlines.specs.Parts.{partAt}
+use Rattle.script.specs.Script.{obey, doing, lineFeed}
+use Rattle.script.specs.LineAnswers.{toldAt}
+use Rattle.program.specs.Printing.{Stage, piece}
 use Rattle.transcripts.proofs.ScriptLines.{script-lines}
 use Rattle.demands.specs.Authorised.{InOrBelow, Effective}
 use Rattle.demands.specs.Demand2.{_beyond_, checkRefusals, Checked, Granted}
 use Rattle.demands.specs.Demand3.{Shape}
 use Rattle.demands.specs.Reachable.{Reachable}
 use Rattle.demands.proofs.Demand1.{demand1}
-use Rattle.demands.proofs.Demand2.{applies-none, none-applies, demand2}
+use Rattle.demands.proofs.Demand2.{demand2}
+use Rattle.demands.proofs.Exact.{applies-none, none-applies}
 use Rattle.demands.proofs.PolicyFile.{faithful}
 use Rattle.unique.specs.Handed.{Handed}
 use Rattle.unique.specs.Unique.{State}
@@ -197,6 +202,17 @@ of-lines =
     record {
       answer-line = λ c h. (record { line = _; tells = line-tells (reachable h) _; puts = c .met .puts .text; state = c .met .state }, c .met .puts .ok);
       turn = λ c h. (record { line = _; tells = line-tells (reachable h) _; puts = c .met .text; state = c .met .state }, c .met .tally, c .met .place);
+      begin = λ c. c .met;
+      next = λ c h e.
+          let script = c .given .0 .now in
+          let l = c .given .1 .0 .now in
+          let p = c .given .1 .1 .0 .progress in
+          record {
+            line = toldAt script l p;
+            tells = line-tells (reachable h) (partAt lineFeed script (p .at));
+            puts = subst (λ (x : Stage). Put (c .given .1 .1 .1 .0 .now) 0 (piece x script l p .text) (c .exits .1 .1 .1 .0 .now) (c .result .len)) e (c .met .puts .text);
+            state = c .met .state ∙ ap (λ (x : Stage). piece x script l p .after) e;
+          };
     }
 
 -- ---- the policy file

@@ -34,6 +34,7 @@ use Rattle.meaning.specs.Meaning.{meant}
 use Rattle.meaning.specs.declared.Meant.{Meant}
 use Rattle.meaning.specs.declared.Meant.the-variants.{Do, Ask, Nothing}
 use Rattle.script.specs.Script.{answerText, lineFeed}
+use Rattle.program.specs.Printing.{Begins, stageOf, line}
 use Rattle.demands.specs.Demand2.{Exactly, refusals, results, effect, Checked, Granted}
 use Rattle.unique.specs.Handed.{Call, Handed}
 use Rattle.unique.specs.Unique.{State}
@@ -47,6 +48,7 @@ use Rattle.engine.proofs as engine
 use Rattle.reviews.proofs as reviews
 use Rattle.policyfile.proofs as policyfile
 use Rattle.script.proofs as script
+use Rattle.program.proofs as program
 
 -- ---- end of what tests/unique.py writes
 
@@ -163,6 +165,11 @@ pub record Lines : Type 0 where
   pub turn : (c : Call script.turn.Kinds.ps script.turn.Kinds.r script.turn.Reads.Post) → Handed (c .given .1 .0 .now)
       → (x : Answered (view (c .given .1 .0 .now)) (partAt lineFeed (c .given .0 .now) (c .given .1 .1 .0 .at)) (c .given .1 .1 .1 .0 .now) (c .exits .1 .1 .1 .0 .now) (c .result .len) (c .exits .1 .0 .now))
       × (c .result .next .tally ≡ counted (c .given .1 .1 .0 .tally) (eqb (x .line .answer) 0)) × (c .result .next .at ≡ placePast lineFeed (c .given .0 .now) (c .given .1 .1 .0 .at))
+  -- The program begins with no policy, no session and no line answered.
+  pub begin : (c : Call program.begin.Kinds.ps program.begin.Kinds.r program.begin.Reads.Post) → Begins (c .exits .0 .now) (c .result)
+  -- A call of the program that has a line to answer answers this line.
+  pub next : (c : Call program.next.Kinds.ps program.next.Kinds.r program.next.Reads.Post) → Handed (c .given .1 .0 .now) → stageOf (c .given .0 .now) (c .given .1 .1 .0) ≡ line
+      → Answered (view (c .given .1 .0 .now)) (partAt lineFeed (c .given .0 .now) (c .given .1 .1 .0 .progress .at)) (c .given .1 .1 .1 .0 .now) (c .exits .1 .1 .1 .0 .now) (c .result .len) (c .exits .1 .0 .now)
 
 -- ---- the policy file
 

@@ -1,0 +1,101 @@
+-- Each claim, by the theorem that shows it. Assumes nothing.
+use Rattle.numbers.proofs.Answers.{number-one-to-one, number-back, number-below}
+use Rattle.demands.proofs.Demand1.{demand1}
+use Rattle.demands.proofs.Demand2.{demand2}
+use Rattle.demands.proofs.Demand3.{demand3}
+use Rattle.demands.proofs.Conditions.{conditions}
+use Rattle.demands.proofs.Effects.{effects}
+use Rattle.demands.proofs.Reviews.{questions-demand}
+use Rattle.demands.proofs.PolicyFile.{faithful}
+use Rattle.demands.proofs.Room.{never-short}
+use Rattle.filebytes.proofs.FileForm.{paper-form}
+use Rattle.fileanswers.proofs.Loading.{loading}
+use Rattle.fileanswers.proofs.Saving.{saves}
+use Rattle.filetables.proofs.PolicyBytes.{policy-bytes}
+use Rattle.transcripts.proofs.LineForm.{line-forms}
+use Rattle.transcripts.proofs.Program.{program, story-holds}
+use Rattle.transcripts.proofs.ScriptLines.{script-lines}
+use Rattle.wordsheet.proofs.WordSheet.{word-sheet}
+use Rattle.edges.proofs.Edges.{edges}
+use Rattle.edges.proofs.FullTables.{full-tables}
+use Rattle.edges.proofs.LongScripts.{long-scripts}
+use Rattle.benchsheet.proofs.BenchSheet.{bench-sheet}
+use Rattle.misreadings.proofs.Bench.{inherited-grant}
+use Rattle.misreadings.proofs.Readings.{readings, wrong-rules}
+use Rattle.misreadings.proofs.ShutOut.{shut-out}
+use Rattle.misreadings.proofs.Reviewers.{reviewers-shut-out}
+use Rattle.unique.proofs.Promises as promises
+use Rattle.unique.proofs.Handed.{owned}
+use Rattle.unique.proofs.OwnCalls.{own-calls}
+use Rattle.unique.proofs.Buffers.{buffers}
+use Rattle.unique.proofs.Frame.{frame}
+use Rattle.claims.specs.Claims.{Claims, OneOutcome, AnswerSheet}
+
+one-outcome : OneOutcome
+one-outcome =
+    record {
+      roleset = promises.roleset;
+      numbers = promises.numbers;
+      hierarchy = promises.hierarchy;
+      state = promises.state;
+      walking = promises.walking;
+      separation = promises.separation;
+      sweeps = promises.sweeps;
+      lists = promises.lists;
+      users = promises.users;
+      assigning = promises.assigning;
+      inheriting = promises.inheriting;
+      sets = promises.sets;
+      sessions = promises.sessions;
+      engine = promises.engine;
+      reviews = promises.reviews;
+      text = promises.text;
+      policywrite = promises.policywrite;
+      policyread = promises.policyread;
+      policycheck = promises.policycheck;
+      policyfile = promises.policyfile;
+      decimal = promises.decimal;
+      words = promises.words;
+      textlines = promises.textlines;
+      reading = promises.reading;
+      meaning = promises.meaning;
+      script = promises.script;
+      program = promises.program;
+    }
+
+pub claims : Claims
+claims =
+    record {
+      answer-sheet = record { one-to-one = number-one-to-one; below = number-below; back = number-back };
+      demand1 = demand1;
+      demand2 = demand2;
+      conditions = conditions;
+      effects = effects;
+      questions = questions-demand;
+      demand3 = demand3;
+      faithful = faithful;
+      file-form = paper-form;
+      loading = loading;
+      saving = saves;
+      policy-bytes = policy-bytes;
+      line-forms = line-forms;
+      script-lines = script-lines;
+      never-short = never-short;
+      program = program;
+      word-sheet = word-sheet;
+      edges = edges;
+      full-tables = full-tables;
+      long-scripts = long-scripts;
+      story = story-holds;
+      bench-sheet = bench-sheet;
+      readings = readings;
+      inherited-grant = inherited-grant;
+      wrong-rules = wrong-rules;
+      shut-out = shut-out;
+      reviewers-shut-out = reviewers-shut-out;
+      own-calls = own-calls;
+      owned = owned;
+      buffers = buffers;
+      frame = frame;
+      one-outcome = one-outcome;
+    }

@@ -1,0 +1,1 @@
+// All that is claimed, one line for each theorem, and that each is proved. No code.
