@@ -1,11 +1,11 @@
 -- What the code's own calls tell. Assumes nothing.
 use mathlib.Core.Bool.{Bool, true, false, _||_}
-use mathlib.Core.List.{List, [], _∷_, _++_}
-use mathlib.Core.Logic.{_⊎_, inl, inr, _↔_}
+use mathlib.Core.List.{List, [], _∷_}
+use mathlib.Core.Logic.{inl, inr, _↔_}
 use mathlib.Core.Path.{_≡_, refl, sym, ap, subst, _∙_}
-use Prim.Native.Nat.{ℕ, _+_, _*_, _≤_}
+use Prim.Native.Nat.{ℕ, _≤_}
 use native.Mathlib.Omega.{arith}
-use lib.Dec.{eqb, leb, ltb}
+use lib.Dec.{ltb}
 use lib.ListN.{length, getD, take, drop}
 use lib.Seq.{take-at}
 use borrow.Author.Tests.{eqb-true, leb-false, lt-leb}
@@ -16,14 +16,14 @@ use Rattle.numbers.specs.Answers.{numberOf}
 use Rattle.numbers.specs.declared.Answer.{Answer}
 use Rattle.model.specs.Model.{Model}
 use Rattle.model.specs.Questions.{ask}
-use Rattle.model.specs.Sheet.{Told, refused}
+use Rattle.model.specs.Sheet.{Told}
 use Rattle.model.specs.Step as steps
 use Rattle.model.specs.declared.Command.{Command}
 use Rattle.model.specs.declared.Command.the-variants as commands
 use Rattle.model.specs.declared.Question.{Question}
 use Rattle.model.specs.declared.Question.the-variants as questions
 use Rattle.state.specs.View.{view, told}
-use Rattle.sessions.specs.Answering.{isDone, given, toldOpened, toldChecked}
+use Rattle.sessions.specs.Answering.{isDone, given, toldChecked}
 use Rattle.sessions.specs.declared.Checked as code
 use Rattle.engine.specs.Stepping.{Steps}
 use Rattle.engine.specs.declared.Stepped.{Stepped}
@@ -45,7 +45,7 @@ use Rattle.script.specs.LineAnswers.{toldAt}
 use Rattle.program.specs.Printing.{Stage, piece}
 use Rattle.transcripts.proofs.ScriptLines.{script-lines}
 use Rattle.demands.specs.Authorised.{InOrBelow, Effective}
-use Rattle.demands.specs.Demand2.{_beyond_, checkRefusals, Checked, Granted}
+use Rattle.demands.specs.Demand2.{_beyond_, checkRefusals, Checked}
 use Rattle.demands.specs.Demand3.{Shape}
 use Rattle.demands.specs.Reachable.{Reachable}
 use Rattle.demands.proofs.Demand1.{demand1}
@@ -54,7 +54,7 @@ use Rattle.demands.proofs.Exact.{applies-none, none-applies}
 use Rattle.demands.proofs.PolicyFile.{faithful}
 use Rattle.unique.specs.Handed.{Handed}
 use Rattle.unique.specs.Unique.{State}
-use Rattle.unique.specs.OwnCalls.{Does, toldStepped, Commands, MayDo, toldReview, Questions, Means, LineTells, Answered, Lines, Files, OwnCalls}
+use Rattle.unique.specs.OwnCalls.{Does, toldStepped, Commands, MayDo, toldReview, Questions, Means, LineTells, Lines, Files, OwnCalls}
 use Rattle.unique.proofs.Handed.{reachable, owned}
 use Rattle.unique.proofs.Unique.{states}
 

@@ -5,7 +5,7 @@
 --
 -- Of a call c, `c .given` is what the function was given, in the order of its parameters: .0 is the first, .1 .0 the second, .1 .1 .0 the third. `c .exits`
 -- is the same after the call, `c .result` what it handed back, and `.now` the numbers of what was lent.
-use mathlib.Core.Bool.{Bool, true}
+use mathlib.Core.Bool.{true}
 use mathlib.Core.List.{List, []}
 use mathlib.Core.Logic.{_↔_}
 use mathlib.Core.Path.{_≡_}

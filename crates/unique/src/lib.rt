@@ -1,1 +1,2 @@
-// The uniqueness of every promise, and the states that the code itself can hand back: statements in specs/, their proofs in proofs/. No code.
+// The uniqueness of every promise; the states that the code itself can hand back, what its calls on them tell, and what they leave in lent buffers:
+// statements in specs/, their proofs in proofs/. No code.
