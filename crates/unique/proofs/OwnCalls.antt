@@ -48,8 +48,10 @@ use Rattle.demands.specs.Authorised.{InOrBelow, Effective}
 use Rattle.demands.specs.Demand2.{_beyond_, checkRefusals, Checked}
 use Rattle.demands.specs.Demand3.{Shape}
 use Rattle.demands.specs.Reachable.{Reachable}
+use Rattle.demands.specs.Reviews as reviewing
 use Rattle.demands.proofs.Demand1.{demand1}
 use Rattle.demands.proofs.Demand2.{demand2}
+use Rattle.demands.proofs.Reviews.{questions-demand}
 use Rattle.demands.proofs.Exact.{applies-none, none-applies}
 use Rattle.demands.proofs.PolicyFile.{faithful}
 use Rattle.unique.specs.Handed.{Handed}
@@ -163,6 +165,7 @@ of-questions =
       check = λ c h. subst (Checked _ _ _ _) (sym (c .met .tells)) (demand2 .access _ (reachable h) _ _ _);
       yes = λ c h. says-yes _ _ _ _ (c .result) (owned .shape h) (subst (Checked _ _ _ _) (sym (c .met .tells)) (demand2 .access _ (reachable h) _ _ _)) (c .met .silent);
       ask = λ c h. reviewed-tells (demand1 .asking _ _ (c .given .1 .0)) (rw (asked-with-room _ _ (c .given .1 .0) h) at (c .met));
+      asked = λ c h room. subst (reviewing.Answered (view (c .given .0 .now)) (length (c .given .1 .1 .0 .now)) (c .given .1 .0)) (sym (reviewed-tells (demand1 .asking _ _ (c .given .1 .0)) (rw (asked-with-room _ _ (c .given .1 .0) room) at (c .met)))) (questions-demand .questions (view (c .given .0 .now)) (reachable h) (length (c .given .1 .1 .0 .now)) (c .given .1 .0));
       no-place = λ c z. no-room (view (c .given .0 .now)) (c .given .1 .0) z (c .met);
       -- ---- written by tests/unique.py: the reviews
       assigned-users = λ c. reviewed-tells (demand1 .asking _ _ (questions.AssignedUsers (c .given .1 .0))) (c .met);

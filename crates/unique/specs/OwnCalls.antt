@@ -36,6 +36,7 @@ use Rattle.meaning.specs.declared.Meant.the-variants.{Do, Ask, Nothing}
 use Rattle.script.specs.Script.{answerText, lineFeed}
 use Rattle.program.specs.Printing.{Begins, stageOf, line}
 use Rattle.demands.specs.Demand2.{Exactly, refusals, results, effect, Checked, Granted}
+use Rattle.demands.specs.Reviews as demands
 use Rattle.unique.specs.Handed.{Call, Handed}
 use Rattle.unique.specs.Unique.{State}
 -- ---- written by tests/unique.py: the crates
@@ -117,6 +118,9 @@ pub record Questions : Type 0 where
   -- Any question through `ask`, of any state, with a buffer that has a place.
   pub ask : (c : Call reviews.ask.Kinds.ps reviews.ask.Kinds.r reviews.ask.Reads.Post) → 1 ≤ length (c .given .1 .1 .0 .now)
       → Tells (c .given .0 .now) (c .given .1 .0) (c .given .1 .1 .0 .now) (c .exits .1 .1 .0 .now) (c .result)
+  -- So on a state of the code's own it is answered as demand 2 says of questions.
+  pub asked : (c : Call reviews.ask.Kinds.ps reviews.ask.Kinds.r reviews.ask.Reads.Post) → Handed (c .given .0 .now) → 1 ≤ length (c .given .1 .1 .0 .now)
+      → demands.Answered (view (c .given .0 .now)) (length (c .given .1 .1 .0 .now)) (c .given .1 .0) (toldReview (view (c .given .0 .now)) (c .result) (c .exits .1 .1 .0 .now))
   -- With no place at all what would have a result is 15, `check` too (`fitted`).
   pub no-place : (c : Call reviews.ask.Kinds.ps reviews.ask.Kinds.r reviews.ask.Reads.Post) → length (c .given .1 .1 .0 .now) ≡ 0
       → toldReview (view (c .given .0 .now)) (c .result) (c .exits .1 .1 .0 .now) ≡ fitted 0 (model.ask (view (c .given .0 .now)) 0 (c .given .1 .0))
