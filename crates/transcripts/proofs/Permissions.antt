@@ -19,8 +19,8 @@ use Rattle.script.specs.Script.{room}
 
 -- ---- the list of the permissions that some role of the set holds
 
-unfoldable pub quick : Model → ℕ → List ℕ
-quick m roles = members 4096 (λ p. elim (eqb (m .holders p) 0) [ true ↦ false | false ↦ holds m roles p ])
+unfoldable pub quick : (ℕ → ℕ) → ℕ → List ℕ
+quick holders roles = members 4096 (λ p. elim (eqb (holders p) 0) [ true ↦ false | false ↦ not (isEmpty (common roles (holders p))) ])
 
 and-none : (a b : Bool) → b ≡ false → (a && b) ≡ false
 and-none true b e = e
@@ -29,7 +29,7 @@ and-none false b e = refl
 none-common : (a : ℕ) → isEmpty (common a 0) ≡ true
 none-common a = isEmpty-intro (common a 0) (λ k l. has-common a 0 k l ∙ and-none (has a k) (has 0 k) (has-none k))
 
-quick-is : (m : Model) (roles : ℕ) → members 4096 (holds m roles) ≡ quick m roles
+quick-is : (m : Model) (roles : ℕ) → members 4096 (holds m roles) ≡ quick (m .holders) roles
 unfolding quick
 quick-is m roles = members-ext 4096 (holds m roles) _ (λ p l. go p (eqb (m .holders p) 0) refl)
   where
@@ -40,13 +40,13 @@ quick-is m roles = members-ext 4096 (holds m roles) _ (λ p l. go p (eqb (m .hol
 -- ---- the three questions
 
 abbrev pub roleTold : ℕ → Model → Told
-roleTold r m = review m room (roleBeyond r) (roleMissing m r) (reached m (with none r) .cut) (quick m (reached m (with none r) .roles))
+roleTold r m = review m room (roleBeyond r) (roleMissing m r) (reached m (with none r) .cut) (quick (m .holders) (reached m (with none r) .roles))
 
 abbrev pub userTold : ℕ → Model → Told
-userTold u m = review m room (userBeyond u) (userMissing m u) (reached m (m .assigned u) .cut) (quick m (authorised m u))
+userTold u m = review m room (userBeyond u) (userMissing m u) (reached m (m .assigned u) .cut) (quick (m .holders) (authorised m u))
 
 abbrev pub sessionTold : ℕ → Model → Told
-sessionTold s m = review m room (sessionBeyond s) (sessionMissing m s) (reached m (m .sessions s .active) .cut) (quick m (effective m s))
+sessionTold s m = review m room (sessionBeyond s) (sessionMissing m s) (reached m (m .sessions s .active) .cut) (quick (m .holders) (effective m s))
 
 pub role-told : (r : ℕ) (m : Model) → ask m room (RolePerms (record { number = r })) ≡ roleTold r m
 unfolding ask rolePerms

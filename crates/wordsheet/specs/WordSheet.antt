@@ -32,7 +32,6 @@ people =
     -- user 3 loses its role, and is a user still
     "deassign 3 2" ⇒ "0" ∷
     "assigned-roles 3" ⇒ "0" ∷
-    "auth-users 1" ⇒ "0" ∷
     -- role 6 goes, and user 5 keeps role 4
     "norole 6" ⇒ "0" ∷
     "assigned-roles 5" ⇒ "0 4" ∷
@@ -87,7 +86,6 @@ granting =
     "grant 9 30 4" ⇒ "0" ∷
     -- role 63 has operation 7 from role 1, which it inherits
     "role-ops 63 30" ⇒ "0 7" ∷
-    "role-ops 63 255" ⇒ "0 15" ∷
     -- and user 255 is assigned to role 4 besides
     "user-ops 255 30" ⇒ "0 7 9" ∷
     -- "1 for yes or 0 for no"
@@ -106,9 +104,8 @@ permissions =
 -- `revoke`, after those
 abbrev pub revoking : List Row
 revoking =
-    "role-ops 4 30" ⇒ "0 9" ∷
-    "revoke 9 30 4" ⇒ "0" ∷
-    "role-ops 4 30" ⇒ "0" ∷
+    "revoke 7 30 1" ⇒ "0" ∷
+    "check 0 7 30" ⇒ "0 0" ∷
     []
 
 -- the five `ssd` and the five `dsd` commands, and the three questions for each kind
@@ -245,9 +242,9 @@ oneTooMany =
 
 -- Each script prints what stands beside its lines, and the total.
 pub record WordSheet : Type 0 where
-  pub people : Prints people "total 25 1"
+  pub people : Prints people "total 24 1"
   pub sessions : Prints sessions "total 18 1"
-  pub permissions : Prints (granting ++ (permissions ++ revoking)) "total 22 0"
+  pub permissions : Prints (granting ++ (permissions ++ revoking)) "total 20 0"
   pub sets : Prints sets "total 32 3"
   pub oneTooFew : Prints oneTooFew "total 0 39"
   pub oneTooMany : Prints oneTooMany "total 0 38"
