@@ -109,7 +109,7 @@ def said(program, room):
     source.parent.mkdir(parents=True, exist_ok=True)
     source.write_text(program.text(), encoding="utf-8")
     words = ["-L", f"dependency={built}"]
-    for crate in sorted(p.stem for p in built.glob("*.rlib")):
+    for crate in ENGINE:
         words += ["--extern", f"{crate}={built / crate}.rlib"]
     run = subprocess.run(["rt", "check", str(source.parent.parent)] + words, capture_output=True, text=True)
     out = run.stdout + run.stderr
