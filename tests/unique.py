@@ -125,7 +125,9 @@ class Function:
         promises = []
         while clause := re.compile(r"\s*(ensures|requires)\s*(?=\{)").match(text, end):
             end = closing(text, clause.end())
-            promises += [text[clause.end() + 1 : end - 1]] if clause[1] == "ensures" else []
+            if clause[1] == "requires":
+                stop(f"{self.place} has a `requires`: no public function supposes anything (docs/DECISIONS.md, 'Suppositions')")
+            promises.append(text[clause.end() + 1 : end - 1])
         form = re.fullmatch(r"\s*λ\s*(\S+?)\.\s*⌜(.*)⌝\s*", " ".join(promises), re.S)
         if len(promises) != 1 or not form:
             self.bad("has not one promise `ensures { λ x. ⌜ .. ⌝ }`")
