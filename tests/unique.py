@@ -20,7 +20,7 @@ HOME = ROOT / "crates" / "unique"
 
 # Public functions with no line (docs/DECISIONS.md, 'Exceptions to uniqueness'): two borrow a struct, and a contract over one cannot be cited; of the
 # third, what a call of the C library reads no contract can say.
-WITHOUT = {"textlines.next", "textlines.bump", "input.read_whole"}
+WITHOUT = {"textlines.next", "textlines.bump", "streams.read_whole"}
 
 # Promises that have another's law: they are that promise by definition, or two crates use one name.
 LAW_OF = {
