@@ -64,6 +64,7 @@ cmp -s examples/tour.expected "$room/printed" || fail "bench does not read an in
 stack() { # WHAT INPUT EXPECTED PROGRAM..
     what=$1 input=$2 expected=$3
     shift 3
+    # shellcheck disable=SC3045
     (ulimit -S -s 256 && exec "$@" <"$input") >"$room/printed" 2>"$room/said" || fail "$what: fails with a stack of 256 KB"
     cmp -s "$expected" "$room/printed" || fail "$what: prints otherwise with a stack of 256 KB"
 }

@@ -22,7 +22,7 @@ HOME = ROOT / "crates" / "unique"
 
 # Public functions with no line (docs/DECISIONS.md, 'Exceptions to uniqueness'): two borrow a struct, and a contract over one cannot be cited; of the
 # third, what a call of the C library reads no contract can say.
-WITHOUT = {"textlines.next", "textlines.bump", "input.read_whole"}
+WITHOUT = {"textlines.next", "textlines.bump", "streams.read_whole"}
 
 # Promises that have another's law: they are that promise by definition, or two crates use one name.
 LAW_OF = {
@@ -128,7 +128,9 @@ class Function:
         promises = []
         while clause := re.compile(r"\s*(ensures|requires)\s*(?=\{)").match(text, end):
             end = closing(text, clause.end())
-            promises += [text[clause.end() + 1 : end - 1]] if clause[1] == "ensures" else []
+            if clause[1] == "requires":
+                stop(f"{self.place} has a `requires`: no public function supposes anything (docs/DECISIONS.md, 'Suppositions')")
+            promises.append(text[clause.end() + 1 : end - 1])
         form = re.fullmatch(r"\s*λ\s*(\S+?)\.\s*⌜(.*)⌝\s*", " ".join(promises), re.S)
         if len(promises) != 1 or not form:
             self.bad("has not one promise `ensures { λ x. ⌜ .. ⌝ }`")

@@ -2,8 +2,9 @@
 // standard error. What is handed to the output is proved; that the C library reads and writes what it is asked to is assumed.
 ghost use mathlib.Core.Bool.{true};
 ghost use mathlib.Core.Path.{_≡_};
-ghost use Prim.Native.Nat.{_≤_};
-ghost use lib.ListN.{length, take, drop};
+ghost use Prim.Native.Nat.{_+_, _^_, _<_, _≤_};
+ghost use lib.ListN.{length};
+ghost use Rattle.streams.specs.Writing.{Next};
 ghost use Rattle.script.specs.Script.{runScript};
 use libc::STDERR_FILENO;
 use libc::STDIN_FILENO;
@@ -17,11 +18,17 @@ struct Written {
     all: bool,
 }
 
-// Writes the next bytes of what the script prints: those that stand there from the place `from` on.
-fn write_next(script: &[u8], from: usize, bytes: &[u8]) -> bool
-    requires { ⌜ now bytes ≡ take (length (now bytes)) (drop from (runScript (now script))) ⌝ }
+// Writes the next bytes of what the script prints, of which `count` were written, and counts them. Nothing else writes or counts.
+fn write_next(script: &[u8], count: &mut usize, bytes: &[u8]) -> bool
+    requires { ⌜ Next (runScript (now script)) (now count) (now bytes) ⌝ }
+    requires { ⌜ now count + length (now bytes) < 2 ^ 64 ⌝ }
+    ensures { λ ok. ⌜ (ok ≡ true → now (count .exit) ≡ now (count .entry) + length (now (bytes .entry))) ⌝ }
 {
-    io::write_all(STDOUT_FILENO, bytes)
+    if io::write_all(STDOUT_FILENO, bytes) {
+        *count += bytes.len();
+        return true;
+    }
+    false
 }
 
 // Prints what the script prints, from its first byte to its last one.
@@ -36,10 +43,9 @@ fn print_all(script: &[u8]) -> Written
     while !run.over {
         let piece = program::next(script, &mut state, run, &mut buf);
         let len = piece.len;
-        if !write_next(script, count, &buf[..len]) {
+        if !write_next(script, &mut count, &buf[..len]) {
             return Written { count, all: false };
         }
-        count += len;
         run = piece.run;
     }
     Written { count, all: true }
@@ -48,7 +54,7 @@ fn print_all(script: &[u8]) -> Written
 // One byte more than the longest script is asked for, to tell a longer one.
 fn main() {
     let mut bytes = [0u8; LONGEST + 1];
-    let script = input::read_whole(STDIN_FILENO, &mut bytes);
+    let script = streams::read_whole(STDIN_FILENO, &mut bytes);
     let len = script.len;
     if script.whole {
         let written = print_all(&bytes[..len]);

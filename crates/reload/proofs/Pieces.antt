@@ -17,7 +17,7 @@ use Rattle.decimal.proofs.Laws.{decimal-short}
 use Rattle.policyform.specs.Encode.{encode}
 use Rattle.policyform.specs.Promises.{Loads, Saves}
 use Rattle.policyfile.proofs.Laws.{loads-one, loaded, sound-size}
-use Rattle.reload.specs.Reloading.{answerLine, reloaded, Next, All}
+use Rattle.reload.specs.Reloading.{answerLine, reloaded, NextFor, AllFor}
 
 -- what is printed, in its two cases
 with-file : (answer : ℕ) (file : List ℕ) → answer ≡ 0 → reloaded answer file ≡ answerLine answer ++ file
@@ -47,16 +47,16 @@ module _ (file : List ℕ) (t : Told) (l : Loads empty file t) (line after : Lis
   pub long : len ≡ length (answerLine (t .answer))
   long = omega (arith, p .ends, line-short (t .answer))
 
-  pub line-next : Next file 0 (take len after)
+  pub line-next : NextFor file 0 (take len after)
   line-next told x = rw (one told x, stands) (sym (line-first (t .answer) file))
 
-  pub line-all : eqb (t .answer) 0 ≡ false → All file len
+  pub line-all : eqb (t .answer) 0 ≡ false → AllFor file len
   line-all e told x = long ∙ sym (ap length (ap (λ (n : ℕ). reloaded n file) (one told x) ∙ without-file (t .answer) file e))
 
-  pub file-next : t .answer ≡ 0 → (bytes : List ℕ) → bytes ≡ file → Next file len bytes
+  pub file-next : t .answer ≡ 0 → (bytes : List ℕ) → bytes ≡ file → NextFor file len bytes
   file-next e bytes is told x = rw (one told x, with-file (t .answer) file e, is, drop-at (answerLine (t .answer)) file len (sym long)) (sym (take-length file))
 
-  pub file-all : t .answer ≡ 0 → (size : ℕ) → size ≡ length file → All file (len + size)
+  pub file-all : t .answer ≡ 0 → (size : ℕ) → size ≡ length file → AllFor file (len + size)
   file-all e size is told x = omega (arith, long, is, length-append (answerLine (t .answer)) file, ap length (ap (λ (n : ℕ). reloaded n file) (one told x) ∙ with-file (t .answer) file e))
 
 -- What was loaded is saved as the file again.

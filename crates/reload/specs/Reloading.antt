@@ -4,7 +4,8 @@ use mathlib.Core.List.{List, [], _∷_, _++_}
 use mathlib.Core.Path.{_≡_}
 use Prim.Native.Nat.{ℕ}
 use lib.Dec.{eqb}
-use lib.ListN.{length, take, drop}
+use lib.ListN.{length}
+use Rattle.streams.specs.Writing.{Next}
 use Rattle.model.specs.Model.{empty}
 use Rattle.model.specs.Sheet.{Told}
 use Rattle.decimal.specs.Decimal.{decimal}
@@ -18,10 +19,10 @@ answerLine answer = decimal answer ++ (10 ∷ [])
 unfoldable pub reloaded : ℕ → List ℕ → List ℕ
 reloaded answer file = answerLine answer ++ elim (eqb answer 0) [ true ↦ file | false ↦ [] ]
 
--- The bytes come next, from the place on, in what is printed where loading the file into the empty policy tells this.
-abbrev pub Next : List ℕ → ℕ → List ℕ → Type 0
-Next file from bytes = (told : Told) → Loads empty file told → bytes ≡ take (length bytes) (drop from (reloaded (told .answer) file))
+-- The bytes come next in what is printed, of which so many were written, whatever loading the file into the empty policy tells.
+abbrev pub NextFor : List ℕ → ℕ → List ℕ → Type 0
+NextFor file count bytes = (told : Told) → Loads empty file told → Next (reloaded (told .answer) file) count bytes
 
 -- So many bytes are all that is printed.
-abbrev pub All : List ℕ → ℕ → Type 0
-All file count = (told : Told) → Loads empty file told → count ≡ length (reloaded (told .answer) file)
+abbrev pub AllFor : List ℕ → ℕ → Type 0
+AllFor file count = (told : Told) → Loads empty file told → count ≡ length (reloaded (told .answer) file)

@@ -3,8 +3,8 @@ use borrow.Author.Needs.{needs}
 use mathlib.Core.Path.{_≡_}
 use Prim.Native.Nat.{_≤_, _-_}
 use lib.ListN.{length}
-use Rattle.input.proofs.read_whole.Statement.{statement}
-use Rattle.input.proofs.read_whole.Tie as tie
+use Rattle.streams.proofs.read_whole.Statement.{statement}
+use Rattle.streams.proofs.read_whole.Tie as tie
 
 abbrev Inv-loop : tie.InvT-loop
 Inv-loop fd buf₀ len₀ buf len = (len ≤ length buf) × (length buf ≡ length buf₀)

@@ -1,4 +1,4 @@
-// An input that is read whole, or known not to be. What a read of the C library puts into the buffer no contract can say.
+// The programs' input and output: an input that is read whole, or known not to be. What a read of the C library puts into the buffer no contract can say.
 ghost use Prim.Native.Nat.{_≤_};
 ghost use lib.ListN.{length};
 
