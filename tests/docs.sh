@@ -51,10 +51,12 @@ for doc in docs/PROMISES.md docs/HOW-TO-READ.md docs/LAYOUT.md; do
     done < <(sed '/^```/,/^```/d' "$doc" | grep -o '`[^`]*`' | tr -d '`' | grep -e '^[^ ]*$' -e '^[A-Z][A-Za-z0-9]* \.[a-zA-Z0-9-]*$' | sort -u)
 done
 # docs/LAYOUT.md has every crate, in its picture and in its tables.
+picture=$(sed -n '/^```/,/^```/p' docs/LAYOUT.md)
+tables=$(sed '/^```/,/^```/d' docs/LAYOUT.md)
 for crate in crates/*/; do
     name=$(basename "$crate")
-    sed -n '/^```/,/^```/p' docs/LAYOUT.md | grep -qw -- "$name" || [ "$name" = speed ] || { echo "docs: docs/LAYOUT.md has no $name in its picture"; missing=1; }
-    sed '/^```/,/^```/d' docs/LAYOUT.md | grep -q -- "\`$name\`" || { echo "docs: docs/LAYOUT.md does not say what $name holds"; missing=1; }
+    grep -qw -- "$name" <<<"$picture" || [ "$name" = speed ] || { echo "docs: docs/LAYOUT.md has no $name in its picture"; missing=1; }
+    grep -q -- "\`$name\`" <<<"$tables" || { echo "docs: docs/LAYOUT.md does not say what $name holds"; missing=1; }
 done
 
 # What must be believed: the lines of the files in the table of docs/HOW-TO-READ.md that state something (no comment, no `use`, no empty line) are no

@@ -7,7 +7,7 @@ use Rattle.roleset.specs.Roles.{has}
 use Rattle.hierarchy.specs.Lines.{Inherits}
 use Rattle.model.specs.Model.{Model}
 
--- the role is in the set, or a role of the set inherits it
+-- The role r is in the set, or a role of the set inherits it.
 abbrev pub InOrBelow : Model → ℕ → ℕ → Type 0
 InOrBelow m set r = (has set r ≡ true) ⊎ ((a : ℕ) × (has set a ≡ true) × Inherits (m .juniors) a r)
 

@@ -23,5 +23,5 @@ pub record Demand1 : Type 0 where
   pub commands : (m : Model) (c : Command) (list : List ℕ) → Harmless m (step m c list)
   pub questions : (m : Model) (room : ℕ) (q : Question) → Harmless m (ask m room q)
   pub loads : (m : Model) (bytes : List ℕ) (told : Told) → Loads m bytes told → Harmless m told
-  -- a question changes nothing at all
+  -- A question changes nothing at all.
   pub asking : (m : Model) (room : ℕ) (q : Question) → ask m room q .after ≡ m

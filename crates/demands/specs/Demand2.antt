@@ -28,11 +28,11 @@ use Rattle.demands.specs.Reachable.{Reachable}
 
 -- ---- what each command changes, where it is done
 
--- the set `name` of the kind becomes this one
+-- The policy in which the set `name` of the kind is this one.
 abbrev pub setMade : Kind → Model → ℕ → RoleSet → Model
 setMade kind m name set = withSets kind m (put (setsOf kind m) name set)
 
--- the policy and sessions after the command (member by member in Effects)
+-- The policy and sessions after the command. (`Effects` says them member by member.)
 unfoldable pub effect : Model → Command → List ℕ → Model
 -- "`user u`, `role r` add"
 effect m (AddUser u) list = withUsers m (put (m .users) (u .number) true)
@@ -62,7 +62,7 @@ effect m (Activate u s r) list = activeSet m (s .number) (with (m .sessions (s .
 effect m (DropActive u s r) list = activeSet m (s .number) (without (m .sessions (s .number) .active) (r .number))
 effect m (EndSession u s) list = sessionSet m (s .number) model.closedSession
 
--- "`session u r..`: .. the result is the lowest free session number"; no other command has a result
+-- The results of the command: "`session u r..`: .. the result is the lowest free session number". No other command has a result.
 unfoldable pub results : Model → Command → List ℕ → List ℕ
 results m (AddUser u) list = []
 results m (AddRole r) list = []
@@ -86,25 +86,25 @@ results m (EndSession u s) list = []
 
 -- ---- the refusals of each command, as the paper lists them
 
--- 10: "an SSD rule would be broken for some user"; 11: "a DSD rule would be broken in some session". Asked of the policy and sessions as they
--- would be after the command
+-- 10: "an SSD rule would be broken for some user"; 11: "a DSD rule would be broken in some session". It is asked of the policy and
+-- sessions as they would be after the command.
 abbrev pub wouldBreak : Kind → Model → Bool
 wouldBreak Static after = some 256 (staticBroken after)
 wouldBreak Dynamic after = some 64 (dynamicBroken after)
 
 -- 11 of `session`: in some session, the one to be opened among them. It is one of the 64 where there is room. Where all 64 are open it is
 -- counted as the 65th, so that 11 comes before 12 there too: with 64 sessions open, `session 7 0 1` is 11 where a dynamic set of cardinality 2
--- has the roles 0 and 1, and 12 where none has
+-- has the roles 0 and 1, and 12 where none has.
 abbrev pub wouldBreakOpened : Model → Bool
 wouldBreakOpened after = some 65 (dynamicBroken after)
 
 infixl 90 _beyond_
--- "a number is beyond its range", whose last number this is: "Users are 0 to 255, roles 0 to 63, sessions 0 to 63, SSD sets 0 to 15, DSD sets
--- 0 to 15. Operations 0 to 15 and objects 0 to 255"
+-- The number n "is beyond its range", whose last number this is: "Users are 0 to 255, roles 0 to 63, sessions 0 to 63, SSD sets 0 to 15, DSD sets
+-- 0 to 15. Operations 0 to 15 and objects 0 to 255".
 abbrev pub _beyond_ : ℕ → ℕ → Bool
 n beyond last = leb (suc last) n
 
--- 13 is on no list: no chain of more than 64 roles is met
+-- The cases in which the command is refused, in the order of the answer sheet. 13 is on no list: no chain of more than 64 roles is ever met.
 unfoldable pub refusals : Model → Command → List ℕ → List Refusal
 -- "`user u`, `role r` add; 1, 4."
 refusals m (AddUser u) list = 1 when u .number beyond 255 ∷ 4 when m .users (u .number) ∷ []
@@ -225,39 +225,39 @@ refusals m (EndSession u s) list =
 
 -- ---- exactly
 
--- the number n is among the cases, and its condition holds
+-- The number n is among the cases, and its condition holds.
 abbrev pub Applies : List Refusal → ℕ → Type 0
 Applies cases n = List·Memᴰ (n when true) cases
 
--- "14 comes first and then the lowest number": the place of a number in that order
+-- The place of a number in the order "14 comes first and then the lowest number".
 abbrev pub place : ℕ → ℕ
 place n = elim (eqb n 14) [ true ↦ 0 | false ↦ n ]
 
--- "Where several apply, 14 comes first and then the lowest number": n applies, and no number that applies comes before it
+-- "Where several apply, 14 comes first and then the lowest number": n applies, and no number that applies comes before it.
 pub record FirstToApply (cases : List Refusal) (n : ℕ) : Type 0 where
   pub applies : Applies cases n
   pub first : (k : ℕ) → Applies cases k → place n ≤ place k
 
 -- With these cases of refusal, these results and this policy after it, no more and no less is told: "refused exactly in the listed cases".
 pub record Exactly (before : Model) (cases : List Refusal) (results : List ℕ) (after : Model) (told : Told) : Type 0 where
-  -- a number, not 0, is answered exactly when it is the first of the cases that applies
+  -- A number, not 0, is answered exactly when it is the first of the cases that applies.
   pub refused : (n : ℕ) → (n ≡ 0 → ⊥) → (told .answer ≡ n) ↔ FirstToApply cases n
-  -- 0 is answered exactly when none applies
+  -- 0 is answered exactly when none applies,
   pub done : (told .answer ≡ 0) ↔ ((n : ℕ) → Applies cases n → ⊥)
-  -- and then the results and the policy after it are these
+  -- and then the results and the policy after it are these.
   pub gives : told .answer ≡ 0 → told .results ≡ results
   pub changes : told .answer ≡ 0 → told .after ≡ after
   -- "Every refusal changes nothing .. and gives no results."
   pub silent : (told .answer ≡ 0 → ⊥) → told .results ≡ []
   pub unchanged : (told .answer ≡ 0 → ⊥) → told .after ≡ before
 
--- anything that takes commands obeys demand 2, if on every reachable policy each command tells exactly that
+-- Anything that takes commands obeys demand 2, if on every reachable policy each command tells exactly that.
 abbrev pub Obeys : (Model → Command → List ℕ → Told) → Type 0
 Obeys engine = (m : Model) → Reachable m → (c : Command) (list : List ℕ) → Exactly m (refusals m c list) (results m c list) (effect m c list) (engine m c list)
 
 -- ---- access
 
--- an active role of the session, or a role that one inherits, holds the permission
+-- An active role of the session, or a role that one inherits, holds the permission.
 pub record Granted (m : Model) (s p : ℕ) : Type 0 where
   pub role : ℕ
   pub effective : Effective m s role
@@ -268,22 +268,22 @@ pub record Granted (m : Model) (s p : ℕ) : Type 0 where
 abbrev pub checkRefusals : Model → ℕ → ℕ → ℕ → List Refusal
 checkRefusals m s op obj = 1 when (s beyond 63 || (op beyond 15 || obj beyond 255)) ∷ 2 when not (m .sessions s .live) ∷ []
 
--- what is told of a question for access
+-- What is told of a question for access.
 pub record Checked (m : Model) (s op obj : ℕ) (told : Told) : Type 0 where
-  -- a number, not 0, is answered exactly when it is the first of the two refusals that applies
+  -- A number, not 0, is answered exactly when it is the first of the two refusals that applies.
   pub refused : (n : ℕ) → (n ≡ 0 → ⊥) → (told .answer ≡ n) ↔ FirstToApply (checkRefusals m s op obj) n
-  -- 0 is answered exactly when neither applies
+  -- 0 is answered exactly when neither applies.
   pub done : (told .answer ≡ 0) ↔ ((n : ℕ) → Applies (checkRefusals m s op obj) n → ⊥)
-  -- then there is one result, and it is 1 or 0
+  -- Then there is one result, and it is 1 or 0.
   pub answers : told .answer ≡ 0 → (told .results ≡ 1 ∷ []) ⊎ (told .results ≡ 0 ∷ [])
-  -- and it is 1, yes, exactly when an effective role of the session holds the permission "written as operation * 256 + object"
+  -- It is 1, yes, exactly when an effective role of the session holds the permission, "written as operation * 256 + object".
   pub exactly : told .answer ≡ 0 → (told .results ≡ 1 ∷ []) ↔ Granted m s (op * 256 + obj)
-  -- a refusal gives no results
+  -- A refusal gives no results.
   pub silent : (told .answer ≡ 0 → ⊥) → told .results ≡ []
-  -- and nothing is changed, whatever the answer
+  -- Nothing is changed, whatever the answer.
   pub unchanged : told .after ≡ m
 
--- anything that is asked for access obeys demand 2, if on every reachable policy it answers so
+-- Anything that is asked for access obeys demand 2, if on every reachable policy it answers so.
 abbrev pub Answers : (Model → ℕ → ℕ → ℕ → Told) → Type 0
 Answers checker = (m : Model) → Reachable m → (s op obj : ℕ) → Checked m s op obj (checker m s op obj)
 

@@ -18,13 +18,14 @@ use Rattle.demands.specs.Reachable.{Reachable}
 
 -- ---- the rules
 
--- through which role the session's access goes: an effective one that holds the permission, and that the owner is authorised for at that moment
+-- The role through which the session's access goes: an effective one that holds the permission, and that the owner is authorised for at that moment.
 pub record Through (m : Model) (s p : ℕ) : Type 0 where
   pub role : ℕ
   pub effective : Effective m s role
   pub holds : has (m .holders p) role ≡ true
   pub authorised : Authorised m (m .sessions s .owner) role
 
+-- The rules of demand 3, in its own words.
 pub record Rules (m : Model) : Type 0 where
   -- "no role inherits itself"
   pub circles : (r : ℕ) → Inherits (m .juniors) r r → ⊥
@@ -36,12 +37,12 @@ pub record Rules (m : Model) : Type 0 where
   pub static : StaticBroken m → ⊥
   -- "no session has that many roles of a dynamic set active"
   pub dynamic : DynamicBroken m → ⊥
-  -- no chain of inheritance has more than 64 roles, so that no answer is ever 13
+  -- No chain of inheritance has more than 64 roles, so that no answer is ever 13.
   pub chains : (r : ℕ) → Chain (m .juniors) 65 r → ⊥
 
 -- ---- the shape
 
--- "that every user and role they name exists, and that their SSD and DSD sets have the shape below"
+-- A promise may suppose "that every user and role they name exists, and that their SSD and DSD sets have the shape below": it is so.
 pub record Shape (m : Model) : Type 0 where
   -- "Users are 0 to 255, roles 0 to 63, sessions 0 to 63, SSD sets 0 to 15, DSD sets 0 to 15", permissions "0 to 4,095"
   pub users : (u : ℕ) → m .users u ≡ true → u ≤ 255
@@ -71,6 +72,7 @@ pub record Limits (m : Model) : Type 0 where
   pub lines : AsMany 513 (λ (p : ℕ × ℕ). has (m .juniors (p .0)) (p .1) ≡ true) → ⊥
   pub sessions : AsMany 65 (λ s. m .sessions s .live ≡ true) → ⊥
 
+-- They hold of every policy that can be reached.
 pub record Demand3 : Type 0 where
   pub rules : (m : Model) → Reachable m → Rules m
   pub shape : (m : Model) → Reachable m → Shape m

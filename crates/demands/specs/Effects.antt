@@ -32,68 +32,86 @@ Removed before after i r = (k q : ℕ) → has (after k) q ≡ (has (before k) q
 
 -- "Shedding: every session keeps exactly those active roles for which its owner is still authorised. The session stays open, even with none."
 pub record Shed (m after : Model) : Type 0 where
+  -- Every session is open or closed as it was,
   pub live : (s : ℕ) → after .sessions s .live ≡ m .sessions s .live
+  -- and its owner is who it was.
   pub owner : (s : ℕ) → after .sessions s .owner ≡ m .sessions s .owner
+  -- A role is active after exactly where it was active before and the session's owner is authorised for it after.
   pub active : (s r : ℕ) → (has (after .sessions s .active) r ≡ true) ↔ ((has (m .sessions s .active) r ≡ true) × Authorised after (m .sessions s .owner) r)
 
 -- ---- users and roles
 
--- `user u`
+-- "`user u` .. add"
 pub record UserAdded (m after : Model) (u : ℕ) : Type 0 where
+  -- The users are those that were, and u.
   pub users : (v : ℕ) → after .users v ≡ (m .users v || eqb v u)
+  -- Nothing but the users is changed.
   pub only : after ≡ withUsers m (after .users)
 
--- `role r`
+-- "`role r` add"
 pub record RoleAdded (m after : Model) (r : ℕ) : Type 0 where
+  -- The roles are those that were, and r.
   pub roles : (q : ℕ) → has (after .roles) q ≡ (has (m .roles) q || eqb q r)
+  -- Nothing but the roles is changed.
   pub only : after ≡ withRoles m (after .roles)
 
 -- "`nouser u`: ends the user's sessions, removes assignments"
 pub record UserGone (m after : Model) (u : ℕ) : Type 0 where
+  -- The users are those that were, but for u,
   pub users : (v : ℕ) → after .users v ≡ (m .users v && not (eqb v u))
+  -- and so are the assignments, but for those of u.
   pub assigned : (v q : ℕ) → has (after .assigned v) q ≡ (has (m .assigned v) q && not (eqb v u))
+  -- Every open session of u is closed,
   pub ended : (s : ℕ) → m .sessions s .live ≡ true → m .sessions s .owner ≡ u → after .sessions s ≡ closedSession
+  -- and every other session is as it was.
   pub others : (s : ℕ) → (m .sessions s .live ≡ true → m .sessions s .owner ≡ u → ⊥) → after .sessions s ≡ m .sessions s
+  -- Nothing but the users, the assignments and the sessions is changed.
   pub only : after ≡ withUsers (withAssigned (withSessions m (after .sessions)) (after .assigned)) (after .users)
 
 -- "`norole r`: removes its assignments, grants and direct lines at either end, then sheds .. Roles above and below it are not joined up."
 pub record RoleGone (m after : Model) (r : ℕ) : Type 0 where
+  -- The roles are those that were, but for r;
   pub roles : (q : ℕ) → has (after .roles) q ≡ (has (m .roles) q && not (eqb q r))
+  -- the lines are those that were, but for those with r at either end;
   pub lines : (a b : ℕ) → line (after .juniors) a b ≡ (line (m .juniors) a b && not (eqb a r || eqb b r))
+  -- the assignments are those that were, but for those to r;
   pub assigned : (v q : ℕ) → has (after .assigned v) q ≡ (has (m .assigned v) q && not (eqb q r))
+  -- and the grants are those that were, but for those to r.
   pub grants : (p q : ℕ) → has (after .holders p) q ≡ (has (m .holders p) q && not (eqb q r))
+  -- Then every session sheds.
   pub shedding : Shed m after
+  -- The users and the separation sets are as they were.
   pub only : after ≡ withSessions (withRoles (withHolders (withAssigned (withJuniors m (after .juniors)) (after .assigned)) (after .holders)) (after .roles)) (after .sessions)
 
 -- ---- assignments, grants and lines
 
--- `assign u r`
+-- `assign u r`: the assignment (u, r) is there besides those that were, and nothing else is changed.
 pub record AssignmentAdded (m after : Model) (u r : ℕ) : Type 0 where
   pub assigned : Added (m .assigned) (after .assigned) u r
   pub only : after ≡ withAssigned m (after .assigned)
 
--- `deassign u r`, whatever role is named
+-- `deassign u r`: the assignment (u, r) is gone and no other; every session sheds, whatever role is named; nothing else is changed.
 pub record AssignmentGone (m after : Model) (u r : ℕ) : Type 0 where
   pub assigned : Removed (m .assigned) (after .assigned) u r
   pub shedding : Shed m after
   pub only : after ≡ withSessions (withAssigned m (after .assigned)) (after .sessions)
 
--- `grant op obj r`
+-- `grant op obj r`: the grant is there besides those that were, and nothing else is changed.
 pub record GrantAdded (m after : Model) (p r : ℕ) : Type 0 where
   pub grants : Added (m .holders) (after .holders) p r
   pub only : after ≡ withHolders m (after .holders)
 
--- `revoke op obj r`
+-- `revoke op obj r`: the grant is gone and no other, and nothing else is changed.
 pub record GrantGone (m after : Model) (p r : ℕ) : Type 0 where
   pub grants : Removed (m .holders) (after .holders) p r
   pub only : after ≡ withHolders m (after .holders)
 
--- `inherit senior junior`: this line is recorded, and no line that a longer chain implies
+-- `inherit senior junior`: this line is recorded besides those that were, and none that a longer chain implies; nothing else is changed.
 pub record LineAdded (m after : Model) (senior junior : ℕ) : Type 0 where
   pub lines : Added (m .juniors) (after .juniors) senior junior
   pub only : after ≡ withJuniors m (after .juniors)
 
--- `disinherit senior junior`: "only recorded lines are kept and deleted"
+-- `disinherit senior junior`: this line is gone and no other, since "only recorded lines are kept and deleted"; every session sheds.
 pub record LineGone (m after : Model) (senior junior : ℕ) : Type 0 where
   pub lines : Removed (m .juniors) (after .juniors) senior junior
   pub shedding : Shed m after
@@ -101,7 +119,7 @@ pub record LineGone (m after : Model) (senior junior : ℕ) : Type 0 where
 
 -- ---- separation sets, of either kind
 
--- the set `name` is there or not, has this cardinality and these roles; every other is as it was
+-- The set `name` is there or not, has this cardinality and these roles; every other set is as it was, and nothing else is changed.
 pub record SetBecomes (kind : Kind) (m after : Model) (name : ℕ) (isThere : Bool) (n : ℕ) (member : ℕ → Bool) : Type 0 where
   pub there : setsOf kind after name .there ≡ isThere
   pub card : setsOf kind after name .card ≡ n
@@ -111,7 +129,7 @@ pub record SetBecomes (kind : Kind) (m after : Model) (name : ℕ) (isThere : Bo
 
 -- ---- sessions
 
--- session s is live or not, has this owner and these active roles; every other is as it was
+-- Session s is open or not, has this owner and these active roles; every other session is as it was, and nothing else is changed.
 pub record SessionBecomes (m after : Model) (s : ℕ) (isLive : Bool) (u : ℕ) (activeRole : ℕ → Bool) : Type 0 where
   pub live : after .sessions s .live ≡ isLive
   pub owner : after .sessions s .owner ≡ u
@@ -121,6 +139,7 @@ pub record SessionBecomes (m after : Model) (s : ℕ) (isLive : Bool) (u : ℕ) 
 
 -- ---- every command
 
+-- What the command changes, by the records above.
 abbrev pub Changed : Model → Command → List ℕ → Model → Type 0
 Changed m (AddUser u) list after = UserAdded m after (u .number)
 Changed m (AddRole r) list after = RoleAdded m after (r .number)

@@ -7,7 +7,8 @@ use Rattle.model.specs.Step.{step}
 use Rattle.model.specs.declared.Command.{Command}
 use Rattle.policyform.specs.Promises.{Loads}
 
--- the empty policy; what any command, done or refused, leaves of a reachable one; and what loading any bytes, accepted or refused, leaves of it
+-- A policy can be reached if it is the empty one; if a command, done or refused, leaves it of one that can be reached; or if loading any bytes, accepted
+-- or refused, leaves it of such a one.
 pub data Reachable : Model → Type 0 where
   start : Reachable empty
   after : {m : Model} → Reachable m → (c : Command) (list : List ℕ) → Reachable (step m c list .after)

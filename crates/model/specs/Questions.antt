@@ -74,7 +74,8 @@ setCount kind m name = (setsOf kind m name .card % 65536) ∷ []
 
 -- ---- each question, with its refusals: 1, 2, 13, 15
 
--- a review: the refusals that it shares with none, then "the lent output buffer is shorter than the whole result"
+-- A review: refused with 1 where a number is beyond its range, with 2 where what it names does not exist, with 13 where the walk is cut off, with 15
+-- where "the lent output buffer is shorter than the whole result"; else it gives the list.
 abbrev pub review : Model → ℕ → Bool → Bool → Bool → List ℕ → Told
 review m room beyond missing cut list =
     settle (1 when beyond ∷ 2 when missing ∷ 13 when cut ∷ 15 when ltb room (length list) ∷ []) m list m

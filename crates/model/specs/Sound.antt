@@ -15,10 +15,15 @@ pub record Existing (m : Model) (set : ℕ) : Type 0 where
 
 -- "SSD set: roles and a cardinality n, 2 <= n <= number of its roles."
 pub record SetShape (m : Model) (n : ℕ) (set : RoleSet) : Type 0 where
+  -- Of a set that is not there nothing is kept.
   pub absent : set .there ≡ false → set ≡ absentSet
+  -- The name n of a set that is there is one of 0 to 15,
   pub named : set .there ≡ true → n < 16
+  -- its cardinality is at least 2
   pub atLeast : set .there ≡ true → 2 ≤ set .card
+  -- and at most the number of its roles,
   pub atMost : set .there ≡ true → set .card ≤ count (set .roles)
+  -- and its roles exist.
   pub members : Existing m (set .roles)
 
 -- a session is open for a user that exists, or all zero

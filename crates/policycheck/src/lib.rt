@@ -124,7 +124,7 @@ fn set_fine(set: RoleSet, roles: u64) -> bool
     if set.card == 0 { set.roles == 0 } else { false }
 }
 
-// Is every set of one kind so?
+// Has every set of one kind the form that a file may list?
 fn sets_fine(state: &[u64; PLACES], kind: Kind) -> bool
     ensures { λ b. ⌜ Tells b ((n : ℕ) → SetFine (view (now (state .entry)) .roles) (setsOf kind (view (now (state .entry))) n)) ⌝ }
 {
