@@ -30,7 +30,7 @@ use Rattle.textlines.specs.Parts.{partsOf, upTo}
 use Rattle.reading.specs.Form.{render, wordIn, numbersIn, parse}
 use Rattle.meaning.specs.Meaning.{meanings, meant}
 use Rattle.script.specs.Script.{obey, answerText}
-use Rattle.transcripts.specs.Rows.{Row, _⇒_, afterRows}
+use Rattle.transcripts.specs.Rows.{afterRows}
 use Rattle.transcripts.proofs.Rows.{tells, rightThen, right, answered-then, answered}
 use Rattle.policyform.specs.Promises.{Saves}
 use Rattle.policyfile.proofs.Laws.{empty-file}

@@ -8,7 +8,6 @@ use Rattle.numbers.specs.declared.SetName.{SetName}
 use Rattle.numbers.specs.declared.User.{User}
 use Rattle.model.specs.Model.{Model, empty}
 use Rattle.model.specs.Questions.{ask}
-use Rattle.model.specs.Sheet.{Told}
 use Rattle.model.specs.Step.{step}
 use Rattle.model.specs.declared.Command.{Command}
 use Rattle.model.specs.declared.Command.the-variants.{AddUser, AddRole, Assign, Grant, Inherit, MakeSet, OpenSession}

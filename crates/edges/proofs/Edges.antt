@@ -26,11 +26,11 @@ use Rattle.script.specs.Script.{obey, answerText, totalText}
 use Rattle.transcripts.proofs.Scripts.{plain, tallies, rightLines, noFeed, noFeeds, rightScript, prints-rows}
 use Rattle.edges.specs.Edges.{numbers, removals, sets, lists, forms, longLines, openSessions, Edges}
 
-numbers-right : rightScript (plain (numbers ++ removals)) "total 23 51" ≡ true
+numbers-right : rightScript (plain (numbers ++ removals)) "total 26 54" ≡ true
 unfolding some every tally total members has pack those with without union common minus subset isEmpty count juniorsOf joined walk reach turned atOrAbove rising someFrom listed setOf empty put ask assignedUsers assignedRoles authUsers authRoles sessionRoles roleOps userOps setNames setRoles setCount verdict settle step breaks breaksSome staticBroken dynamicBroken shedded shed shedCut sessionsOpen user role nouser norole inSet endedOf allEnded withoutUser withoutRole assign assigned deassign deassigned grant granted revoke revoked inherit lined usersCut disinherit unlined broken makeSet dropSet addMember dropMember setCardinality freeFrom opened session activeSet activate drop end permitted check decimal lead numbered takenFrom same words spelling takes placeIn which partsOf upTo render wordIn numbersIn parse meanings meant obey answerText totalText tallies rightLines noFeed noFeeds rightScript
 numbers-right = refl
 
-sets-right : rightScript (plain sets) "total 19 36" ≡ true
+sets-right : rightScript (plain sets) "total 15 36" ≡ true
 unfolding some every tally total members has pack those with without union common minus subset isEmpty count juniorsOf joined walk reach turned atOrAbove rising someFrom listed setOf empty put ask assignedUsers assignedRoles authUsers authRoles sessionRoles roleOps userOps setNames setRoles setCount verdict settle step breaks breaksSome staticBroken dynamicBroken shedded shed shedCut sessionsOpen user role nouser norole inSet endedOf allEnded withoutUser withoutRole assign assigned deassign deassigned grant granted revoke revoked inherit lined usersCut disinherit unlined broken makeSet dropSet addMember dropMember setCardinality freeFrom opened session activeSet activate drop end permitted check decimal lead numbered takenFrom same words spelling takes placeIn which partsOf upTo render wordIn numbersIn parse meanings meant obey answerText totalText tallies rightLines noFeed noFeeds rightScript
 sets-right = refl
 
@@ -53,8 +53,8 @@ longLines-right = refl
 pub edges : Edges
 edges =
     record {
-      numbers = prints-rows (numbers ++ removals) "total 23 51" numbers-right;
-      sets = prints-rows sets "total 19 36" sets-right;
+      numbers = prints-rows (numbers ++ removals) "total 26 54" numbers-right;
+      sets = prints-rows sets "total 15 36" sets-right;
       lists = prints-rows lists "total 9 12" lists-right;
       forms = prints-rows forms "total 2 26" forms-right;
       longLines = prints-rows longLines "total 0 2" longLines-right;

@@ -29,13 +29,16 @@ numbers =
     "inherit 63 62" ⇒ "0" ∷
     "inherit 64 62" ⇒ "1" ∷
     "inherit 63 64" ⇒ "1" ∷
+    "inherit 62 63" ⇒ "6" ∷
     "disinherit 64 62" ⇒ "1" ∷
     "disinherit 63 64" ⇒ "1" ∷
+    "disinherit 62 63" ⇒ "5" ∷
     -- operations 0 to 15 and objects 0 to 255
     "grant 15 255 62" ⇒ "0" ∷
     "grant 16 255 62" ⇒ "1" ∷
     "grant 15 256 62" ⇒ "1" ∷
     "grant 15 255 64" ⇒ "1" ∷
+    "grant 15 255 63" ⇒ "0" ∷
     "revoke 16 255 62" ⇒ "1" ∷
     "revoke 15 256 62" ⇒ "1" ∷
     "revoke 15 255 64" ⇒ "1" ∷
@@ -48,6 +51,7 @@ numbers =
     "activate 255 63 62" ⇒ "2" ∷
     "activate 255 0 64" ⇒ "1" ∷
     "activate 255 0 62" ⇒ "0" ∷
+    "activate 255 0 63" ⇒ "4" ∷
     "drop 256 0 62" ⇒ "1" ∷
     "drop 255 64 62" ⇒ "1" ∷
     "drop 255 63 62" ⇒ "2" ∷
@@ -65,7 +69,7 @@ numbers =
     "assigned-users 64" ⇒ "1" ∷
     "assigned-roles 255" ⇒ "0 63" ∷
     "assigned-roles 256" ⇒ "1" ∷
-    "auth-users 62" ⇒ "0 255" ∷
+    "auth-users 63" ⇒ "0 255" ∷
     "auth-users 64" ⇒ "1" ∷
     "auth-roles 255" ⇒ "0 62 63" ∷
     "auth-roles 256" ⇒ "1" ∷
@@ -88,8 +92,10 @@ numbers =
 abbrev pub removals : List Row
 removals =
     "drop 255 0 62" ⇒ "0" ∷
+    "drop 255 0 63" ⇒ "0" ∷
     "end 255 0" ⇒ "0" ∷
     "revoke 15 255 62" ⇒ "0" ∷
+    "revoke 15 255 63" ⇒ "0" ∷
     "disinherit 63 62" ⇒ "0" ∷
     "deassign 255 63" ⇒ "0" ∷
     "norole 63" ⇒ "0" ∷
@@ -113,7 +119,7 @@ sets =
     "ssd-drop 16 63" ⇒ "1" ∷
     "ssd-drop 15 64" ⇒ "1" ∷
     -- a cardinality is 2 or more, and at most the set's size; it is never beyond its range
-    "ssd 14 1 61 62" ⇒ "7" ∷
+    "ssd 14 1 61 63" ⇒ "7" ∷
     "ssd 14 3 61 62" ⇒ "7" ∷
     "ssd 14 65535 61 62" ⇒ "7" ∷
     "ssd-card 15 1" ⇒ "7" ∷
@@ -127,8 +133,6 @@ sets =
     "ssd-count 16" ⇒ "1" ∷
     -- at that size no role can go
     "ssd-drop 15 63" ⇒ "7" ∷
-    "ssd-card 15 2" ⇒ "0" ∷
-    "ssd-drop 15 63" ⇒ "0" ∷
     "nossd 14" ⇒ "2" ∷
     "nossd 16" ⇒ "1" ∷
     "nossd 15" ⇒ "0" ∷
@@ -141,7 +145,7 @@ sets =
     "dsd-add 15 64" ⇒ "1" ∷
     "dsd-drop 16 63" ⇒ "1" ∷
     "dsd-drop 15 64" ⇒ "1" ∷
-    "dsd 14 1 61 62" ⇒ "7" ∷
+    "dsd 14 1 61 63" ⇒ "7" ∷
     "dsd 14 3 61 62" ⇒ "7" ∷
     "dsd 14 65535 61 62" ⇒ "7" ∷
     "dsd-card 15 1" ⇒ "7" ∷
@@ -154,8 +158,6 @@ sets =
     "dsd-count 15" ⇒ "0 3" ∷
     "dsd-count 16" ⇒ "1" ∷
     "dsd-drop 15 63" ⇒ "7" ∷
-    "dsd-card 15 2" ⇒ "0" ∷
-    "dsd-drop 15 63" ⇒ "0" ∷
     "nodsd 14" ⇒ "2" ∷
     "nodsd 16" ⇒ "1" ∷
     "nodsd 15" ⇒ "0" ∷
@@ -332,8 +334,8 @@ openSessions =
 
 -- Each script prints what stands beside its lines, and the total.
 pub record Edges : Type 0 where
-  pub numbers : Prints (numbers ++ removals) "total 23 51"
-  pub sets : Prints sets "total 19 36"
+  pub numbers : Prints (numbers ++ removals) "total 26 54"
+  pub sets : Prints sets "total 15 36"
   pub lists : Prints lists "total 9 12"
   pub forms : Prints forms "total 2 26"
   pub longLines : Prints longLines "total 0 2"
