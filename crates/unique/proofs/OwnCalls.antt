@@ -34,7 +34,7 @@ use Rattle.policyform.specs.Encode.{encode}
 use Rattle.policyform.specs.Promises.{Saves, Loads}
 use Rattle.policyfile.proofs.Laws.{saved-buffer}
 use Rattle.words.specs.ScriptWords.{wordOf}
-use Rattle.reading.specs.Form.{Written}
+use Rattle.transcripts.specs.LineForm.{LineForm}
 use Rattle.meaning.specs.Meaning.{meant}
 use Rattle.meaning.specs.declared.Meant.{Meant}
 use Rattle.meaning.specs.declared.Meant.the-variants.{Do, Ask, Nothing}
@@ -194,7 +194,7 @@ means {m} r Nothing list = refl
 line-tells : {m : Model} → Reachable m → (text : List ℕ) → LineTells m text (obey m text)
 line-tells {m} r text = record { formed = formed; not-formed = script-lines .not-formed m text }
   where
-    formed : (k : ℕ) (ns : List ℕ) → Written text k ns → Means m (meant k (getD ns 0 0) (getD ns 1 0) (getD ns 2 0)) (drop (wordOf k .numbers) ns) (obey m text)
+    formed : (k : ℕ) (ns : List ℕ) → LineForm text k ns → Means m (meant k (getD ns 0 0) (getD ns 1 0) (getD ns 2 0)) (drop (wordOf k .numbers) ns) (obey m text)
     formed k ns w =
         let word = meant k (getD ns 0 0) (getD ns 1 0) (getD ns 2 0) in
         let list = drop (wordOf k .numbers) ns in

@@ -29,7 +29,7 @@ use Rattle.text.specs.Putting.{Put}
 use Rattle.textlines.specs.Parts.{partAt, placePast}
 use Rattle.textlines.specs.Tallies.{counted}
 use Rattle.words.specs.ScriptWords.{wordOf}
-use Rattle.reading.specs.Form.{Written}
+use Rattle.transcripts.specs.LineForm.{LineForm}
 use Rattle.meaning.specs.Meaning.{meant}
 use Rattle.meaning.specs.declared.Meant.{Meant}
 use Rattle.meaning.specs.declared.Meant.the-variants.{Do, Ask, Nothing}
@@ -151,8 +151,8 @@ Means m Nothing list told = told ≡ refused 14 m
 
 -- What is told of any text: where it is a word and its numbers, written as the paper says, what these mean; else 14, and nothing is changed.
 pub record LineTells (m : Model) (text : List ℕ) (told : Told) : Type 0 where
-  pub formed : (k : ℕ) (ns : List ℕ) → Written text k ns → Means m (meant k (getD ns 0 0) (getD ns 1 0) (getD ns 2 0)) (drop (wordOf k .numbers) ns) told
-  pub not-formed : ((k : ℕ) (ns : List ℕ) → Written text k ns → ⊥) → told ≡ refused 14 m
+  pub formed : (k : ℕ) (ns : List ℕ) → LineForm text k ns → Means m (meant k (getD ns 0 0) (getD ns 1 0) (getD ns 2 0)) (drop (wordOf k .numbers) ns) told
+  pub not-formed : ((k : ℕ) (ns : List ℕ) → LineForm text k ns → ⊥) → told ≡ refused 14 m
 
 -- What a line left: its answer and results as a text at the front of the lent buffer, ending at `len`, and its policy and sessions in the state l.
 pub record Answered (m : Model) (text before after : List ℕ) (len : ℕ) (l : List ℕ) : Type 0 where
