@@ -28,9 +28,12 @@ says() {
     echo "failing-io: $1: $(cat "$room/said")"
 }
 
-for program in bench reload; do
-    input=examples/paper.script
-    [ $program = bench ] || input=tests/files/example.bin
+for program in bench reload speed; do
+    case $program in
+    bench) input=examples/paper.script ;;
+    reload) input=tests/files/example.bin ;;
+    speed) input=crates/speed/stdin ;;
+    esac
 
     "$@" target/bin/$program <"$room" >"$room/printed" 2>"$room/said"
     says "$program, a directory as input"
