@@ -28,26 +28,29 @@ says() {
     echo "failing-io: $1: $(cat "$room/said")"
 }
 
-for program in bench reload; do
-    input=examples/paper.script
-    [ $program = bench ] || input=tests/files/example.bin
+for program in bench reload speed; do
+    case $program in
+    bench) input=examples/paper.script ;;
+    reload) input=tests/files/example.bin ;;
+    speed) input=crates/speed/stdin ;;
+    esac
 
     "$@" target/bin/$program <"$room" >"$room/printed" 2>"$room/said"
     says "$program, a directory as input"
     "$@" target/bin/$program <&- >"$room/printed" 2>"$room/said"
     says "$program, a closed input"
     : >"$room/printed"
-    "$@" target/bin/$program <$input >/dev/full 2>"$room/said"
+    "$@" target/bin/$program <"$input" >/dev/full 2>"$room/said"
     says "$program, a full output"
-    "$@" target/bin/$program <$input >&- 2>"$room/said"
+    "$@" target/bin/$program <"$input" >&- 2>"$room/said"
     says "$program, a closed output"
-    "$@" target/bin/$program <$input >"$room/printed" 2>"$room/said" || fail "$program fails on $input"
+    "$@" target/bin/$program <"$input" >"$room/printed" 2>"$room/said" || fail "$program fails on $input"
     [ ! -s "$room/said" ] || fail "$program says something where nothing failed: $(cat "$room/said")"
 
     ./run $program <"$room" >/dev/null 2>&1 && fail "./run $program, a directory as input, ends with 0"
-    ./run $program <$input >/dev/full 2>/dev/null && fail "./run $program, a full output, ends with 0"
-    ./run $program <$input >&- 2>/dev/null && fail "./run $program, a closed output, ends with 0"
-    ./run $program <$input >"$room/run" 2>/dev/null || fail "./run $program fails on $input"
+    ./run $program <"$input" >/dev/full 2>/dev/null && fail "./run $program, a full output, ends with 0"
+    ./run $program <"$input" >&- 2>/dev/null && fail "./run $program, a closed output, ends with 0"
+    ./run $program <"$input" >"$room/run" 2>/dev/null || fail "./run $program fails on $input"
     cmp -s "$room/run" "$room/printed" || fail "./run $program prints something else than $program"
     echo "failing-io: ./run $program ends with another status than 0 where it fails"
 done

@@ -60,6 +60,7 @@ pub record Puts (told : Piece) (before after : List ℕ) (x : Printed) : Type 0 
   pub text : Put before 0 (told .text) after (x .len)
   pub run : x .run ≡ told .run
 
+-- A script that is too long is answered so, whatever the state: it is one line more that was not answered 0, and the place is past it.
 abbrev pub Refuses : List ℕ → Progress → List ℕ → List ℕ → Printed → Type 0
 Refuses script p before after x = Puts (piece tooLong script [] p) before after x
 

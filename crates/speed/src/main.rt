@@ -1,5 +1,6 @@
 // How fast the engine is: reads a request, builds a policy by the engine's own commands, makes one or two moves again and again, and writes a checksum of their answers. `speed/run` times it beside the same work in C.
 ghost use Prim.Native.Nat.{_<_};
+use libc::STDERR_FILENO;
 use libc::STDIN_FILENO;
 use libc::STDOUT_FILENO;
 use state::PLACES;
@@ -49,10 +50,25 @@ fn run(state: &mut [u64; PLACES], first: u64, second: u64, depth: u16, rounds: u
     }
 }
 
+// Writes the checksum.
+fn print(sum: u64) {
+    if io::print_decimal(STDOUT_FILENO, sum) {
+        if io::write_all(STDOUT_FILENO, b"\n") {
+            return;
+        }
+    }
+    io::write_all(STDERR_FILENO, b"speed: the checksum could not be written\n");
+}
+
 // The request: FIRST SECOND DEPTH USERS ROUNDS.
 fn main() {
     let mut text = [0u8; 64];
-    let n = io::read_full(STDIN_FILENO, &mut text);
+    let request = streams::read_whole(STDIN_FILENO, &mut text);
+    let n = request.len;
+    if !request.whole {
+        io::write_all(STDERR_FILENO, b"speed: the request could not be read\n");
+        return;
+    }
     let first = number_at(&text[..n], 0);
     let second = number_at(&text[..n], first.next);
     let depth = number_at(&text[..n], second.next);
@@ -63,6 +79,5 @@ fn main() {
     let mut state = [0u64; PLACES];
     school::build(&mut state, d, u);
     let sum = run(&mut state, first.value, second.value, d, rounds.value);
-    io::print_decimal(STDOUT_FILENO, sum);
-    io::write_all(STDOUT_FILENO, b"\n");
+    print(sum);
 }

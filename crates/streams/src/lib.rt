@@ -1,6 +1,7 @@
 // The programs' input and output: an input that is read whole, or known not to be. What a read of the C library puts into the buffer no contract can say.
 ghost use Prim.Native.Nat.{_≤_};
 ghost use lib.ListN.{length};
+ghost use Rattle.io.specs.Counts.{Counts};
 
 // How many bytes were read, to the front of the buffer. Where `whole`, no read failed: the input ends there, or it fills the buffer.
 pub struct Input {
@@ -27,7 +28,7 @@ fn read_once(fd: i32, part: &mut [u8]) -> Got
 
 // Reads until the input ends, the buffer is full or a read fails.
 pub fn read_whole(fd: i32, buf: &mut [u8]) -> Input
-    ensures { λ r. ⌜ r .len ≤ length (now (buf .exit)) ⌝ }
+    ensures { λ r. ⌜ Counts (r .len) (now (buf .exit)) ⌝ }
 {
     let mut len: usize = 0;
     while len < buf.len() {
