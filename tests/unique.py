@@ -29,6 +29,7 @@ LAW_OF = {
     "reviews.Asked": "reviewed-one",
     "reviews.AskedAny": "reviewed-one",
     "script.Answers": "answered-one",
+    "clibrary.Loads": "loaded-one",
 }
 
 # The proofs of promises that have no name: x and y are the results, p and q that they meet the promise, vx and vy that they are of their type.
@@ -151,6 +152,11 @@ class Function:
             return "UniqueSeen", ["(λ κs x e. x .now)"]
         if seen and known == len(numbers) == 1:
             return "UniqueSeen {A = List ℕ × ℕ}", [f"(λ κs x e. (x .now, e {place(numbers[0])} .now))"]
+        if numbers and not seen and len(numbers) == 1 and len(buffers) <= 1 and not states:
+            at = f"e {place(numbers[0])} .now"
+            if buffers:
+                return "UniqueLent {A = List ℕ × ℕ}", [f"(λ κs e. (e {place(buffers[0])} .now, {at}))"]
+            return "UniqueLent {A = ℕ}", [f"(λ κs e. {at})"]
         if "&" in self.result or numbers or len(states) > 1 or len(buffers) > 1:
             self.bad("lends or is lent several things")
         if states and buffers:
@@ -211,8 +217,9 @@ class Function:
     # ---- what a function hands back
 
     def hands_back(self):
-        """Whether it changes the state and answers: a command, a step, a load or a line."""
-        return self.result != "" and "&mut " + STATE in self.types
+        """Whether it changes the state and answers: a command, a step, a load or a line; or starts it anew (`state::stores::start` is written by hand)."""
+        starts = self.promise == "view (now (state .exit)) ≡ empty" and self.place != "state.stores.start"
+        return (self.result != "" or starts) and "&mut " + STATE in self.types
 
     def constructor(self):
         at = place(self.types.index("&mut " + STATE))
