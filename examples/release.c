@@ -33,7 +33,7 @@ static void say(const char *time, const char *line, const char *why)
     char answer[16];
     size_t length = marruskil_obey(&state, line, strlen(line), answer, sizeof answer);
 
-    printf("%s  %-12s %.*s  (%s)\n", time, line, length > 0 ? (int)length - 1 : 1, length > 0 ? answer : "?", why);
+    printf("%s  %-13s %-4.*s %s\n", time, line, length > 0 ? (int)length - 1 : 1, length > 0 ? answer : "?", why);
 }
 
 int main(void)

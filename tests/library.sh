@@ -30,18 +30,75 @@ python3 tests/library/header.py $defined || exit 1
 needed=$(nm -g --undefined-only $made/libmarruskil.a | awk '$1 == "U" { print $2 }' | grep -v -x -e memcpy -e memset -e memmove -e memcmp -e bcmp)
 [ -z "$needed" ] || fail "the archive needs $needed"
 
-strict='-O2 -Wall -Wextra -Werror -pedantic'
-build() { # NAME SOURCE COMPILER..: builds $room/NAME
-    name=$1 source=$2
-    shift 2
-    "$@" -I $made -o "$room/$name" "$source" $made/libmarruskil.a || fail "$source does not compile ($*)"
+# Builds $room/NAME.
+build() { # NAME LANGUAGE SOURCE COMPILER..
+    name=$1 language=$2 source=$3
+    shift 3
+    "$@" -Wall -Wextra -Werror -pedantic -I $made -o "$room/$name" -x "$language" "$source" -x none $made/libmarruskil.a || fail "$source does not compile ($*)"
 }
+checks='-g -fsanitize=address,undefined -fno-sanitize-recover=all'
+echo 'int main(void) { return 0; }' >"$room/try.c"
+# shellcheck disable=SC2086
+if cc $checks -o "$room/try" "$room/try.c" 2>/dev/null && "$room/try" 2>/dev/null; then checked=yes
+else checked=no; echo "library: PASSED OVER: the compiler has no checks of addresses and undefined behaviour"; fi
 for source in examples/*.c tests/library/*.c; do
-    name=$(basename "$source" .c)
+    program=$(basename "$source" .c)
+    build "$program" c "$source" cc -O2 -std=c99
+    build "$program.cpp" c++ "$source" c++ -std=c++11
     # shellcheck disable=SC2086
-    build "$name" "$source" cc $strict -std=c99
-    # shellcheck disable=SC2086
-    build "$name.cpp" "$source" c++ -x c++ $strict -std=c++11 -x c++ -
+    [ $checked = no ] || build "$program.checked" c "$source" cc -O1 -std=c99 $checks
 done
+kinds="$room/host $room/script $room/script.cpp"
+[ $checked = no ] || kinds="$kinds $room/script.checked"
 
-echo done
+# Compares what a command prints with a file.
+prints() { # WHAT INPUT EXPECTED COMMAND..
+    what=$1 input=$2 expected=$3
+    shift 3
+    "$@" <"$input" >"$room/printed" || fail "$1 failed on $what"
+    cmp -s "$expected" "$room/printed" || {
+        echo "library: $(basename "$1") prints otherwise on $what:"
+        diff -a "$expected" "$room/printed" | head -n 10
+        exit 1
+    }
+}
+
+# bench runs as ./run runs it: under the toolchain's own loader and C library.
+home=$(rt doc) && tools=${home%/docs/START-HERE.md}/on/x86_64/toolchain
+bench="$tools/lib/ld-linux-x86-64.so.2 --library-path $tools/lib target/bin/bench"
+compare() { # WHAT SCRIPT
+    $bench <"$2" >"$room/expected" || fail "bench failed on $1"
+    for kind in $kinds; do prints "$1" "$2" "$room/expected" "$kind"; done
+    lines=$((lines + $(wc -l <"$room/expected") - 1))
+}
+lines=0
+for script in examples/*.script; do
+    compare "$script" "$script"
+    cmp -s "${script%.script}.expected" "$room/expected" || fail "bench prints otherwise on $script"
+done
+echo "library: the hosts print what bench prints on the examples ($lines lines)"
+lines=0
+for seed in 1 2 3 4 5 6; do
+    python3 tests/library/lines.py $seed >"$room/script.txt" || fail "no random script is made"
+    compare "the random script $seed" "$room/script.txt"
+done
+[ "$lines" -ge 8000 ] || fail "the random scripts have $lines lines only"
+echo "library: the hosts print what bench prints on random scripts ($lines lines)"
+
+for program in release release.cpp; do prints "the afternoon" /dev/null examples/release.expected "$room/$program"; done
+echo "library: the release stops when the role is taken away"
+
+files=0
+for file in tests/files/*.bin; do
+    answer=${file%.bin}.answer
+    cp "$answer" "$room/expected"
+    [ "$(cat "$answer")" != 0 ] || cat "$file" >>"$room/expected"
+    prints "$file" "$file" "$room/expected" "$room/file"
+    files=$((files + 1))
+done
+[ "$files" -gt 0 ] || fail "there are no stored files"
+echo "library: $files policy files are loaded and saved as they should"
+
+"$room/random" >"$room/printed" || fail "random states"
+echo "library: random states: $(cat "$room/printed")"
+[ $checked = no ] || "$room/random.checked" 300 >/dev/null || fail "random states, with the compiler's checks"

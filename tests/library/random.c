@@ -1,5 +1,5 @@
 /* Calls every function on states that no call made, all bits random, with random arguments. Every lent block ends right before memory that nobody may
-   touch, and bytes that are not to be written are compared. Prints how many calls of each kind there were. Ends with status 1 and a word on standard
+   touch, and bytes that are not to be written are compared. Takes the number of rounds, 2,000 where none is given, and prints how many calls of each kind there were. Ends with status 1 and a word on standard
    error where an answer is no number of the sheet, a refusal changes something, or something is written that should not be. */
 #define _DEFAULT_SOURCE
 #include <stdio.h>
@@ -9,7 +9,7 @@
 
 #include "marruskil.h"
 
-enum { ROUNDS = 3000, UNTOUCHED = 0xa5, FENCE = 65536, MOST_FILE = 65000 };
+enum { UNTOUCHED = 0xa5, FENCE = 65536, MOST_FILE = 65000 };
 
 typedef char a_size_is_64_bits[sizeof(size_t) == 8 ? 1 : -1];
 typedef char a_state_is_its_numbers[sizeof(marruskil_state) == 8 * MARRUSKIL_PLACES ? 1 : -1];
@@ -153,7 +153,7 @@ static void try_check(const marruskil_state *state)
 /* Saves the state, in a buffer of any length, and loads what was saved, whole or damaged, or any bytes. */
 static void try_file(marruskil_state *state, uint8_t *file_end)
 {
-    size_t room = below(2) ? MOST_FILE : below(MOST_FILE), length = 12345, i;
+    size_t room = below(2) ? (size_t)MOST_FILE : below(MOST_FILE), length = 12345, i;
     uint8_t *out = fenced(file_end, room), *file;
     uint16_t answer;
 
@@ -181,13 +181,14 @@ static void try_file(marruskil_state *state, uint8_t *file_end)
     must(answer == 0 || memcmp(state, &before, sizeof before) == 0, "a refused load changes the state");
 }
 
-int main(void)
+int main(int words_given, char **given)
 {
+    unsigned long round, rounds = words_given > 1 ? strtoul(given[1], NULL, 10) : 2000;
     uint8_t *state_end = fence(), *line_end = fence(), *out_end = fence(), *file_end = fence();
     marruskil_state *state = (marruskil_state *)(void *)fenced(state_end, sizeof *state);
-    unsigned round, i;
+    unsigned i;
 
-    for (round = 0; round < ROUNDS; round++) {
+    for (round = 0; round < rounds; round++) {
         if (below(50) == 0)
             marruskil_start(state);
         else
