@@ -7,7 +7,7 @@
    one that no call made included; and that it ends, reading and writing nothing but what it was lent.
    Not proved: this header (tests/library.sh compares it with the functions); that the pointers of a call are good, which means not null (not even
    for length 0), aligned, with as much memory behind each as is said, no two of them overlapping where one is written, and not used by another
-   thread during the call; the compiler. */
+   thread during the call; that the stack has room, of which a call takes less than 128 KB; the compiler. */
 #ifndef MARRUSKIL_H
 #define MARRUSKIL_H
 

@@ -85,6 +85,10 @@ done
 [ "$lines" -ge 8000 ] || fail "the random scripts have $lines lines only"
 echo "library: the hosts print what bench prints on random scripts ($lines lines)"
 
+# A stack of 128 KB is enough.
+(ulimit -S -s 128 && env -i "$room/script" <"$room/script.txt" >"$room/printed" && env -i "$room/random" 100 >/dev/null) || fail "a stack of 128 KB is not enough"
+cmp -s "$room/expected" "$room/printed" || fail "with a stack of 128 KB something else is printed"
+
 for program in release release.cpp; do prints "the afternoon" /dev/null examples/release.expected "$room/$program"; done
 echo "library: the release stops when the role is taken away"
 
