@@ -31,6 +31,7 @@ LAW_OF = {
     "reviews.Asked": "reviewed-one",
     "reviews.AskedAny": "reviewed-one",
     "script.Answers": "answered-one",
+    "clibrary.Loads": "loaded-one",
 }
 
 # The proofs of promises that have no name: x and y are the results, p and q that they meet the promise, vx and vy that they are of their type.
@@ -156,6 +157,11 @@ class Function:
             return "UniqueSeen", ["(λ κs x e. x .now)"]
         if seen and known == len(numbers) == 1:
             return "UniqueSeen {A = List ℕ × ℕ}", [f"(λ κs x e. (x .now, e {place(numbers[0])} .now))"]
+        if numbers and not seen and len(numbers) == 1 and len(buffers) <= 1 and not states:
+            at = f"e {place(numbers[0])} .now"
+            if buffers:
+                return "UniqueLent {A = List ℕ × ℕ}", [f"(λ κs e. (e {place(buffers[0])} .now, {at}))"]
+            return "UniqueLent {A = ℕ}", [f"(λ κs e. {at})"]
         if "&" in self.result or numbers or len(states) > 1 or len(buffers) > 1:
             self.bad("lends or is lent several things")
         if states and buffers:
@@ -216,8 +222,9 @@ class Function:
     # ---- what a function hands back
 
     def hands_back(self):
-        """Whether it changes the state and answers: a command, a step, a load or a line."""
-        return self.result != "" and "&mut " + STATE in self.types
+        """Whether it changes the state and answers: a command, a step, a load or a line; or starts it anew (`state::stores::start` is written by hand)."""
+        starts = self.promise == "view (now (state .exit)) ≡ empty" and self.place != "state.stores.start"
+        return (self.result != "" or starts) and "&mut " + STATE in self.types
 
     def constructor(self):
         at = place(self.types.index("&mut " + STATE))
@@ -362,7 +369,7 @@ def own_calls(every, arms):
         shows.append(f"      {f.field()} = λ c h. does h {command} {named} (c {met_by});")
     if len(says) != len(arms) or len(arms) != bare(ROOT / "crates/engine/src/lib.rt").count("Command::"):
         stop("an arm of `engine::step` does not call a public function of its own, as tests/unique.py expects")
-    crates = dict.fromkeys(f.crate for f in every if f.place in arms or f.crate in ("engine", "reviews", "policyfile", "script", "program"))
+    crates = dict.fromkeys(f.crate for f in every if f.place in arms or f.crate in ("engine", "reviews", "policyfile", "script", "program", "clibrary"))
     yield "specs/OwnCalls.antt", "the crates", [f"use Rattle.{c}.proofs as {c}" for c in crates] + [""]
     yield "specs/OwnCalls.antt", "the commands", says
     yield "proofs/OwnCalls.antt", "the commands", shows
@@ -405,7 +412,7 @@ def reviews_of(every):
 
 
 # The functions that are lent a buffer of bytes and have a line of `Buffers` that is written by hand.
-BUFFER_BY_HAND = {"policyfile.save", "script.answer_line", "script.turn", "program.next"}
+BUFFER_BY_HAND = {"policyfile.save", "script.answer_line", "script.turn", "program.next", "clibrary.marruskil_obey", "clibrary.marruskil_save"}
 
 
 def putters_of(every):
@@ -428,7 +435,7 @@ def putters_of(every):
 
 def written_by_hand(every, arms):
     """What is no command and changes the state and answers, is asked or saves has a line of OwnCalls; what is lent a buffer has one of Buffers."""
-    asked = {"sessions.check", "reviews.ask", "policyfile.save"}
+    asked = {"sessions.check", "reviews.ask", "policyfile.save", "clibrary.marruskil_check", "clibrary.marruskil_save"}
     for file, places in (("OwnCalls", asked | {f.place for f in every if f.hands_back() and f.place not in arms}), ("Buffers", BUFFER_BY_HAND)):
         text = (HOME / f"specs/{file}.antt").read_text(encoding="utf-8")
         for f in sorted(places):

@@ -61,6 +61,7 @@ one-outcome =
       meaning = promises.meaning;
       script = promises.script;
       program = promises.program;
+      clibrary = promises.clibrary;
     }
 
 pub claims : Claims

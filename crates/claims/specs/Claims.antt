@@ -63,6 +63,7 @@ pub record OneOutcome : Type 0 where
   pub meaning : promises.Meaning
   pub script : promises.Script
   pub program : promises.Program
+  pub clibrary : promises.Clibrary
 
 -- The answer sheet: "a definition provides this paper's number .. for each case".
 pub record AnswerSheet : Type 0 where

@@ -29,6 +29,7 @@ use Rattle.text.specs.Putting.{Put}
 use Rattle.text.specs.Places.{Wrote}
 use Rattle.text.proofs.Putting.{put-length}
 use Rattle.text.proofs.Writing.{wrote-length}
+use Rattle.clibrary.specs.Calls.{Obeys, SavesAt}
 use Rattle.unique.specs.Buffers.{Lent, Texted, Around, Buffers}
 
 -- ---- results at the front
@@ -174,6 +175,25 @@ texted {text} {before} {after} {len} p = record { whole = λ h. omega (arith, p 
         let place : 0 + k ≡ k = omega arith in
         ap (λ (l : List ℕ). getD l k 0) (p .holds) ∙ (rw place at (stored-at before 0 text k (omega (arith, p .ends)) (omega (arith, p .ends))))
 
+-- ---- what a C program lends
+
+-- bytes at the front, up to the length
+front-around : {bytes before after : List ℕ} {size : ℕ} → after ≡ sets before 0 bytes → size ≡ length bytes → Around 0 size before after
+front-around {bytes} {before} {after} {size} e l =
+    record {
+      long = ap length e ∙ length-sets before 0 bytes;
+      before-it = λ k h. absurd (let z : ⊥ = omega arith in z);
+      past = λ k h. ap (λ (x : List ℕ). getD x k 0) e ∙ stored-past before 0 bytes k (omega (arith, l));
+    }
+
+obeyed-around : {m : Model} {told : Told} {before after l : List ℕ} {size : ℕ} → Obeys m told before after size l → Around 0 size before after
+obeyed-around (inl x) = record { long = ap length (x .untouched); before-it = λ k h. absurd (let z : ⊥ = omega arith in z); past = λ k h. ap (λ (l : List ℕ). getD l k 0) (x .untouched) }
+obeyed-around (inr x) = front-around (x .stored) (x .long)
+
+saved-around : {m : Model} {before after : List ℕ} {old size answer : ℕ} → SavesAt m before after old size answer → ((answer ≡ 0 → ⊥) → after ≡ before) × (answer ≡ 0 → Around 0 size before after)
+saved-around {answer = answer} (inl x) = ((λ h. x .refused .untouched), (λ z. absurd (let y : 15 ≡ 0 = sym (x .refused .answered) ∙ z in omega arith)))
+saved-around (inr x) = ((λ h. absurd (h (x .answered))), (λ z. front-around (x .stored) (x .long)))
+
 -- ---- files
 
 saved : {m : Model} {before after : List ℕ} {answer size : ℕ} → Saves m before after answer size → Lent answer size before after
@@ -210,6 +230,8 @@ buffers =
       answer-line = λ c. texted (c .met .puts .text);
       turn = λ c. texted (c .met .text);
       next = λ c. texted (c .met .puts .text);
+      marruskil-obey = λ c. obeyed-around (c .met);
+      marruskil-save = λ c. saved-around (c .met);
       -- ---- written by tests/unique.py: what puts a text
       put = λ c. put-around (c .met);
       put-text = λ c. put-around (c .met);

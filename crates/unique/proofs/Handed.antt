@@ -1,5 +1,6 @@
 -- What the code hands back can be reached. Assumes nothing.
 use mathlib.Core.List.{List, []}
+use mathlib.Core.Logic.{inl, inr}
 use mathlib.Core.Path.{_≡_, sym, ap, subst}
 use Prim.Native.Nat.{ℕ}
 use Rattle.numbers.specs.declared.Answer.{Answer}
@@ -11,8 +12,9 @@ use Rattle.model.specs.declared.Command.the-variants as commands
 use Rattle.state.specs.View.{view, told}
 use Rattle.sessions.specs.Answering.{toldOpened}
 use Rattle.textlines.specs.Parts.{partAt}
-use Rattle.script.specs.Script.{lineFeed}
+use Rattle.script.specs.Script.{lineFeed, obey}
 use Rattle.script.specs.declared.Progress.{Progress}
+use Rattle.clibrary.specs.Calls.{Obeys}
 use Rattle.program.specs.Printing.{Stage, stageOf, over, total, tooLong, line, piece}
 use Rattle.transcripts.proofs.ScriptLines.{script-lines}
 use Rattle.demands.specs.Reachable.{Reachable, start, after, loaded}
@@ -20,7 +22,7 @@ use Rattle.demands.proofs.Conditions.{conditions}
 use Rattle.demands.proofs.Demand3.{demand3}
 use Rattle.unique.specs.Handed.{Handed, Owned, empty}
 -- ---- written by tests/unique.py: their names
-use Rattle.unique.specs.Handed.{user, role, nouser, norole, assign, deassign, grant, revoke, inherit, disinherit, make-set, drop-set, add-member, drop-member, set-cardinality, session, activate, drop, end, step, load, answer-line, turn, begin, next}
+use Rattle.unique.specs.Handed.{user, role, nouser, norole, assign, deassign, grant, revoke, inherit, disinherit, make-set, drop-set, add-member, drop-member, set-cardinality, session, activate, drop, end, step, load, answer-line, turn, begin, next, marruskil-start, marruskil-obey, marruskil-load}
 
 -- ---- end of what tests/unique.py writes
 
@@ -35,6 +37,11 @@ piece-reachable over script l p r = r
 piece-reachable total script l p r = r
 piece-reachable tooLong script l p r = r
 piece-reachable line script l p r = script-lines .reachable _ (partAt lineFeed script (p .at)) r
+
+-- and what a C program's line leaves, obeyed or not
+obeyed-reachable : (m : Model) (text out put : List ℕ) (n : ℕ) (l : List ℕ) → Reachable m → Obeys m (obey m text) out put n l → Reachable (view l)
+obeyed-reachable m text out put n l r (inl p) = subst Reachable (sym (p .unchanged)) r
+obeyed-reachable m text out put n l r (inr p) = subst Reachable (sym (p .state)) (script-lines .reachable m text r)
 
 pub reachable : {l : List ℕ} → Handed l → Reachable (view l)
 unfolding steps.step told toldOpened
@@ -65,6 +72,9 @@ reachable (answer-line c h) = subst Reachable (sym (c .met .state)) (script-line
 reachable (turn c h) = subst Reachable (sym (c .met .state)) (script-lines .reachable _ (partAt lineFeed (c .given .0 .now) (c .given .1 .1 .0 .at)) (reachable h))
 reachable (begin c) = subst Reachable (sym (c .met .state)) start
 reachable (next c h) = subst Reachable (sym (c .met .state)) (piece-reachable (stageOf (c .given .0 .now) (c .given .1 .1 .0)) (c .given .0 .now) (c .given .1 .0 .now) (c .given .1 .1 .0 .progress) (reachable h))
+reachable (marruskil-start c) = subst Reachable (sym (c .met)) start
+reachable (marruskil-obey c h) = obeyed-reachable _ (c .given .1 .0 .now) _ _ _ _ (reachable h) (c .met)
+reachable (marruskil-load c h) = loaded (reachable h) (c .given .1 .0 .now) _ (c .met)
 reachable (load c h) = loaded (reachable h) (c .given .1 .0 .now) _ (c .met)
 
 -- the code's own states keep demand 3, and the refusals' conditions mean what the paper says

@@ -56,7 +56,8 @@ use Rattle.demands.proofs.Exact.{applies-none, none-applies}
 use Rattle.demands.proofs.PolicyFile.{faithful}
 use Rattle.unique.specs.Handed.{Handed}
 use Rattle.unique.specs.Unique.{State}
-use Rattle.unique.specs.OwnCalls.{Does, toldStepped, Commands, MayDo, toldReview, Questions, Means, LineTells, Lines, Files, OwnCalls}
+use Rattle.unique.specs.OwnCalls.{Does, toldStepped, Commands, MayDo, toldReview, Questions, Means, LineTells, Lines, Files, OwnCalls, FromC}
+use Rattle.model.specs.commands.Sessions.{check}
 use Rattle.unique.proofs.Handed.{reachable, owned}
 use Rattle.unique.proofs.Unique.{states}
 
@@ -251,6 +252,19 @@ of-files =
       again = λ l s z e r. saved-again _ _ (l .result) (l .met) (s .met) z e r;
     }
 
+-- ---- what a C program calls
+
+of-c : FromC
+of-c =
+    record {
+      marruskil-start = λ c. c .met;
+      marruskil-obey = λ c h. (obey (view (c .given .0 .now)) (c .given .1 .0 .now), line-tells (reachable h) (c .given .1 .0 .now), c .met);
+      marruskil-check = λ c h. (check (view (c .given .0 .now)) (c .given .1 .0) (c .given .1 .1 .0) (c .given .1 .1 .1 .0), demand2 .access (view (c .given .0 .now)) (reachable h) (c .given .1 .0) (c .given .1 .1 .0) (c .given .1 .1 .1 .0), c .met);
+      marruskil-load = λ c. c .met;
+      marruskil-save = λ c. c .met;
+    }
+
+
 pub own-calls : OwnCalls
 own-calls =
     record {
@@ -259,4 +273,5 @@ own-calls =
       questions = of-questions;
       lines = of-lines;
       files = of-files;
+      from-c = of-c;
     }

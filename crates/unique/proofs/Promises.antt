@@ -274,4 +274,14 @@ program =
       next = λ κs a x y e f sx sy p q. laws.prints-one sx sy p q;
     }
 
+pub clibrary : promises.Clibrary
+clibrary =
+    record {
+      marruskil-start = λ κs a x y e f sx sy p q. (refl, laws.states sx sy p q);
+      marruskil-obey = λ κs a x y e f sx sy p q. laws.obeys-one sx sy p q;
+      marruskil-check = λ κs a x y e f vx vy p q. laws.checks-at-one p q;
+      marruskil-load = λ κs a x y e f sx sy p q. laws.loaded-one sx sy p q;
+      marruskil-save = λ κs a x y e f vx vy p q. laws.saves-at-one p q;
+    }
+
 -- ---- end of what tests/unique.py writes

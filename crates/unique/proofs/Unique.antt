@@ -2,6 +2,7 @@
 -- function with that promise. Assumes nothing.
 use mathlib.Core.Bool.{Bool, true, false}
 use mathlib.Core.List.{List, [], _∷_}
+use mathlib.Core.Logic.{inl, inr}
 use mathlib.Core.Path.{_≡_, refl, sym, ap, _∙_}
 use Prim.Native.Nat.{ℕ, zero, suc, _≤_, _<_, _^_}
 use native.Mathlib.Omega.{arith}
@@ -52,6 +53,7 @@ use Rattle.script.specs.declared.Turned.{Turned}
 use Rattle.program.specs.Printing as printing
 use Rattle.program.specs.declared.Run.{Run}
 use Rattle.program.specs.declared.Printed.{Printed}
+use Rattle.clibrary.specs.Calls as calls
 use Rattle.unique.specs.Unique.{State}
 
 -- ---- what the type says of a state: its length, and that each number is below 2 ^ 64
@@ -236,3 +238,25 @@ prints-one sl sr p q = (
   states sl sr (p .state) (q .state),
   p .puts .text .holds ∙ sym (q .puts .text .holds),
 )
+
+-- ---- what a C program calls
+
+pub obeys-one : {m : Model} {told : Told} {out after after′ l r : List ℕ} {x y : ℕ} → State l → State r → calls.Obeys m told out after x l → calls.Obeys m told out after′ y r → (x ≡ y) × (l ≡ r) × (after ≡ after′)
+obeys-one sl sr (inl p) (inl q) = (p .no-length ∙ sym (q .no-length), states sl sr (p .unchanged) (q .unchanged), p .untouched ∙ sym (q .untouched))
+obeys-one sl sr (inl p) (inr q) = absurd (omega (arith, p .short, q .fits))
+obeys-one sl sr (inr p) (inl q) = absurd (omega (arith, p .fits, q .short))
+obeys-one sl sr (inr p) (inr q) = (p .long ∙ sym (q .long), states sl sr (p .state) (q .state), p .stored ∙ sym (q .stored))
+
+pub checks-at-one : {told : Told} {before after after′ x y : ℕ} → calls.ChecksAt told before after x → calls.ChecksAt told before after′ y → (x ≡ y) × (after ≡ after′)
+checks-at-one p q = (p .answered ∙ sym (q .answered), p .result ∙ sym (q .result))
+
+pub loaded-one : {m : Model} {bytes : List ℕ} {x y : ℕ} {l r : List ℕ} → State l → State r → Loads m bytes (calls.loaded x l) → Loads m bytes (calls.loaded y r) → (x ≡ y) × (l ≡ r)
+loaded-one {m} {bytes} {x} {y} {l} {r} sl sr p q =
+    let one = files.loads-one m bytes (calls.loaded x l) (calls.loaded y r) p q in
+    (ap (λ (t : Told). t .answer) one, states sl sr (ap (λ (t : Told). t .after) one) refl)
+
+pub saves-at-one : {m : Model} {out after after′ : List ℕ} {before n n′ x y : ℕ} → calls.SavesAt m out after before n x → calls.SavesAt m out after′ before n′ y → (x ≡ y) × (_≡_ {A = List ℕ × ℕ} (after, n) (after′, n′))
+saves-at-one (inl p) (inl q) = (p .refused .answered ∙ sym (q .refused .answered), λ i. ((p .refused .untouched ∙ sym (q .refused .untouched)) i, (p .kept ∙ sym (q .kept)) i))
+saves-at-one (inl p) (inr q) = absurd (omega (arith, p .refused .short, q .fits))
+saves-at-one (inr p) (inl q) = absurd (omega (arith, p .fits, q .refused .short))
+saves-at-one (inr p) (inr q) = (p .answered ∙ sym (q .answered), λ i. ((p .stored ∙ sym (q .stored)) i, (p .long ∙ sym (q .long)) i))

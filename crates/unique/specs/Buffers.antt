@@ -20,6 +20,7 @@ use Rattle.decimal.proofs as decimal
 use Rattle.words.proofs as words
 use Rattle.script.proofs as script
 use Rattle.program.proofs as program
+use Rattle.clibrary.proofs as clibrary
 
 -- ---- end of what tests/unique.py writes
 
@@ -78,6 +79,11 @@ pub record Buffers : Type 0 where
   -- A call of the program puts what is printed next.
   pub next : (c : Call program.next.Kinds.ps program.next.Kinds.r program.next.Reads.Post)
       → Texted (piece (stageOf (c .given .0 .now) (c .given .1 .1 .0)) (c .given .0 .now) (c .given .1 .0 .now) (c .given .1 .1 .0 .progress) .text) (c .result .len) (c .given .1 .1 .1 .0 .now) (c .exits .1 .1 .1 .0 .now)
+  -- For C: an answer line, or nothing, stands at the front of the buffer up to the length that is handed back; and so does a file, which a refusal does
+  -- not write.
+  pub marruskil-obey : (c : Call clibrary.marruskil_obey.Kinds.ps clibrary.marruskil_obey.Kinds.r clibrary.marruskil_obey.Reads.Post) → Around 0 (c .result) (c .given .1 .1 .0 .now) (c .exits .1 .1 .0 .now)
+  pub marruskil-save : (c : Call clibrary.marruskil_save.Kinds.ps clibrary.marruskil_save.Kinds.r clibrary.marruskil_save.Reads.Post)
+      → ((c .result ≡ 0 → ⊥) → c .exits .1 .0 .now ≡ c .given .1 .0 .now) × (c .result ≡ 0 → Around 0 (c .exits .1 .1 .0 .now) (c .given .1 .0 .now) (c .exits .1 .0 .now))
   -- Every other function that puts bytes into a lent buffer: from the place that it is given on, or from the front, up to the place that it hands back.
   -- ---- written by tests/unique.py: what puts a text
   pub put : (c : Call text.put.Kinds.ps text.put.Kinds.r text.put.Reads.Post) → Around (c .given .1 .0) (c .result) (c .given .0 .now) (c .exits .0 .now)

@@ -31,6 +31,7 @@ use Rattle.engine.proofs as engine
 use Rattle.policyfile.proofs as policyfile
 use Rattle.script.proofs as script
 use Rattle.program.proofs as program
+use Rattle.clibrary.proofs as clibrary
 
 -- ---- end of what tests/unique.py writes
 
@@ -43,7 +44,7 @@ pub record Call {n : ℕ} (ps : List (PK n)) (r : RK n) (Post : Out n ps r) : Ty
   pub met : Post lifetimes given result exits
 
 -- the numbers are those that `start` or `begin` left, or those that a command (by its own function, or by `step`), a line of a script, a call of the
--- program or a load of any bytes left of such numbers, done or refused
+-- program or a load of any bytes left of such numbers, done or refused. A C program's calls count as these.
 pub data Handed : List ℕ → Type 0 where
   empty : (c : Call state.stores.start.Kinds.ps state.stores.start.Kinds.r state.stores.start.Reads.Post) → Handed (c .exits .0 .now)
   -- ---- written by tests/unique.py: the functions that change the state and answer
@@ -72,6 +73,9 @@ pub data Handed : List ℕ → Type 0 where
   turn : (c : Call script.turn.Kinds.ps script.turn.Kinds.r script.turn.Reads.Post) → Handed (c .given .1 .0 .now) → Handed (c .exits .1 .0 .now)
   begin : (c : Call program.begin.Kinds.ps program.begin.Kinds.r program.begin.Reads.Post) → Handed (c .exits .0 .now)
   next : (c : Call program.next.Kinds.ps program.next.Kinds.r program.next.Reads.Post) → Handed (c .given .1 .0 .now) → Handed (c .exits .1 .0 .now)
+  marruskil-start : (c : Call clibrary.marruskil_start.Kinds.ps clibrary.marruskil_start.Kinds.r clibrary.marruskil_start.Reads.Post) → Handed (c .exits .0 .now)
+  marruskil-obey : (c : Call clibrary.marruskil_obey.Kinds.ps clibrary.marruskil_obey.Kinds.r clibrary.marruskil_obey.Reads.Post) → Handed (c .given .0 .now) → Handed (c .exits .0 .now)
+  marruskil-load : (c : Call clibrary.marruskil_load.Kinds.ps clibrary.marruskil_load.Kinds.r clibrary.marruskil_load.Reads.Post) → Handed (c .given .0 .now) → Handed (c .exits .0 .now)
 
 -- ---- end of what tests/unique.py writes
 

@@ -13,7 +13,7 @@ use Prim.Native.Nat.{ℕ, _+_, _*_, _≤_}
 use lib.Dec.{eqb}
 use lib.ListN.{length, getD, take, drop}
 use Rattle.numbers.specs.Answers.{numberOf}
-use Rattle.model.specs.Model.{Model}
+use Rattle.model.specs.Model.{Model, empty}
 use Rattle.model.specs.Questions as model
 use Rattle.model.specs.Sheet.{Told, refused}
 use Rattle.model.specs.declared.Command.{Command}
@@ -37,6 +37,8 @@ use Rattle.script.specs.Script.{answerText, lineFeed}
 use Rattle.program.specs.Printing.{Begins, stageOf, line}
 use Rattle.demands.specs.Demand2.{Exactly, refusals, results, effect, Checked, Granted}
 use Rattle.demands.specs.Reviews as demands
+use Rattle.policyform.specs.Promises.{Loads}
+use Rattle.clibrary.specs.Calls.{Obeys, ChecksAt, SavesAt, loaded}
 use Rattle.unique.specs.Handed.{Call, Handed}
 use Rattle.unique.specs.Unique.{State}
 -- ---- written by tests/unique.py: the crates
@@ -50,6 +52,7 @@ use Rattle.reviews.proofs as reviews
 use Rattle.policyfile.proofs as policyfile
 use Rattle.script.proofs as script
 use Rattle.program.proofs as program
+use Rattle.clibrary.proofs as clibrary
 
 -- ---- end of what tests/unique.py writes
 
@@ -191,6 +194,21 @@ pub record Files : Type 0 where
       → numberOf (l .result) ≡ 0 → s .given .0 .now ≡ l .exits .0 .now → length (l .given .1 .0 .now) ≤ length (s .given .1 .0 .now)
       → (numberOf (s .result .answer) ≡ 0) × (s .result .length ≡ length (l .given .1 .0 .now)) × (take (s .result .length) (s .exits .1 .0 .now) ≡ l .given .1 .0 .now)
 
+-- ---- what a C program calls
+
+pub record FromC : Type 0 where
+  -- The state becomes the empty policy with no session.
+  pub marruskil-start : (c : Call clibrary.marruskil_start.Kinds.ps clibrary.marruskil_start.Kinds.r clibrary.marruskil_start.Reads.Post) → view (c .exits .0 .now) ≡ empty
+  -- What a line tells, by demand 2, is obeyed and its answer line written; or, where that does not fit, nothing is.
+  pub marruskil-obey : (c : Call clibrary.marruskil_obey.Kinds.ps clibrary.marruskil_obey.Kinds.r clibrary.marruskil_obey.Reads.Post) → Handed (c .given .0 .now)
+      → (t : Told) × LineTells (view (c .given .0 .now)) (c .given .1 .0 .now) t × Obeys (view (c .given .0 .now)) t (c .given .1 .1 .0 .now) (c .exits .1 .1 .0 .now) (c .result) (c .exits .0 .now)
+  -- The answer number, and the result where the caller says, are those that demand 2 says of the question for access.
+  pub marruskil-check : (c : Call clibrary.marruskil_check.Kinds.ps clibrary.marruskil_check.Kinds.r clibrary.marruskil_check.Reads.Post) → Handed (c .given .0 .now)
+      → (t : Told) × Checked (view (c .given .0 .now)) (c .given .1 .0) (c .given .1 .1 .0) (c .given .1 .1 .1 .0) t × ChecksAt t (c .given .1 .1 .1 .1 .0 .now) (c .exits .1 .1 .1 .1 .0 .now) (c .result)
+  -- Loading and saving are those of the policy file, to which `Loading` and `SavesAsThePaperSays` apply (fileanswers/specs).
+  pub marruskil-load : (c : Call clibrary.marruskil_load.Kinds.ps clibrary.marruskil_load.Kinds.r clibrary.marruskil_load.Reads.Post) → Loads (view (c .given .0 .now)) (c .given .1 .0 .now) (loaded (c .result) (c .exits .0 .now))
+  pub marruskil-save : (c : Call clibrary.marruskil_save.Kinds.ps clibrary.marruskil_save.Kinds.r clibrary.marruskil_save.Reads.Post) → SavesAt (view (c .given .0 .now)) (c .given .1 .0 .now) (c .exits .1 .0 .now) (c .given .1 .1 .0 .now) (c .exits .1 .1 .0 .now) (c .result)
+
 pub record OwnCalls : Type 0 where
   pub commands : Commands
   -- "Every refusal changes nothing": where a call told so of a command and refused it, the array after it is the array before it, number by number.
@@ -199,3 +217,4 @@ pub record OwnCalls : Type 0 where
   pub questions : Questions
   pub lines : Lines
   pub files : Files
+  pub from-c : FromC

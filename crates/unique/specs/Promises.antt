@@ -30,6 +30,7 @@ use Rattle.reading.proofs as reading
 use Rattle.meaning.proofs as meaning
 use Rattle.script.proofs as script
 use Rattle.program.proofs as program
+use Rattle.clibrary.proofs as clibrary
 
 -- ---- end of what tests/unique.py writes
 -- ---- written by tests/unique.py: a record for each crate, a line for each public function
@@ -221,5 +222,12 @@ pub record Script : Type 0 where
 pub record Program : Type 0 where
   pub begin : UniqueState program.begin.Kinds.ps program.begin.Kinds.r program.begin.Reads.Post (λ κs e. e .0 .now)
   pub next : UniqueBoth program.next.Kinds.ps program.next.Kinds.r program.next.Reads.Post (λ κs e. e .1 .0 .now) (λ κs e. e .1 .1 .1 .0 .now)
+
+pub record Clibrary : Type 0 where
+  pub marruskil-start : UniqueState clibrary.marruskil_start.Kinds.ps clibrary.marruskil_start.Kinds.r clibrary.marruskil_start.Reads.Post (λ κs e. e .0 .now)
+  pub marruskil-obey : UniqueBoth clibrary.marruskil_obey.Kinds.ps clibrary.marruskil_obey.Kinds.r clibrary.marruskil_obey.Reads.Post (λ κs e. e .0 .now) (λ κs e. e .1 .1 .0 .now)
+  pub marruskil-check : UniqueLent {A = ℕ} clibrary.marruskil_check.Kinds.ps clibrary.marruskil_check.Kinds.r clibrary.marruskil_check.Reads.Post (λ κs e. e .1 .1 .1 .1 .0 .now)
+  pub marruskil-load : UniqueState clibrary.marruskil_load.Kinds.ps clibrary.marruskil_load.Kinds.r clibrary.marruskil_load.Reads.Post (λ κs e. e .0 .now)
+  pub marruskil-save : UniqueLent {A = List ℕ × ℕ} clibrary.marruskil_save.Kinds.ps clibrary.marruskil_save.Kinds.r clibrary.marruskil_save.Reads.Post (λ κs e. (e .1 .0 .now, e .1 .1 .0 .now))
 
 -- ---- end of what tests/unique.py writes

@@ -24,8 +24,8 @@ abbrev pub Unique : {n : ℕ} (ps : List (PK n)) (r : RK n) → Out n ps r → T
 Unique {n} ps r Post = (κs : Lfts n) (a : Dens κs ps) (x y : resT r κs .Denot) (e f : AtExit (endedOf n ps r) κs) → Value (resT r κs) x → Value (resT r κs) y → Post κs a x e → Post κs a y f → x ≡ y
 
 -- The same, and what is lent holds the same after both
-abbrev pub UniqueLent : {n : ℕ} (ps : List (PK n)) (r : RK n) → Out n ps r → ((κs : Lfts n) → AtExit (endedOf n ps r) κs → List ℕ) → Type 0
-UniqueLent {n} ps r Post buffer = (κs : Lfts n) (a : Dens κs ps) (x y : resT r κs .Denot) (e f : AtExit (endedOf n ps r) κs) → Value (resT r κs) x → Value (resT r κs) y → Post κs a x e → Post κs a y f → (x ≡ y) × (buffer κs e ≡ buffer κs f)
+abbrev pub UniqueLent : {A : Type 0} {n : ℕ} (ps : List (PK n)) (r : RK n) → Out n ps r → ((κs : Lfts n) → AtExit (endedOf n ps r) κs → A) → Type 0
+UniqueLent {A} {n} ps r Post buffer = (κs : Lfts n) (a : Dens κs ps) (x y : resT r κs .Denot) (e f : AtExit (endedOf n ps r) κs) → Value (resT r κs) x → Value (resT r κs) y → Post κs a x e → Post κs a y f → (x ≡ y) × (buffer κs e ≡ buffer κs f)
 
 -- Where a function hands back a part of what it was lent, a value is an address and what stands there. A promise speaks of what stands there: what
 -- can be seen of two outcomes is the same
