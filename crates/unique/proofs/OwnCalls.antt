@@ -264,7 +264,6 @@ of-c =
       marruskil-save = λ c. c .met;
     }
 
-
 pub own-calls : OwnCalls
 own-calls =
     record {
