@@ -29,7 +29,7 @@ use Rattle.text.specs.Putting.{Put}
 use Rattle.text.specs.Places.{Wrote}
 use Rattle.text.proofs.Putting.{put-length}
 use Rattle.text.proofs.Writing.{wrote-length}
-use Rattle.clibrary.specs.Calls.{Obeys, SavesAt}
+use Rattle.clibrary.specs.Calls.{answerLine, Obeys, SavesAt}
 use Rattle.unique.specs.Buffers.{Lent, Texted, Around, Buffers}
 
 -- ---- results at the front
@@ -178,8 +178,8 @@ texted {text} {before} {after} {len} p = record { whole = λ h. omega (arith, p 
 -- ---- what a C program lends
 
 -- bytes at the front, up to the length
-front-around : {bytes before after : List ℕ} {size : ℕ} → after ≡ sets before 0 bytes → size ≡ length bytes → Around 0 size before after
-front-around {bytes} {before} {after} {size} e l =
+front-around : (bytes : List ℕ) {before after : List ℕ} {size : ℕ} → after ≡ sets before 0 bytes → size ≡ length bytes → Around 0 size before after
+front-around bytes {before} {after} {size} e l =
     record {
       long = ap length e ∙ length-sets before 0 bytes;
       before-it = λ k h. absurd (let z : ⊥ = omega arith in z);
@@ -188,11 +188,11 @@ front-around {bytes} {before} {after} {size} e l =
 
 obeyed-around : {m : Model} {told : Told} {before after l : List ℕ} {size : ℕ} → Obeys m told before after size l → Around 0 size before after
 obeyed-around (inl x) = record { long = ap length (x .untouched); before-it = λ k h. absurd (let z : ⊥ = omega arith in z); past = λ k h. ap (λ (l : List ℕ). getD l k 0) (x .untouched) }
-obeyed-around (inr x) = front-around (x .stored) (x .long)
+obeyed-around {told = told} (inr x) = front-around (answerLine told) (x .stored) (x .long)
 
 saved-around : {m : Model} {before after : List ℕ} {old size answer : ℕ} → SavesAt m before after old size answer → ((answer ≡ 0 → ⊥) → after ≡ before) × (answer ≡ 0 → Around 0 size before after)
 saved-around {answer = answer} (inl x) = ((λ h. x .refused .untouched), (λ z. absurd (let y : 15 ≡ 0 = sym (x .refused .answered) ∙ z in omega arith)))
-saved-around (inr x) = ((λ h. absurd (h (x .answered))), (λ z. front-around (x .stored) (x .long)))
+saved-around {m} (inr x) = ((λ h. absurd (h (x .answered))), (λ z. front-around (encode m) (x .stored) (x .long)))
 
 -- ---- files
 
