@@ -2,13 +2,13 @@
 -- Assumes nothing.
 use borrow.Author.Tests.{le-leb}
 use mathlib.Core.Bool.{Bool, true, false, _||_}
-use mathlib.Core.List.{List, []}
+use mathlib.Core.List.{List}
 use mathlib.Core.Logic.{inl, inr}
-use mathlib.Core.Path.{_≡_, refl, sym, ap, _∙_}
-use Prim.Native.Nat.{ℕ, _≤_, _<_, min}
+use mathlib.Core.Path.{_≡_, refl, sym, _∙_}
+use Prim.Native.Nat.{ℕ, _≤_, min}
 use native.Mathlib.Omega.{arith}
 use native.Mathlib.Decide.{decLe}
-use lib.Dec.{eqb, leb}
+use lib.Dec.{leb}
 use lib.ListN.{length}
 use Rattle.roleset.specs.Bounded.{bit}
 use Rattle.roleset.proofs.BoundedLaws.{or-left, or-right}
@@ -17,19 +17,18 @@ use Rattle.model.specs.Model.{Model}
 use Rattle.model.specs.Sheet.{Told, verdict, settle, refused}
 use Rattle.model.specs.commands.Naming.{sessionBeyond, permissionBeyond}
 use Rattle.model.specs.commands.Sessions.{check}
-use Rattle.sessions.specs.Answering.{Checks, toldChecked, isDone, given}
+use Rattle.sessions.specs.Answering.{Checks, toldChecked, isDone}
 use Rattle.sessions.specs.declared.Checked.{Checked}
-use Rattle.policyform.specs.Promises.{Saves, SaveRefused, SaveDone}
+use Rattle.policyform.specs.Promises.{Saves}
 use Rattle.text.specs.Putting.{Put}
 use Rattle.script.specs.Script.{obey}
 use Rattle.script.proofs.Turning.{answer-short, obey-few}
-use Rattle.clibrary.specs.Calls.{answerLine, ChecksAt, NotSaved, SavesAt}
+use Rattle.clibrary.specs.Calls.{ChecksAt, SavesAt, LongestAnswer}
 
 -- ---- an answer line
 
--- no answer line is longer than 24,582 bytes
-pub line-short : (m : Model) (text : List ℕ) → length (answerLine (obey m text)) ≤ 24582
-line-short m text = answer-short (obey m text .answer) (obey m text .results) (obey-few m text)
+pub longest-answer : LongestAnswer
+longest-answer = record { holds = λ m text. answer-short (obey m text .answer) (obey m text .results) (obey-few m text) }
 
 -- a text that was put at the front of a buffer with room for it ends at its own length
 pub put-whole : {l l′ a : List ℕ} {next : ℕ} → Put l 0 a l′ next → length a ≤ length l → next ≡ length a

@@ -7,12 +7,12 @@ use lib.ListN.{length}
 use Rattle.state.specs.View.{view}
 use Rattle.script.specs.Script.{obey}
 use Rattle.clibrary.specs.Calls.{answerLine}
-use Rattle.clibrary.proofs.Calling.{line-short, put-whole}
+use Rattle.clibrary.proofs.Calling.{longest-answer, put-whole}
 use Rattle.clibrary.proofs.marruskil_obey.Statement.{statement}
 use Rattle.clibrary.proofs.marruskil_obey.Tie as tie
 
 room : (c : tie.Else1) → length (answerLine (obey (view (c .before .before .before .args .state .now)) (c .before .before .before .args .line .now))) ≤ length (c .before .before .before .args .out .now)
-room c = omega (arith, line-short (view (c .before .before .before .args .state .now)) (c .before .before .before .args .line .now), c .if1 .left)
+room c = omega (arith, longest-answer .holds (view (c .before .before .before .args .state .now)) (c .before .before .before .args .line .now), c .if1 .left)
 
 returns-2 : tie.Need-returns-2
 returns-2 c =
