@@ -37,6 +37,8 @@ Obeys before told out after size l = NotObeyed before told out after size l ⊎ 
 -- "Its buffers hold the longest result": with a room of 24,582 bytes every line is obeyed, whatever the policy and the sessions are.
 pub record LongestAnswer : Type 0 where
   pub holds : (m : Model) (text : List ℕ) → length (answerLine (obey m text)) ≤ 24582
+  -- a command's answer line has 12 bytes at most: a line with a longer one changes nothing
+  pub commands : (m : Model) (text : List ℕ) → 12 < length (answerLine (obey m text)) → obey m text .after ≡ m
 
 -- the place of the result: it holds the result, and is as it was where there is none
 abbrev pub placed : List ℕ → ℕ → ℕ
