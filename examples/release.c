@@ -27,10 +27,10 @@ static void release(const char *time, uint64_t session)
         printf("%s  session %lu asks to release map %d: NO\n", time, (unsigned long)session, MAP);
 }
 
-/* Somebody gives the server a line. A command's answer line has at most five bytes. */
+/* Somebody gives the server a command. */
 static void say(const char *time, const char *line, const char *why)
 {
-    char answer[16];
+    char answer[MARRUSKIL_LONGEST_COMMAND];
     size_t length = marruskil_obey(&state, line, strlen(line), answer, sizeof answer);
 
     printf("%s  %-13s %-4.*s %s\n", time, line, length > 0 ? (int)length - 1 : 1, length > 0 ? answer : "?", why);

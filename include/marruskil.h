@@ -16,6 +16,7 @@
 
 #define MARRUSKIL_PLACES 4616          /* numbers of a state */
 #define MARRUSKIL_LONGEST_ANSWER 24582 /* no answer line has more bytes */
+#define MARRUSKIL_LONGEST_COMMAND 12   /* no command's answer line has more bytes */
 #define MARRUSKIL_LONGEST_FILE 36048   /* a policy of ours never needs more bytes */
 
 #ifdef __cplusplus
@@ -33,7 +34,7 @@ void marruskil_start(marruskil_state *state);
 /* Obeys one line of a script, given without its LF: a command or a question, any bytes. Its answer line is put at the front of `out`, which has
    `room` bytes: the answer number and then the results, one space between, and LF. Bytes past it are untouched. Gives its length.
    Where `out` is shorter than the answer line it gives 0: nothing is obeyed and nothing is put. With a room of MARRUSKIL_LONGEST_ANSWER that never
-   happens, and no copy of the state is made. */
+   happens, nor for a command with one of MARRUSKIL_LONGEST_COMMAND. */
 size_t marruskil_obey(marruskil_state *state, const char *line, size_t length, char *out, size_t room);
 
 /* May the session do the operation on the object? Yes exactly when some effective role of the session holds the grant.

@@ -75,6 +75,7 @@ def main():
     for name, file, pattern in (
         ("PLACES", "crates/state/src/lib.rt", r"const PLACES: usize = (\d+);"),
         ("LONGEST_ANSWER", "crates/clibrary/src/lib.rt", r"const LONGEST_ANSWER: usize = (\d+);"),
+        ("LONGEST_COMMAND", "crates/clibrary/src/lib.rt", r"const LONGEST_COMMAND: usize = (\d+);"),
         ("LONGEST_FILE", "crates/policyfile/src/lib.rt", r"let mut file = \[0u8; (\d+)\];"),
     ):
         if constant("include/marruskil.h", rf"#define MARRUSKIL_{name} (\d+)") != constant(file, pattern):

@@ -2,34 +2,61 @@
 -- Assumes nothing.
 use borrow.Author.Tests.{le-leb}
 use mathlib.Core.Bool.{Bool, true, false, _||_}
-use mathlib.Core.List.{List, []}
+use mathlib.Core.List.{List, [], _∷_, _++_}
 use mathlib.Core.Logic.{inl, inr}
-use mathlib.Core.Path.{_≡_, refl, sym, ap, _∙_}
-use Prim.Native.Nat.{ℕ, _≤_, _<_, min}
+use mathlib.Core.Path.{_≡_, refl, sym, _∙_}
+use Prim.Native.Nat.{ℕ, _+_, _*_, _≤_, _<_, min}
 use native.Mathlib.Omega.{arith}
 use native.Mathlib.Decide.{decLe}
-use lib.Dec.{eqb, leb}
-use lib.ListN.{length}
+use lib.Dec.{leb}
+use lib.ListN.{length, getD, drop, length-append}
 use Rattle.roleset.specs.Bounded.{bit}
 use Rattle.roleset.proofs.BoundedLaws.{or-left, or-right}
 use Rattle.numbers.specs.Answers.{numberOf}
 use Rattle.model.specs.Model.{Model}
 use Rattle.model.specs.Sheet.{Told, verdict, settle, refused}
+use Rattle.model.specs.Step.{step}
+use Rattle.model.proofs.Asking.{asked-same}
+use Rattle.model.proofs.Results.{few-results}
 use Rattle.model.specs.commands.Naming.{sessionBeyond, permissionBeyond}
 use Rattle.model.specs.commands.Sessions.{check}
-use Rattle.sessions.specs.Answering.{Checks, toldChecked, isDone, given}
+use Rattle.sessions.specs.Answering.{Checks, toldChecked, isDone}
 use Rattle.sessions.specs.declared.Checked.{Checked}
-use Rattle.policyform.specs.Promises.{Saves, SaveRefused, SaveDone}
+use Rattle.policyform.specs.Promises.{Saves}
 use Rattle.text.specs.Putting.{Put}
-use Rattle.script.specs.Script.{obey}
+use Rattle.decimal.specs.Decimal.{decimal, numbered}
+use Rattle.decimal.proofs.Laws.{decimal-short, numbered-short}
+use Rattle.words.specs.ScriptWords.{wordOf}
+use Rattle.reading.specs.Form.{Parsed, line, noLine, parse}
+use Rattle.meaning.specs.Meaning.{meant}
+use Rattle.meaning.specs.declared.Meant.{Meant}
+use Rattle.meaning.specs.declared.Meant.the-variants.{Do, Ask, Nothing}
+use Rattle.script.specs.Script.{obey, obeyed, doing, answerText, lineFeed}
 use Rattle.script.proofs.Turning.{answer-short, obey-few}
-use Rattle.clibrary.specs.Calls.{answerLine, ChecksAt, NotSaved, SavesAt}
+use Rattle.clibrary.specs.Calls.{answerLine, ChecksAt, SavesAt, LongestAnswer}
 
 -- ---- an answer line
 
--- no answer line is longer than 24,582 bytes
-pub line-short : (m : Model) (text : List ℕ) → length (answerLine (obey m text)) ≤ 24582
-line-short m text = answer-short (obey m text .answer) (obey m text .results) (obey-few m text)
+-- how long an answer line is, by its results
+by-results : (answer : ℕ) (results : List ℕ) → length (answerText answer results) ≤ 6 + 6 * length results
+unfolding answerText
+by-results answer results = omega (arith, length-append (decimal answer) (numbered results ++ (lineFeed ∷ [])), length-append (numbered results) (lineFeed ∷ []), decimal-short answer, numbered-short results)
+
+long-done : (m : Model) (x : Meant) (list : List ℕ) → 12 < length (answerLine (doing m x list)) → doing m x list .after ≡ m
+long-done m (Do c) list h = absurd (omega (arith, h, by-results (step m c list .answer) (step m c list .results), few-results m c list))
+long-done m (Ask q) list h = asked-same m 4096 q
+long-done m Nothing list h = refl
+
+long-obeyed : (m : Model) (p : Parsed) → 12 < length (answerLine (obeyed m p)) → obeyed m p .after ≡ m
+long-obeyed m (line k ns) h = long-done m (meant k (getD ns 0 0) (getD ns 1 0) (getD ns 2 0)) (drop (wordOf k .numbers) ns) h
+long-obeyed m noLine h = refl
+
+long-answer : (m : Model) (text : List ℕ) → 12 < length (answerLine (obey m text)) → obey m text .after ≡ m
+unfolding obey
+long-answer m text h = long-obeyed m (parse text) h
+
+pub longest-answer : LongestAnswer
+longest-answer = record { holds = λ m text. answer-short (obey m text .answer) (obey m text .results) (obey-few m text); commands = long-answer }
 
 -- a text that was put at the front of a buffer with room for it ends at its own length
 pub put-whole : {l l′ a : List ℕ} {next : ℕ} → Put l 0 a l′ next → length a ≤ length l → next ≡ length a

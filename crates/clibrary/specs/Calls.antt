@@ -8,7 +8,7 @@ use lib.Seq.{sets}
 use Rattle.model.specs.Model.{Model}
 use Rattle.model.specs.Sheet.{Told}
 use Rattle.policyform.specs.Promises.{SaveRefused, SaveDone}
-use Rattle.script.specs.Script.{answerText}
+use Rattle.script.specs.Script.{answerText, obey}
 use Rattle.state.specs.View.{view}
 
 -- the answer line of what a line of the script tells: "the answer number and then the results, one space between", and LF
@@ -33,6 +33,12 @@ pub record Obeyed (told : Told) (out after : List ℕ) (size : ℕ) (l : List �
 -- One line of the script, obeyed in a buffer of any length.
 abbrev pub Obeys : Model → Told → List ℕ → List ℕ → ℕ → List ℕ → Type 0
 Obeys before told out after size l = NotObeyed before told out after size l ⊎ Obeyed told out after size l
+
+-- "Its buffers hold the longest result": with a room of 24,582 bytes every line is obeyed, whatever the policy and the sessions are.
+pub record LongestAnswer : Type 0 where
+  pub holds : (m : Model) (text : List ℕ) → length (answerLine (obey m text)) ≤ 24582
+  -- a command's answer line has 12 bytes at most: a line with a longer one changes nothing
+  pub commands : (m : Model) (text : List ℕ) → 12 < length (answerLine (obey m text)) → obey m text .after ≡ m
 
 -- the place of the result: it holds the result, and is as it was where there is none
 abbrev pub placed : List ℕ → ℕ → ℕ

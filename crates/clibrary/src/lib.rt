@@ -1,6 +1,7 @@
 // What a C program calls. The caller owns the state and every buffer, and no pointer is kept after a call. include/marruskil.h declares these functions for C.
 ghost use mathlib.Core.Path.{_≡_};
-ghost use Prim.Native.Nat.{min};
+ghost use Prim.Native.Nat.{min, _≤_};
+ghost use lib.ListN.{length};
 ghost use Rattle.model.specs.Model.{empty};
 ghost use Rattle.model.specs.commands.Sessions.{check};
 ghost use Rattle.policyform.specs.Promises.{Loads};
@@ -14,6 +15,9 @@ use state::stores::put_all;
 // No answer line is longer than this, whatever the state holds.
 pub const LONGEST_ANSWER: usize = 24582;
 
+// No command's answer line is longer than this.
+pub const LONGEST_COMMAND: usize = 12;
+
 // The numbers become the empty policy with no session, whatever they were.
 #[no_mangle]
 pub extern "C" fn marruskil_start(state: &mut [u64; PLACES])
@@ -22,7 +26,7 @@ pub extern "C" fn marruskil_start(state: &mut [u64; PLACES])
     state::stores::start(state);
 }
 
-// A line whose answer may be longer than the buffer: it is obeyed on a copy, which is stored with the answer line where that fits.
+// A line in a buffer that may be too short even for a command's answer line: it is obeyed on a copy, which is stored where the answer line fits.
 fn obey_on_copy(state: &mut [u64; PLACES], line: &[u8], out: &mut [u8]) -> usize
     ensures { λ n. ⌜ Obeys (view (now (state .entry))) (obey (view (now (state .entry))) (now (line .entry))) (now (out .entry)) (now (out .exit)) n (now (state .exit)) ⌝ }
 {
@@ -39,13 +43,31 @@ fn obey_on_copy(state: &mut [u64; PLACES], line: &[u8], out: &mut [u8]) -> usize
     len
 }
 
+// A line in a buffer that holds every command's answer line: where the answer line does not fit, it was a question, which changes nothing.
+fn obey_aside(state: &mut [u64; PLACES], line: &[u8], out: &mut [u8]) -> usize
+    requires { ⌜ 12 ≤ length (now out) ⌝ }
+    ensures { λ n. ⌜ Obeys (view (now (state .entry))) (obey (view (now (state .entry))) (now (line .entry))) (now (out .entry)) (now (out .exit)) n (now (state .exit)) ⌝ }
+{
+    let mut answer = [0u8; LONGEST_ANSWER];
+    let answered = script::answer_line(state, line, &mut answer);
+    let len = answered.len;
+    if out.len() < len {
+        return 0;
+    }
+    text::put_text(out, 0, &answer[..len]);
+    len
+}
+
 // Obeys one line of a script, any bytes, and puts its answer line, LF included. Gives the length of that; where the buffer is shorter it gives 0, and nothing is obeyed or put.
 #[no_mangle]
 pub extern "C" fn marruskil_obey(state: &mut [u64; PLACES], line: &[u8], out: &mut [u8]) -> usize
     ensures { λ n. ⌜ Obeys (view (now (state .entry))) (obey (view (now (state .entry))) (now (line .entry))) (now (out .entry)) (now (out .exit)) n (now (state .exit)) ⌝ }
 {
-    if out.len() < LONGEST_ANSWER {
+    if out.len() < LONGEST_COMMAND {
         return obey_on_copy(state, line, out);
+    }
+    if out.len() < LONGEST_ANSWER {
+        return obey_aside(state, line, out);
     }
     let answered = script::answer_line(state, line, out);
     answered.len

@@ -2,14 +2,12 @@
 use borrow.Author.Needs.{needs}
 use borrow.Author.Tests.{eqb-true}
 use mathlib.Core.Bool.{Bool, true, false}
-use mathlib.Core.Path.{_≡_, refl, sym, ap, _∙_}
-use Prim.Native.Nat.{ℕ}
+use mathlib.Core.Path.{_≡_, refl, sym, _∙_}
 use mir.Val.{boolByte}
 use Rattle.roleset.specs.Bounded.{bit}
 use Rattle.model.specs.commands.Sessions.{check}
 use Rattle.state.specs.View.{view}
 use Rattle.sessions.specs.Answering.{Checks, isDone}
-use Rattle.clibrary.specs.Calls.{ChecksAt}
 use Rattle.clibrary.proofs.Calling.{check-sixteen, checked-done, checked-refused}
 use Rattle.clibrary.proofs.marruskil_check.Statement.{statement}
 use Rattle.clibrary.proofs.marruskil_check.Tie as tie

@@ -13,7 +13,7 @@ use Rattle.text.proofs.Putting.{put-front, put-length}
 use Rattle.script.specs.LineAnswers.{Answers}
 use Rattle.script.specs.Script.{obey}
 use Rattle.clibrary.specs.Calls.{answerLine}
-use Rattle.clibrary.proofs.Calling.{line-short, put-whole}
+use Rattle.clibrary.proofs.Calling.{longest-answer, put-whole}
 use Rattle.clibrary.proofs.obey_on_copy.Statement.{statement}
 use Rattle.clibrary.proofs.obey_on_copy.Tie as tie
 
@@ -28,7 +28,7 @@ answers : (c : tie.After-answer-line) → Answers (toldBy c) (replicate 24582 0)
 answers c = rw (← c .before .before .before .put-all .ensures) (c .answer-line .ensures)
 
 short : (c : tie.After-answer-line) → length (answerLine (toldBy c)) ≤ length (replicate {A = ℕ} 24582 0)
-short c = omega (arith, line-short (view (start c .args .state .now)) (start c .args .line .now), length-replicate {A = ℕ} 24582 0)
+short c = omega (arith, longest-answer .holds (view (start c .args .state .now)) (start c .args .line .now), length-replicate {A = ℕ} 24582 0)
 
 whole : (c : tie.After-answer-line) → c .answer-line .result .len ≡ length (answerLine (toldBy c))
 whole c = put-whole (answers c .puts .text) (short c)
@@ -36,11 +36,14 @@ whole c = put-whole (answers c .puts .text) (short c)
 front : (c : tie.After-answer-line) → take (c .answer-line .result .len) (c .answer-line .last .1 .1 .0) ≡ answerLine (toldBy c)
 front c = put-front (answers c .puts .text) (short c)
 
+within : (c : tie.After-answer-line) → c .answer-line .result .len ≤ length (c .answer-line .last .1 .1 .0)
+within c = omega (arith, whole c, short c, put-length (answers c .puts .text))
+
 returns : tie.Need-returns
 returns c = inl (record { short = omega (arith, whole (c .before .before), c .if1 .taken); no-length = refl; untouched = refl; unchanged = refl })
 
 slice-aggregate-put-text : tie.Need-slice-aggregate-put-text
-slice-aggregate-put-text c = sym (length-take-le _ _ (omega (arith, whole (c .before .before .before .before .before .before .before), short (c .before .before .before .before .before .before .before), put-length (answers (c .before .before .before .before .before .before .before) .puts .text))))
+slice-aggregate-put-text c = sym (length-take-le _ _ (within (c .before .before .before .before .before .before .before)))
 
 returns-2 : tie.Need-returns-2
 returns-2 c =
