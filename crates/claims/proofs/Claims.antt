@@ -24,6 +24,7 @@ use Rattle.misreadings.proofs.Bench.{inherited-grant}
 use Rattle.misreadings.proofs.Readings.{readings, wrong-rules}
 use Rattle.misreadings.proofs.ShutOut.{shut-out}
 use Rattle.misreadings.proofs.Reviewers.{reviewers-shut-out}
+use Rattle.clibrary.proofs.Calling.{longest-answer}
 use Rattle.unique.proofs.Promises as promises
 use Rattle.unique.proofs.Handed.{owned}
 use Rattle.unique.proofs.OwnCalls.{own-calls}
@@ -95,6 +96,7 @@ claims =
       shut-out = shut-out;
       reviewers-shut-out = reviewers-shut-out;
       own-calls = own-calls;
+      longest-answer = longest-answer;
       owned = owned;
       buffers = buffers;
       frame = frame;

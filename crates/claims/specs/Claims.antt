@@ -28,6 +28,7 @@ use Rattle.edges.specs.LongScripts.{LongScripts}
 use Rattle.benchsheet.specs.BenchSheet.{Bench}
 use Rattle.misreadings.specs.Readings.{examples, answered, expected, InheritedGrant, WrongRules}
 use Rattle.misreadings.specs.ShutOut.{ShutOut, ReviewersShutOut}
+use Rattle.clibrary.specs.Calls.{LongestAnswer}
 use Rattle.unique.specs.Promises as promises
 use Rattle.unique.specs.Handed.{Owned}
 use Rattle.unique.specs.OwnCalls.{OwnCalls}
@@ -108,6 +109,7 @@ pub record Claims : Type 0 where
   pub reviewers-shut-out : ReviewersShutOut
   -- ---- the code's own calls, its own states, its buffers, and every number of its state
   pub own-calls : OwnCalls
+  pub longest-answer : LongestAnswer
   pub owned : Owned
   pub buffers : Buffers
   pub frame : Frame
