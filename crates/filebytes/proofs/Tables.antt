@@ -78,12 +78,12 @@ seen m f = (
     members 64 (has (m .roles)),
     (
       m .lineCount
-      ∷ m .assignmentCount
-      ∷ m .grantCount
-      ∷ bit (all (λ p. has (m .juniors (p .0)) (p .1)) (f .lines))
-      ∷ bit (all (λ p. has (m .assigned (p .0)) (p .1)) (f .assignments))
-      ∷ bit (all (λ g. has (m .holders (g .1 * 256 + g .2)) (g .0)) (f .grants))
-      ∷ [],
+          ∷ m .assignmentCount
+          ∷ m .grantCount
+          ∷ bit (all (λ p. has (m .juniors (p .0)) (p .1)) (f .lines))
+          ∷ bit (all (λ p. has (m .assigned (p .0)) (p .1)) (f .assignments))
+          ∷ bit (all (λ g. has (m .holders (g .1 * 256 + g .2)) (g .0)) (f .grants))
+          ∷ [],
       (
         map (setEntryOf (m .ssd)) (members 16 (λ n. m .ssd n .there)),
         (
