@@ -1,5 +1,6 @@
 pub mod LineForm
 pub mod ScriptLines
 pub mod Program
+pub mod Desk
 pub mod Rows
 pub mod Permissions
