@@ -13,7 +13,7 @@ use Rattle.words.specs.ScriptWords.{words, spelling, takes, placeIn, which}
 use Rattle.textlines.specs.Parts.{partsOf, upTo}
 use Rattle.textlines.proofs.Laws.{cut}
 use Rattle.reading.specs.Form.{render, wordIn, numbersIn, parse}
-use Rattle.script.specs.Script.{obey, answerText, totalText, runLines, runScript}
+use Rattle.script.specs.Script.{obey, answerText, totalText, runLines, runFrom, runScript}
 use Rattle.script.proofs.Turning.{too-long}
 use Rattle.transcripts.specs.Rows.{lineOf}
 use Rattle.edges.specs.LongScripts.{times, LongScripts}
@@ -47,7 +47,7 @@ blank-run m (suc n) done others =
 blank-script : (n : ℕ) → n ≤ 32768 → runScript (times n (lineOf "")) ≡ times n (lineOf "14") ++ totalText 0 n
 unfolding runScript
 blank-script n h =
-    rw (le-ltb 32768 (length (times n (lineOf ""))) (rw blank-length h), runScript, blank-parts n) (blank-run empty n 0 0 ∙ ap (λ (k : ℕ). times n (lineOf "14") ++ totalText 0 k) (omega arith))
+    rw (le-ltb 32768 (length (times n (lineOf ""))) (rw blank-length h), runFrom, blank-parts n) (blank-run empty n 0 0 ∙ ap (λ (k : ℕ). times n (lineOf "14") ++ totalText 0 k) (omega arith))
 
 total-text : totalText 0 32768 ≡ lineOf "total 0 32768"
 unfolding totalText numbered decimal lead

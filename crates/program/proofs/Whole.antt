@@ -7,7 +7,7 @@ use native.Mathlib.Omega.{arith}
 use native.Mathlib.Decide.{decLt}
 use lib.ListN.{length, take, drop, length-append}
 use Rattle.state.specs.View.{view}
-use Rattle.model.specs.Model.{empty}
+use Rattle.model.specs.Model.{Model}
 use Rattle.text.proofs.Putting.{put-front}
 use Rattle.decimal.specs.Decimal.{numbered}
 use Rattle.decimal.proofs.Laws.{numbered-short}
@@ -15,12 +15,12 @@ use Rattle.words.specs.Bytes.{bytes}
 use Rattle.textlines.specs.Parts.{placePast, partAt}
 use Rattle.textlines.specs.Tallies.{counted, oneMore}
 use Rattle.textlines.proofs.Laws.{past-more}
-use Rattle.script.specs.Script.{answerText, totalText, runScript, lineFeed}
+use Rattle.script.specs.Script.{answerText, totalText, runFrom, runScript, afterScript, lineFeed}
 use Rattle.script.specs.LineAnswers.{Turns, toldAt}
 use Rattle.script.specs.declared.Progress.{Progress}
 use Rattle.script.specs.declared.Turned.{Turned}
-use Rattle.script.proofs.Turning.{toPrint, turn-prints, turn-counts, answer-short, obey-few, at-end, from-start, too-long}
-use Rattle.program.specs.Printing.{Stage, stageOf, over, total, tooLong, line, Piece, piece, Puts, Prints, Begins, Runs, ends, goes}
+use Rattle.script.proofs.Turning.{toPrint, toLeave, turn-prints, turn-counts, turn-leaves, answer-short, obey-few, at-end, after-end, from-policy, too-long-from, leaves-lines, leaves-it}
+use Rattle.program.specs.Printing.{Stage, stageOf, over, total, tooLong, line, Piece, piece, Puts, Prints, atStart, Begins, Runs, ends, goes}
 use Rattle.program.specs.declared.Run.{Run}
 use Rattle.program.specs.declared.Printed.{Printed}
 use Rattle.program.proofs.Stages.{at-over, at-total, at-too-long, at-line}
@@ -35,6 +35,16 @@ leftAt line script l p = toPrint script l p
 
 pub left : List ℕ → List ℕ → Run → List ℕ
 left script l r = leftAt (stageOf script r) script l (r .progress)
+
+-- and the policy and sessions that the calls will leave
+lastAt : Stage → List ℕ → List ℕ → Progress → Model
+lastAt over script l p = view l
+lastAt total script l p = view l
+lastAt tooLong script l p = view l
+lastAt line script l p = toLeave script l p
+
+pub last : List ℕ → List ℕ → Run → Model
+last script l r = lastAt (stageOf script r) script l (r .progress)
 
 -- how many calls are left at most
 pub callsLeft : List ℕ → Run → ℕ
@@ -53,6 +63,7 @@ total-short done others = omega (arith, length-append (bytes "total") (numbered 
 -- What a call hands out and what is left after it are what was left before it; and it was a call less.
 pub record Goes (script l : List ℕ) (r : Run) (after : List ℕ) (x : Printed) (next : List ℕ) : Type 0 where
   pub joins : take (x .len) after ++ left script next (x .run) ≡ left script l r
+  pub leaves : last script next (x .run) ≡ last script l r
   pub few : Few (x .run)
   pub short : x .len ≤ 24582
   pub fewer : callsLeft script (x .run) < callsLeft script r
@@ -60,6 +71,10 @@ pub record Goes (script l : List ℕ) (r : Run) (after : List ℕ) (x : Printed)
 left-at : (script l : List ℕ) (r : Run) {s : Stage} → stageOf script r ≡ s → left script l r ≡ leftAt s script l (r .progress)
 unfolding left
 left-at script l r e = ap (λ (s : Stage). leftAt s script l (r .progress)) e
+
+last-at : (script l : List ℕ) (r : Run) {s : Stage} → stageOf script r ≡ s → last script l r ≡ lastAt s script l (r .progress)
+unfolding last
+last-at script l r e = ap (λ (s : Stage). lastAt s script l (r .progress)) e
 
 -- while no line is too long, what is left is what the lines are still to print
 left-lines : (script l : List ℕ) (r : Run) → r .over ≡ false → length script ≤ 32768 → left script l r ≡ toPrint script l (r .progress)
@@ -69,6 +84,14 @@ left-lines script l r e k = go (decLt (r .progress .at) (length script))
     go : Dec (r .progress .at < length script) → left script l r ≡ toPrint script l (r .progress)
     go (yes h) = left-at script l r (at-line script r e h k)
     go (no h) = let n : length script ≤ r .progress .at = omega arith in left-at script l r (at-total script r e n) ∙ sym (at-end script (view l) (r .progress .tally .done) (r .progress .tally .others) (r .progress .at) n)
+
+last-lines : (script l : List ℕ) (r : Run) → r .over ≡ false → length script ≤ 32768 → last script l r ≡ toLeave script l (r .progress)
+unfolding lastAt
+last-lines script l r e k = go (decLt (r .progress .at) (length script))
+  where
+    go : Dec (r .progress .at < length script) → last script l r ≡ toLeave script l (r .progress)
+    go (yes h) = last-at script l r (at-line script r e h k)
+    go (no h) = let n : length script ≤ r .progress .at = omega arith in last-at script l r (at-total script r e n) ∙ sym (after-end script (view l) (r .progress .at) n)
 
 calls-over : (script : List ℕ) (r : Run) → r .over ≡ true → callsLeft script r ≡ 0
 unfolding callsLeft
@@ -94,7 +117,7 @@ module _ (script l : List ℕ) (r : Run) (before after : List ℕ) (x : Printed)
 
   -- the total is the last piece
   goes-total : length script ≤ r .progress .at → Goes script l r after x next
-  unfolding leftAt
+  unfolding leftAt lastAt
   goes-total h =
       let is = at-total script r e h in
       let p = stands is (omega (arith, total-short (r .progress .tally .done) (r .progress .tally .others))) in
@@ -102,6 +125,7 @@ module _ (script l : List ℕ) (r : Run) (before after : List ℕ) (x : Printed)
       let o : x .run .over ≡ true = ap (λ (q : Run). q .over) n in
       record {
         joins = rw (p .0, left-at script next (x .run) (at-over script (x .run) o), left-at script l r is) (append-nil _);
+        leaves = last-at script next (x .run) (at-over script (x .run) o) ∙ state-at is ∙ sym (last-at script l r is);
         few = rw n few;
         short = p .1;
         fewer = omega (arith, calls-over script (x .run) o, calls-on script r e);
@@ -109,7 +133,7 @@ module _ (script l : List ℕ) (r : Run) (before after : List ℕ) (x : Printed)
 
   -- after the answer to a script that is too long comes the total
   goes-too-long : r .progress .at < length script → 32768 < length script → Goes script l r after x next
-  unfolding leftAt counted oneMore
+  unfolding leftAt lastAt counted oneMore
   goes-too-long h k =
       let is = at-too-long script r e h k in
       let p = stands is (omega (arith, answer-short 14 [] (omega arith))) in
@@ -118,6 +142,7 @@ module _ (script l : List ℕ) (r : Run) (before after : List ℕ) (x : Printed)
       let a : x .run .progress .at ≡ length script = ap (λ (q : Run). q .progress .at) n in
       record {
         joins = rw (p .0, left-at script next (x .run) (at-total script (x .run) o (omega arith)), left-at script l r is, n);
+        leaves = last-at script next (x .run) (at-total script (x .run) o (omega arith)) ∙ state-at is ∙ sym (last-at script l r is);
         few = rw n (omega arith);
         short = p .1;
         fewer = omega (arith, calls-on script (x .run) o, calls-on script r e);
@@ -136,6 +161,7 @@ module _ (script l : List ℕ) (r : Run) (before after : List ℕ) (x : Printed)
       let turns : Turns script l (r .progress) before after turned next = record { text = puts-at is .text; place = a; tally = ap (λ (q : Run). q .progress .tally) n; state = state-at is } in
       record {
         joins = rw (left-lines script next (x .run) o k, left-lines script l r e k) (turn-prints script l (r .progress) before after turned next turns h room k few);
+        leaves = last-lines script next (x .run) o k ∙ turn-leaves script l (r .progress) before after turned next turns h room k few ∙ sym (last-lines script l r e k);
         few = turn-counts script l (r .progress) before after turned next turns h room k few;
         short = p .1;
         fewer = omega (arith, calls-on script (x .run) o, calls-on script r e, past-more lineFeed script (r .progress .at) h);
@@ -156,27 +182,48 @@ pub left-none : (script l : List ℕ) (r : Run) → r .over ≡ true → left sc
 unfolding leftAt
 left-none script l r e = left-at script l r (at-over script r e)
 
+pub last-none : (script l : List ℕ) (r : Run) → r .over ≡ true → last script l r ≡ view l
+unfolding lastAt
+last-none script l r e = last-at script l r (at-over script r e)
+
 -- at the start all is left
-pub left-all : (script l : List ℕ) (r : Run) → Begins l r → left script l r ≡ runScript script
-unfolding leftAt counted oneMore
-left-all script l r b = go (decLt 32768 (length script))
-  where
-    fresh : (r .over ≡ false) × (r .progress .at ≡ 0)
-    fresh = (ap (λ (q : Run). q .over) (b .run), ap (λ (q : Run). q .progress .at) (b .run))
+module _ (script l : List ℕ) (r : Run) (b : r ≡ atStart) where
+  fresh : (r .over ≡ false) × (r .progress .at ≡ 0)
+  fresh = (ap (λ (q : Run). q .over) b, ap (λ (q : Run). q .progress .at) b)
 
-    go : Dec (32768 < length script) → left script l r ≡ runScript script
-    go (yes h) = left-at script l r (at-too-long script r (fresh .0) (omega (arith, fresh .1)) h) ∙ rw (b .run) (sym (too-long script h))
-    go (no h) = left-lines script l r (fresh .0) (omega arith) ∙ rw (b .run, b .state) (sym (from-start script (omega arith)))
+  pub left-all : left script l r ≡ runFrom (view l) script
+  unfolding leftAt counted oneMore
+  left-all = go (decLt 32768 (length script))
+    where
+      go : Dec (32768 < length script) → left script l r ≡ runFrom (view l) script
+      go (yes h) = left-at script l r (at-too-long script r (fresh .0) (omega (arith, fresh .1)) h) ∙ rw b (sym (too-long-from (view l) script h))
+      go (no h) = left-lines script l r (fresh .0) (omega arith) ∙ rw b (sym (from-policy (view l) script (omega arith)))
 
-pub begins-few : (l : List ℕ) (r : Run) → Begins l r → Few r
-begins-few l r b = rw (b .run) (omega arith)
+  pub last-all : last script l r ≡ afterScript (view l) script
+  unfolding lastAt
+  last-all = go (decLt 32768 (length script))
+    where
+      go : Dec (32768 < length script) → last script l r ≡ afterScript (view l) script
+      go (yes h) = last-at script l r (at-too-long script r (fresh .0) (omega (arith, fresh .1)) h) ∙ sym (leaves-it (view l) script h)
+      go (no h) = last-lines script l r (fresh .0) (omega arith) ∙ rw b (sym (leaves-lines (view l) script (omega arith)))
 
-joined : {script out l : List ℕ} {r : Run} → Few r → Runs script l r out → out ≡ left script l r
-joined {script} few (ends l r e) = sym (left-none script l r e)
-joined {script} few (goes l r before after x next rest e room t runs) =
+  pub starts-few : Few r
+  starts-few = rw b (omega arith)
+
+joined : {script out l last′ : List ℕ} {r : Run} → Few r → Runs script l r out last′ → (out ≡ left script l r) × (view last′ ≡ last script l r)
+joined {script} few (ends l r e) = (sym (left-none script l r e), sym (last-none script l r e))
+joined {script} few (goes l r before after x next rest end e room t runs) =
     let g = goes-on script l r before after x next (omega arith) few e t in
-    ap (λ (o : List ℕ). take (x .len) after ++ o) (joined (g .few) runs) ∙ g .joins
+    let j = joined (g .few) runs in
+    (ap (λ (o : List ℕ). take (x .len) after ++ o) (j .0) ∙ g .joins, j .1 ∙ g .leaves)
 
--- The program's calls, from the first one until the total was handed out, hand out what the script prints, whatever its length.
-pub whole : (script out l : List ℕ) (r : Run) → Begins l r → Runs script l r out → out ≡ runScript script
-whole script out l r b runs = joined (begins-few l r b) runs ∙ left-all script l r b
+-- The program's calls, from the first one until the total was handed out, hand out what the script prints from that policy on, whatever its length,
+-- and leave what the script leaves of it.
+pub whole-from : (script out l end : List ℕ) (r : Run) → r ≡ atStart → Runs script l r out end → (out ≡ runFrom (view l) script) × (view end ≡ afterScript (view l) script)
+whole-from script out l end r b runs =
+    let j = joined (starts-few script l r b) runs in
+    (j .0 ∙ left-all script l r b, j .1 ∙ last-all script l r b)
+
+pub whole : (script out l end : List ℕ) (r : Run) → Begins l r → Runs script l r out end → out ≡ runScript script
+unfolding runScript
+whole script out l end r b runs = whole-from script out l end r (b .run) runs .0 ∙ ap (λ (m : Model). runFrom m script) (b .state)

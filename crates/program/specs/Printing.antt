@@ -16,10 +16,14 @@ use Rattle.script.specs.declared.Progress.{Progress}
 use Rattle.program.specs.declared.Run.{Run}
 use Rattle.program.specs.declared.Printed.{Printed}
 
--- "starting empty": no policy and no session, and the program has answered no line
+-- the program has answered no line
+abbrev pub atStart : Run
+atStart = record { progress = record { at = 0; tally = record { done = 0; others = 0 } }; over = false }
+
+-- "starting empty": no policy and no session, and no line is answered
 pub record Begins (l : List ℕ) (r : Run) : Type 0 where
   pub state : view l ≡ empty
-  pub run : r ≡ record { progress = record { at = 0; tally = record { done = 0; others = 0 } }; over = false }
+  pub run : r ≡ atStart
 
 -- what is to be printed next: nothing more, the total, the answer to a script that is too long, or a line's answer
 pub data Stage : Type 0 where
@@ -74,7 +78,7 @@ abbrev pub bufferLength : ℕ
 bufferLength = 32768
 
 -- The calls of the program, one after another until the total was handed out, with a buffer of that length each: from the state l and so far on,
--- this is handed to the output, piece after piece.
-pub data Runs (script : List ℕ) : List ℕ → Run → List ℕ → Type 0 where
-  ends : (l : List ℕ) (r : Run) → r .over ≡ true → Runs script l r []
-  goes : (l : List ℕ) (r : Run) (before after : List ℕ) (x : Printed) (next rest : List ℕ) → r .over ≡ false → length before ≡ bufferLength → Prints script l r before after x next → Runs script next (x .run) rest → Runs script l r (take (x .len) after ++ rest)
+-- this is handed to the output, piece after piece, and this state is left.
+pub data Runs (script : List ℕ) : List ℕ → Run → List ℕ → List ℕ → Type 0 where
+  ends : (l : List ℕ) (r : Run) → r .over ≡ true → Runs script l r [] l
+  goes : (l : List ℕ) (r : Run) (before after : List ℕ) (x : Printed) (next rest last : List ℕ) → r .over ≡ false → length before ≡ bufferLength → Prints script l r before after x next → Runs script next (x .run) rest last → Runs script l r (take (x .len) after ++ rest) last

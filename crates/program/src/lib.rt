@@ -1,5 +1,6 @@
 // The program over a script, call by call: what each call hands to the output, from the first one to the total.
-ghost use Rattle.program.specs.Printing.{Begins, Refuses, Prints};
+ghost use mathlib.Core.Path.{_≡_};
+ghost use Rattle.program.specs.Printing.{atStart, Begins, Refuses, Prints};
 use script::Progress;
 use state::PLACES;
 use textlines::Tally;
@@ -19,11 +20,10 @@ pub struct Printed {
     pub run: Run,
 }
 
-// Starts empty: no policy, no session, no line answered.
-pub fn begin(state: &mut [u64; PLACES]) -> Run
-    ensures { λ r. ⌜ Begins (now (state .exit)) r ⌝ }
+// No line is answered yet, whatever the policy that the script is run on.
+pub fn at_first() -> Run
+    ensures { λ r. ⌜ r ≡ atStart ⌝ }
 {
-    state::stores::start(state);
     Run {
         progress: Progress {
             at: 0,
@@ -31,6 +31,14 @@ pub fn begin(state: &mut [u64; PLACES]) -> Run
         },
         over: false,
     }
+}
+
+// Starts empty: no policy, no session, no line answered.
+pub fn begin(state: &mut [u64; PLACES]) -> Run
+    ensures { λ r. ⌜ Begins (now (state .exit)) r ⌝ }
+{
+    state::stores::start(state);
+    at_first()
 }
 
 // A script over the longest is answered 14 as a whole, as if it were one line.

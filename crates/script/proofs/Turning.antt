@@ -24,7 +24,7 @@ use Rattle.meaning.specs.declared.Meant.{Meant}
 use Rattle.meaning.specs.declared.Meant.the-variants.{Do, Ask, Nothing}
 use Rattle.meaning.specs.Meaning.{meant}
 use Rattle.reviews.proofs.Promised.{results-fit}
-use Rattle.script.specs.Script.{room, doing, obeyed, obey, answerText, totalText, doneAfter, othersAfter, runLines, runScript, lineFeed, longestScript}
+use Rattle.script.specs.Script.{room, doing, obeyed, obey, answerText, totalText, doneAfter, othersAfter, runLines, runFrom, runScript, afterLines, afterScript, lineFeed, longestScript}
 use Rattle.script.specs.LineAnswers.{Turns, toldAt}
 use Rattle.script.specs.declared.Progress.{Progress}
 use Rattle.script.specs.declared.Turned.{Turned}
@@ -82,19 +82,40 @@ module _ (script : List ℕ) (m : Model) (done others at : ℕ) (h : at < length
   unfolding runLines
   one-line = ap (runLines m done others) (parts-at lineFeed script at h)
 
+  pub one-line-after : afterLines m (partsOf lineFeed (drop at script)) ≡ afterLines (told .after) (partsOf lineFeed (drop (placePast lineFeed script at) script))
+  unfolding afterLines
+  one-line-after = ap (afterLines m) (parts-at lineFeed script at h)
+
 -- at the end of the script the total is left to print
 pub at-end : (script : List ℕ) (m : Model) (done others at : ℕ) → length script ≤ at → runLines m done others (partsOf lineFeed (drop at script)) ≡ totalText done others
 unfolding runLines
 at-end script m done others at h = ap (runLines m done others) (parts-none lineFeed script at h)
 
--- a script of the right length, from its start, and one that is too long
+-- and nothing is left to do
+pub after-end : (script : List ℕ) (m : Model) (at : ℕ) → length script ≤ at → afterLines m (partsOf lineFeed (drop at script)) ≡ m
+unfolding afterLines
+after-end script m at h = ap (afterLines m) (parts-none lineFeed script at h)
+
+-- a script of the right length, from its start, and one that is too long: what it prints and what it leaves
+pub from-policy : (m : Model) (script : List ℕ) → length script ≤ 32768 → runFrom m script ≡ runLines m 0 0 (partsOf lineFeed (drop 0 script))
+from-policy m script h = rw (le-ltb 32768 (length script) h, runFrom)
+
+pub too-long-from : (m : Model) (script : List ℕ) → 32768 < length script → runFrom m script ≡ answerText 14 [] ++ totalText 0 1
+too-long-from m script h = rw (lt-ltb 32768 (length script) h, runFrom)
+
+pub leaves-lines : (m : Model) (script : List ℕ) → length script ≤ 32768 → afterScript m script ≡ afterLines m (partsOf lineFeed (drop 0 script))
+leaves-lines m script h = rw (le-ltb 32768 (length script) h, afterScript)
+
+pub leaves-it : (m : Model) (script : List ℕ) → 32768 < length script → afterScript m script ≡ m
+leaves-it m script h = rw (lt-ltb 32768 (length script) h, afterScript)
+
 pub from-start : (script : List ℕ) → length script ≤ 32768 → runScript script ≡ runLines empty 0 0 (partsOf lineFeed (drop 0 script))
 unfolding runScript
-from-start script h = rw (le-ltb 32768 (length script) h, runScript)
+from-start script h = from-policy empty script h
 
 pub too-long : (script : List ℕ) → 32768 < length script → runScript script ≡ answerText 14 [] ++ totalText 0 1
 unfolding runScript
-too-long script h = rw (lt-ltb 32768 (length script) h, runScript)
+too-long script h = too-long-from empty script h
 
 -- each line is counted once
 counted-once : (done others : ℕ) (told : Told) → doneAfter done told + othersAfter others told ≡ done + others + 1
@@ -109,6 +130,10 @@ counted-once done others told = go (eqb (told .answer) 0)
 -- what is still to be printed of a script, from a state and a place in it on
 abbrev pub toPrint : List ℕ → List ℕ → Progress → List ℕ
 toPrint script l p = runLines (view l) (p .tally .done) (p .tally .others) (partsOf lineFeed (drop (p .at) script))
+
+-- and the policy and sessions that it will leave
+abbrev pub toLeave : List ℕ → List ℕ → Progress → Model
+toLeave script l p = afterLines (view l) (partsOf lineFeed (drop (p .at) script))
 
 -- A turn prints its line, and leaves the rest to print.
 module _ (script l : List ℕ) (p : Progress) (before after : List ℕ) (x : Turned) (next : List ℕ) (t : Turns script l p before after x next) (h : p .at < length script) (room : 24582 ≤ length before) (small : length script ≤ longestScript) (few : p .tally .done + p .tally .others ≤ p .at) where
@@ -126,3 +151,6 @@ module _ (script l : List ℕ) (p : Progress) (before after : List ℕ) (x : Tur
 
   pub turn-counts : x .next .tally .done + x .next .tally .others ≤ x .next .at
   turn-counts = omega (arith, done-is, others-is, counted-once (p .tally .done) (p .tally .others) (toldAt script l p), t .place, past-more lineFeed script (p .at) h)
+
+  pub turn-leaves : toLeave script next (x .next) ≡ toLeave script l p
+  turn-leaves = rw (t .state, t .place) (sym (one-line-after script (view l) (p .tally .done) (p .tally .others) (p .at) h))

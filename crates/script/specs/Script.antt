@@ -65,10 +65,23 @@ runLines m done others (text ∷ rest) =
 abbrev pub longestScript : ℕ
 longestScript = 32768
 
--- "The program reads a script from standard input, starting empty."
-unfoldable pub runScript : List ℕ → List ℕ
-runScript script =
+-- what a script prints, from a policy with sessions on
+abbrev pub runFrom : Model → List ℕ → List ℕ
+runFrom m script =
     elim (ltb longestScript (length script)) [
       | true ↦ answerText 14 [] ++ totalText 0 1
-      | false ↦ runLines empty 0 0 (partsOf lineFeed script)
+      | false ↦ runLines m 0 0 (partsOf lineFeed script)
     ]
+
+-- "The program reads a script from standard input, starting empty."
+unfoldable pub runScript : List ℕ → List ℕ
+runScript script = runFrom empty script
+
+-- the policy and sessions after some lines
+unfoldable pub afterLines : Model → List (List ℕ) → Model
+afterLines m [] = m
+afterLines m (text ∷ rest) = afterLines (obey m text .after) rest
+
+-- and after a script: one that is too long changes nothing
+abbrev pub afterScript : Model → List ℕ → Model
+afterScript m script = elim (ltb longestScript (length script)) [ true ↦ m | false ↦ afterLines m (partsOf lineFeed script) ]

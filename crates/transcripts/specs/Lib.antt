@@ -2,4 +2,5 @@ pub mod LineForm
 pub mod ScriptLines
 pub mod Rows
 pub mod Program
+pub mod Desk
 pub mod Story

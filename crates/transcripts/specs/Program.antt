@@ -34,7 +34,7 @@ example =
 pub record Program : Type 0 where
   -- "The program reads a script from standard input, starting empty.": what the program's calls hand to the output, from the very first one until the
   -- total was handed out, is together what the script prints, whatever its bytes and its length.
-  pub prints : (script out l : List ℕ) (r : Run) → Begins l r → Runs script l r out → out ≡ runScript script
+  pub prints : (script out l last : List ℕ) (r : Run) → Begins l r → Runs script l r out last → out ≡ runScript script
   -- "A script over 32,768 bytes prints `14` and `total 0 1`."
   pub too-long : (script : List ℕ) → 32768 < length script → runScript script ≡ lineOf "14" ++ lineOf "total 0 1"
   -- A script of no more bytes is obeyed line by line, from the empty policy and two counts of 0 on.

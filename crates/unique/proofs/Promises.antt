@@ -270,6 +270,7 @@ script =
 pub program : promises.Program
 program =
     record {
+      at-first = λ κs a x y e f vx vy p q. p ∙ sym q;
       begin = λ κs a x y e f sx sy p q. laws.begins-one sx sy p q;
       next = λ κs a x y e f sx sy p q. laws.prints-one sx sy p q;
     }

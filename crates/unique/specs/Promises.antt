@@ -220,6 +220,7 @@ pub record Script : Type 0 where
   pub turn : UniqueBoth script.turn.Kinds.ps script.turn.Kinds.r script.turn.Reads.Post (λ κs e. e .1 .0 .now) (λ κs e. e .1 .1 .1 .0 .now)
 
 pub record Program : Type 0 where
+  pub at-first : Unique program.at_first.Kinds.ps program.at_first.Kinds.r program.at_first.Reads.Post
   pub begin : UniqueState program.begin.Kinds.ps program.begin.Kinds.r program.begin.Reads.Post (λ κs e. e .0 .now)
   pub next : UniqueBoth program.next.Kinds.ps program.next.Kinds.r program.next.Reads.Post (λ κs e. e .1 .0 .now) (λ κs e. e .1 .1 .1 .0 .now)
 

@@ -7,14 +7,16 @@ use Prim.Native.Nat.{ℕ, _+_, _≤_}
 use native.Mathlib.Omega.{arith}
 use lib.ListN.{length, take}
 use lib.Seq.{length-take-le}
+use Rattle.model.specs.Model.{empty}
 use Rattle.text.proofs.Putting.{put-length}
+use Rattle.script.specs.Script.{runScript}
 use Rattle.program.proofs.Placing.{Handing, hands-all, hands-none, hands-on, piece-within, piece-next, calls-fewer, count-small}
 use Rattle.program.proofs.Whole.{callsLeft}
 use Rattle.bench.proofs.print_all.Statement.{statement}
 use Rattle.bench.proofs.print_all.Tie as tie
 
 abbrev Inv-loop : tie.InvT-loop
-Inv-loop script state₀ buf₀ run₀ count₀ state buf run count = (length buf ≡ 32768) × Handing script state run count
+Inv-loop script state₀ buf₀ run₀ count₀ state buf run count = (length buf ≡ 32768) × Handing empty script state run count
 
 abbrev μ-loop : tie.MeasureT-loop
 μ-loop script state₀ buf₀ run₀ count₀ state buf run count = callsLeft script run
@@ -25,7 +27,7 @@ room : (c : tie.After-next Inv-loop μ-loop) → 24582 ≤ length (c .before .be
 room c = omega (arith, c .before .before .before .before .before .loop .inv .0)
 
 within : (c : tie.After-next Inv-loop μ-loop) → c .next .result .len ≤ length (c .next .last .1 .1 .1 .0)
-within c = piece-within _ _ _ _ _ _ _ _ (room c) (c .before .before .before .before .before .loop .inv .1) (not-true _ (c .before .before .before .if1 .taken)) (c .next .ensures)
+within c = piece-within _ _ _ _ _ _ _ _ _ (room c) (c .before .before .before .before .before .loop .inv .1) (not-true _ (c .before .before .before .if1 .taken)) (c .next .ensures)
 
 -- it is written, and counted
 wrote : (c : tie.After-run Inv-loop μ-loop) → c .before .before .write-next .last .1 .0 ≡ c .before .before .before .before .before .before .before .before .before .before .before .loop .count + c .before .before .before .before .before .before .next .result .len
@@ -34,7 +36,7 @@ wrote c = c .before .before .write-next .ensures (not-false _ (c .before .if2 .l
 -- ---- the loop
 
 loop-holds : tie.Need-loop-holds Inv-loop μ-loop
-loop-holds c = (refl, hands-all _ _ _ (c .begin .ensures))
+loop-holds c = (refl, hands-all _ _ _ _ (c .begin .ensures .state) (c .begin .ensures .run))
 
 array-share-prefix-buf : tie.Need-array-share-prefix-buf Inv-loop μ-loop
 array-share-prefix-buf c = within (c .before .before)
@@ -43,9 +45,10 @@ slice-aggregate-write-next : tie.Need-slice-aggregate-write-next Inv-loop μ-loo
 slice-aggregate-write-next c = sym (length-take-le _ _ (within (c .before .before .before)))
 
 write-next-requires : tie.Need-write-next-requires Inv-loop μ-loop
+unfolding runScript
 write-next-requires c κs = (
-  piece-next _ _ _ _ _ _ _ _ (room (c .before .before .before)) (c .before .before .before .before .before .before .before .before .loop .inv .1) (not-true _ (c .before .before .before .before .before .before .if1 .taken)) (c .before .before .before .next .ensures),
-  omega (arith, count-small _ _ _ _ _ _ _ _ (room (c .before .before .before)) (c .before .before .before .before .before .before .before .before .loop .inv .1) (not-true _ (c .before .before .before .before .before .before .if1 .taken)) (c .before .before .before .next .ensures), length-take-le (c .before .before .before .next .result .len) (c .before .before .before .next .last .1 .1 .1 .0) (within (c .before .before .before))),
+  piece-next _ _ _ _ _ _ _ _ _ (room (c .before .before .before)) (c .before .before .before .before .before .before .before .before .loop .inv .1) (not-true _ (c .before .before .before .before .before .before .if1 .taken)) (c .before .before .before .next .ensures),
+  omega (arith, count-small _ _ _ _ _ _ _ _ _ (room (c .before .before .before)) (c .before .before .before .before .before .before .before .before .loop .inv .1) (not-true _ (c .before .before .before .before .before .before .if1 .taken)) (c .before .before .before .next .ensures), length-take-le (c .before .before .before .next .result .len) (c .before .before .before .next .last .1 .1 .1 .0) (within (c .before .before .before))),
 )
 
 -- a write failed
@@ -53,13 +56,14 @@ returns : tie.Need-returns Inv-loop μ-loop
 returns c = λ e. let z : _≡_ {A = ℕ} 0 1 = cc in omega arith
 
 loop-less : tie.Need-loop-less Inv-loop μ-loop
-loop-less c = calls-fewer _ _ _ _ _ _ _ _ (room (c .before .before .before .before .before .before)) (c .before .before .before .before .before .before .before .before .before .before .before .loop .inv .1) (not-true _ (c .before .before .before .before .before .before .before .before .before .if1 .taken)) (c .before .before .before .before .before .before .next .ensures)
+loop-less c = calls-fewer _ _ _ _ _ _ _ _ _ (room (c .before .before .before .before .before .before)) (c .before .before .before .before .before .before .before .before .before .before .before .loop .inv .1) (not-true _ (c .before .before .before .before .before .before .before .before .before .if1 .taken)) (c .before .before .before .before .before .before .next .ensures)
 
 loop-again : tie.Need-loop-again Inv-loop μ-loop
-loop-again c = (put-length (c .before .before .before .before .before .before .next .ensures .puts .text) ∙ c .before .before .before .before .before .before .before .before .before .before .before .loop .inv .0, rw (wrote c) (hands-on _ _ _ _ _ _ _ _ (room (c .before .before .before .before .before .before)) (c .before .before .before .before .before .before .before .before .before .before .before .loop .inv .1) (not-true _ (c .before .before .before .before .before .before .before .before .before .if1 .taken)) (c .before .before .before .before .before .before .next .ensures)))
+loop-again c = (put-length (c .before .before .before .before .before .before .next .ensures .puts .text) ∙ c .before .before .before .before .before .before .before .before .before .before .before .loop .inv .0, rw (wrote c) (hands-on _ _ _ _ _ _ _ _ _ (room (c .before .before .before .before .before .before)) (c .before .before .before .before .before .before .before .before .before .before .before .loop .inv .1) (not-true _ (c .before .before .before .before .before .before .before .before .before .if1 .taken)) (c .before .before .before .before .before .before .next .ensures)))
 
 returns-2 : tie.Need-returns-2 Inv-loop μ-loop
-returns-2 c = λ e. hands-none _ _ _ _ (c .before .before .loop .inv .1) (not-false _ (c .if1 .left))
+unfolding runScript
+returns-2 c = λ e. hands-none _ _ _ _ _ (c .before .before .loop .inv .1) (not-false _ (c .if1 .left))
 
 pub print-all-spec : {M : Type 1} → statement M
 print-all-spec =
