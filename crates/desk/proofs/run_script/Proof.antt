@@ -26,10 +26,10 @@ array-share-prefix-bytes : tie.Need-array-share-prefix-bytes
 array-share-prefix-bytes c = search needs
 
 slice-aggregate-print-all : tie.Need-slice-aggregate-print-all
-slice-aggregate-print-all c = sym (length-take-le _ _ (c .before .before .before .before .read-whole .ensures))
+slice-aggregate-print-all c = sym (length-take-le _ _ (c .before .before .before .before .read-whole .ensures .0))
 
 print-all-requires : tie.Need-print-all-requires
-print-all-requires c κs = (c .before .before .before .before .before .before .before .before .before .pre, omega (arith, length-take-le (c .before .before .before .before .before .read-whole .result .len) (c .before .before .before .before .before .read-whole .last .1 .0) (c .before .before .before .before .before .read-whole .ensures), c .before .before .before .before .before .read-whole .ensures, c .before .before .before .before .before .read-whole .kept .1 .0))
+print-all-requires c κs = (c .before .before .before .before .before .before .before .before .before .pre, omega (arith, length-take-le (c .before .before .before .before .before .read-whole .result .len) (c .before .before .before .before .before .read-whole .last .1 .0) (c .before .before .before .before .before .read-whole .ensures .0), c .before .before .before .before .before .read-whole .ensures .0, c .before .before .before .before .before .read-whole .kept .1 .0))
 
 slice-aggregate-say-2 : tie.Need-slice-aggregate-say-2
 slice-aggregate-say-2 c = search needs
@@ -44,7 +44,7 @@ array-share-prefix-bytes-2 : tie.Need-array-share-prefix-bytes-2
 array-share-prefix-bytes-2 c = search needs
 
 slice-aggregate-save-state : tie.Need-slice-aggregate-save-state
-slice-aggregate-save-state c = sym (length-take-le _ _ (c .before .before .before .before .before .before .before .before .before .before .read-whole .ensures))
+slice-aggregate-save-state c = sym (length-take-le _ _ (c .before .before .before .before .before .before .before .before .before .before .read-whole .ensures .0))
 
 save-state-requires : tie.Need-save-state-requires
 save-state-requires c κs = c .before .before .before .before .before .print-all .ensures .1 (not-false _ (c .before .before .before .if2 .left))
