@@ -115,6 +115,10 @@ fi
 [ -c /dev/null ] || fail "./run desk took the place of /dev/null"
 ./run desk - "$room/new" <examples/paper.script >/dev/null 2>"$room/said" || fail "./run desk fails: $(cat "$room/said")"
 
+# A small stack, with the largest policy.
+(ulimit -S -s 256 && desk tests/files/full.bin "$room/new" </dev/null) >/dev/null 2>"$room/said" && cmp -s "$room/new" tests/files/full.bin || fail "a stack of 256 KB is too small"
+(ulimit -S -s 256 && desk - "$room/new" <examples/tour.script) 2>"$room/said" | cmp -s - examples/tour.expected || fail "a stack of 256 KB is too small for examples/tour.script"
+
 # ---- killed at any moment
 
 # The old file is small and the new one large, so that a torn file would be neither.

@@ -5,7 +5,7 @@ mod saving;
 
 ghost use mathlib.Core.Bool.{true};
 ghost use mathlib.Core.Path.{_≡_};
-ghost use Prim.Native.Nat.{_≤_};
+ghost use Prim.Native.Nat.{_+_, _^_, _<_, _≤_};
 ghost use lib.ListN.{length};
 ghost use Rattle.model.specs.Model.{empty};
 ghost use Rattle.model.specs.Sheet.{refused};
@@ -31,11 +31,18 @@ struct Written {
     all: bool,
 }
 
-// Writes the next bytes of what the script prints from the policy of the file on: those that stand there from the place `from` on.
-fn write_next(file: &[u8], script: &[u8], from: usize, bytes: &[u8]) -> bool
-    requires { ⌜ Next (now file) (now script) from (now bytes) ⌝ }
+// Writes the next bytes of what the script prints from the policy of the file on, of which `count` were written, and counts them. Nothing else
+// writes or counts.
+fn write_next(file: &[u8], script: &[u8], count: &mut usize, bytes: &[u8]) -> bool
+    requires { ⌜ Next (now file) (now script) (now count) (now bytes) ⌝ }
+    requires { ⌜ now count + length (now bytes) < 2 ^ 64 ⌝ }
+    ensures { λ ok. ⌜ (ok ≡ true → now (count .exit) ≡ now (count .entry) + length (now (bytes .entry))) ⌝ }
 {
-    io::write_all(STDOUT_FILENO, bytes)
+    if io::write_all(STDOUT_FILENO, bytes) {
+        *count += bytes.len();
+        return true;
+    }
+    false
 }
 
 // Runs the script on the state, which holds the policy of the file, and prints what the script prints, from its first byte to its last one.
@@ -51,10 +58,9 @@ fn print_all(file: &[u8], script: &[u8], state: &mut [u64; PLACES]) -> Written
     while !run.over {
         let piece = program::next(script, state, run, &mut buf);
         let len = piece.len;
-        if !write_next(file, script, count, &buf[..len]) {
+        if !write_next(file, script, &mut count, &buf[..len]) {
             return Written { count, all: false };
         }
-        count += len;
         run = piece.run;
     }
     Written { count, all: true }

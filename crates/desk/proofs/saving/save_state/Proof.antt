@@ -10,15 +10,6 @@ use Rattle.desk.proofs.saving.save_state.Tie as tie
 whole : (c : tie.Then1) → Whole (c .before .before .before .before .before .before .before .before .args .file .now) (c .before .before .before .before .before .before .before .before .args .script .now) (c .before .before .before .save .last .1 .0) (c .before .before .before .save .result .length)
 whole c = saved-whole _ _ _ (c .before .before .before .before .before .before .before .before .pre) _ _ _ _ (eqb-true _ _ (sym (c .before .is-done .ensures) ∙ c .if1 .taken)) (c .before .before .before .save .ensures)
 
-slice-aggregate-save : tie.Need-slice-aggregate-save
-slice-aggregate-save c = search needs
-
-save-requires : tie.Need-save-requires
-save-requires c κs = search needs
-
-is-done-requires : tie.Need-is-done-requires
-is-done-requires c κs = search needs
-
 array-share-prefix-out : tie.Need-array-share-prefix-out
 array-share-prefix-out c = whole c .within
 
@@ -28,29 +19,17 @@ slice-aggregate-save-bytes c = sym (length-take-le _ _ (whole (c .before) .withi
 save-bytes-requires : tie.Need-save-bytes-requires
 save-bytes-requires c κs = whole (c .before) .saved
 
-slice-aggregate-write-all : tie.Need-slice-aggregate-write-all
-slice-aggregate-write-all c = search needs
-
-write-all-requires : tie.Need-write-all-requires
-write-all-requires c κs = search needs
-
-returns : tie.Need-returns
-returns c = search needs
-
-returns-2 : tie.Need-returns-2
-returns-2 c = search needs
-
 pub save-state-spec : {M : Type 1} → statement M
 save-state-spec =
     tie.close
     (tie.spec
-    slice-aggregate-save
-    save-requires
-    is-done-requires
+    (λ c. search needs)
+    (λ c κs. search needs)
+    (λ c κs. search needs)
     array-share-prefix-out
     slice-aggregate-save-bytes
     save-bytes-requires
-    slice-aggregate-write-all
-    write-all-requires
-    returns
-    returns-2)
+    (λ c. search needs)
+    (λ c κs. search needs)
+    (λ c. search needs)
+    (λ c. search needs))
