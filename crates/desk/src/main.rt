@@ -14,13 +14,13 @@ ghost use Rattle.state.specs.View.{view};
 ghost use Rattle.policyform.specs.Promises.{Loads};
 ghost use Rattle.io.specs.Counts.{Counts};
 ghost use Rattle.desk.specs.Desk.{Gives, Next, Prints, Leaves, Refused};
-use streams::Input;
 use libc::STDERR_FILENO;
 use libc::STDIN_FILENO;
 use libc::STDOUT_FILENO;
 use numbers::Answer;
 use program::LONGEST;
 use state::PLACES;
+use streams::Input;
 
 // The longest policy file, in bytes.
 const LONGEST_FILE: usize = 36048;

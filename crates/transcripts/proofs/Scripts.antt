@@ -13,7 +13,7 @@ use Rattle.words.specs.Bytes.{bytes, same}
 use Rattle.words.proofs.Laws.{and-true, same-equal}
 use Rattle.textlines.specs.Parts.{partsOf, joined}
 use Rattle.textlines.proofs.Laws.{cut, kept}
-use Rattle.script.specs.Script.{lineFeed, longestScript, obey, answerText, totalText, doneAfter, othersAfter, runLines, runScript}
+use Rattle.script.specs.Script.{lineFeed, longestScript, obey, answerText, totalText, doneAfter, othersAfter, runLines, runFrom, runScript}
 use Rattle.transcripts.specs.Rows.{Row, _⇒_, lineOf, scriptOf, printedFor, Prints}
 
 -- ---- rows whose lines tell what may be said in another way, quicker to compute
@@ -94,7 +94,7 @@ unfolding rightScript runScript
 prints-said rows total e =
     let p = and-true (leb (length (scriptOf (rowsOf rows))) longestScript) (noFeeds rows && rightLines rows total 0 0 empty) e in
     let q = and-true (noFeeds rows) (rightLines rows total 0 0 empty) (p .1) in
-    rw (le-ltb longestScript (length (scriptOf (rowsOf rows))) (leb-true _ _ (p .0)), runScript, lines-parts rows (q .0)) (right-lines rows total 0 0 empty (q .1))
+    rw (le-ltb longestScript (length (scriptOf (rowsOf rows))) (leb-true _ _ (p .0)), runFrom, lines-parts rows (q .0)) (right-lines rows total 0 0 empty (q .1))
 
 pub prints-rows : (rows : List Row) (total : String) → rightScript (plain rows) total ≡ true → Prints rows total
 prints-rows rows total e = subst (λ (r : List Row). Prints r total) (rows-plain rows) (prints-said (plain rows) total e)
