@@ -31,6 +31,7 @@ static unsigned written;
 
 static void must(int so, const char *what) {
     if (so) return;
+    fflush(stdout);
     fprintf(stderr, "caller: %s\n", what);
     exit(1);
 }
@@ -60,7 +61,7 @@ static void write_assign(unsigned i) {
 
 /* ---- the rounds: each gives a checksum of the answers and results */
 
-static uint64_t mix(uint64_t sum, unsigned answer, unsigned result) { return (sum << 1 | sum >> 63) + answer + result; }
+static uint64_t mix(uint64_t sum, unsigned answer, unsigned result) { return sum * 31 + answer * 2 + result; }
 
 static uint64_t our_checks(uint64_t rounds) {
     uint64_t sum = 1;
@@ -215,13 +216,13 @@ int main(void) {
     marruskil_start(&state);
     must(marruskil_load(&state, file, c_save(engine, file, sizeof file)) == 0, "the policy is not loaded");
     same_files();
-    printf("| %-58s | %8s | %8s | %6s | %s |\n|---|---|---|---|---|\n", "ns for a round", "Rattle", "C", "ratio", "in single rounds");
+    printf("| %-58s | %8s | %8s | %6s | %s |\n|---|---|---|---|---|\n", "ns for a round", "Rattle", "C", "ratio", "least to most");
     room = sizeof out;
     for (size_t k = 0; k < sizeof calls / sizeof *calls; k++) measure(&calls[k]);
     room = SHORT_ROOM;
     measure(&lent_less);
     same_files();
     for (int k = 0; k < TIMES; k++) alone[k] = took(nothings, rounds, &sum) / (double)rounds;
-    printf("\nA round with a call of a function that does nothing takes %.1f ns; that is in every figure.\n", median(alone));
+    printf("\nA round whose call does nothing takes %.1f ns.\n", median(alone));
     return 0;
 }
