@@ -12,6 +12,7 @@ use Rattle.filebytes.proofs.FileForm.{paper-form}
 use Rattle.fileanswers.proofs.Loading.{loading}
 use Rattle.fileanswers.proofs.Saving.{saves}
 use Rattle.filetables.proofs.PolicyBytes.{policy-bytes}
+use Rattle.transcripts.proofs.Desk.{desk}
 use Rattle.transcripts.proofs.LineForm.{line-forms}
 use Rattle.transcripts.proofs.Program.{program, story-holds}
 use Rattle.transcripts.proofs.ScriptLines.{script-lines}
@@ -84,6 +85,7 @@ claims =
       script-lines = script-lines;
       never-short = never-short;
       program = program;
+      desk = desk;
       word-sheet = word-sheet;
       edges = edges;
       full-tables = full-tables;

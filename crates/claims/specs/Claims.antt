@@ -17,6 +17,7 @@ use Rattle.filebytes.specs.FileForm.{FileForm}
 use Rattle.fileanswers.specs.Loading.{Loading}
 use Rattle.fileanswers.specs.Saving.{SavesAsThePaperSays}
 use Rattle.filetables.specs.PolicyBytes.{PolicyBytes}
+use Rattle.transcripts.specs.Desk.{Desk}
 use Rattle.transcripts.specs.LineForm.{LineForms}
 use Rattle.transcripts.specs.Program.{Program}
 use Rattle.transcripts.specs.ScriptLines.{ScriptLines}
@@ -95,6 +96,7 @@ pub record Claims : Type 0 where
   pub script-lines : ScriptLines
   pub never-short : NeverShort
   pub program : Program
+  pub desk : Desk
   pub word-sheet : WordSheet
   pub edges : Edges
   pub full-tables : FullTables
