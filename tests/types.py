@@ -18,7 +18,7 @@ KINDS = ["User", "Role", "Session", "SetName"]
 MOST = 20
 
 # The crates of the engine that speak of these numbers; each has slips to try.
-ENGINE = "numbers hierarchy model state sweeps users assigning inheriting sets sessions reviews".split()
+ENGINE = "numbers hierarchy model state sweeps users roles assigning granting inheriting sets sessions checking reviews".split()
 
 # What a bare number may be: an operation, an object, a permission, a cardinality, a place in the state, the number of an answer.
 BARE = {"op", "obj", "p", "card"}

@@ -29,7 +29,7 @@ LAW_OF = {
     "sweeps.AsksStatic": "asks-one",
     "sweeps.AsksSet": "asks-one",
     "reviews.Asked": "reviewed-one",
-    "reviews.AskedAny": "reviewed-one",
+    "engine.AskedAny": "reviewed-one",
     "script.Answers": "answered-one",
     "clibrary.Loads": "loaded-one",
 }
@@ -343,6 +343,10 @@ OUTSIDE = {
 START = "state.stores.start"
 
 
+# Any question through one function.
+ASK = "engine.ask"
+
+
 def call_of(f):
     return f"(c : Call {f}.Kinds.ps {f}.Kinds.r {f}.Reads.Post)"
 
@@ -369,38 +373,38 @@ def own_calls(every, arms):
         shows.append(f"      {f.field()} = λ c h. does h {command} {named} (c {met_by});")
     if len(says) != len(arms) or len(arms) != bare(ROOT / "crates/engine/src/lib.rt").count("Command::"):
         stop("an arm of `engine::step` does not call a public function of its own, as tests/unique.py expects")
-    crates = dict.fromkeys(f.crate for f in every if f.place in arms or f.crate in ("engine", "reviews", "policyfile", "script", "program", "clibrary"))
+    crates = dict.fromkeys(f.crate for f in every if f.place in arms or f.crate in ("checking", "engine", "reviews", "policyfile", "script", "program", "clibrary"))
     yield "specs/OwnCalls.antt", "the crates", [f"use Rattle.{c}.proofs as {c}" for c in crates] + [""]
     yield "specs/OwnCalls.antt", "the commands", says
     yield "proofs/OwnCalls.antt", "the commands", shows
 
 
 def questions_of(path):
-    """Which question of the model each review is: the arms of `reviews::ask`, as (variant, its numbers, what the function is given)."""
+    """Which question of the model each review is: the arms of `engine::ask`, as (variant, its numbers, what the function is given)."""
     arms = {}
-    for m in re.finditer(r"Question::(\w+)(?:\(([^)]*)\))?\s*=>\s*(\w+)\(\s*(state\b[^)]*)\)", bare(path)):
+    for m in re.finditer(r"Question::(\w+)(?:\(([^)]*)\))?\s*=>\s*(?:reviews::)?(\w+)\(\s*(state\b[^)]*)\)", bare(path)):
         arms["reviews." + m[3]] = (m[1], split(m[2] or ""), split(m[4]))
     if len(arms) != bare(path).count("Question::"):
-        stop("an arm of `reviews::ask` does not call a function of its own, as tests/unique.py expects")
+        stop("an arm of `engine::ask` does not call a function of its own, as tests/unique.py expects")
     return arms
 
 
 def reviews_of(every):
     """The reviews: the functions that are lent a buffer for their results."""
-    arms = questions_of(ROOT / "crates/reviews/src/lib.rt")
+    arms = questions_of(ROOT / "crates/engine/src/lib.rt")
     says, shows, tell, told = [], [], [], []
-    for f in [f for f in every if f.crate == "reviews"]:
+    for f in [f for f in every if f.crate == "reviews" or f.place == ASK]:
         buffers = [i for i, t in enumerate(f.types) if t == "&mut [u16]"]
         if len(buffers) != 1 or f.types[0] != "&" + STATE or f.result != "Review":
             f.bad("is not given a state and lent one buffer for its results")
         out = place(buffers[0])
         lent = f"(c .given {out} .now) (c .exits {out} .now)"
         says.append(f"  pub {f.field()} : {call_of(f.place)} → Lent (numberOf (c .result .answer)) (c .result .count) {lent}")
-        if f.name == "ask":
+        if f.place == ASK:
             shows.append("      ask = λ c. asked-any (view (c .given .0 .now)) (c .given .1 .0) (c .met);")
             continue
         if f.place not in arms:
-            f.bad("is a review that `reviews::ask` does not call")
+            f.bad("is a review that `engine::ask` does not call")
         question = applied("questions", *arms[f.place])
         shows.append(f"      {f.field()} = λ c. reviewed (view (c .given .0 .now)) {question} refl (c .met);")
         tell.append(f"  pub {f.field()} : {call_of(f.place)} → Tells (c .given .0 .now) {question} {lent} (c .result)")
@@ -419,7 +423,7 @@ def putters_of(every):
     """The functions that put a text or a file into a buffer of bytes: from which place on, and the place past it is their result."""
     says, shows = [], []
     lent = [f for f in every if any(re.fullmatch(r"&mut \[u(8|16|32)(; \w+)?\]", t) for t in f.types)]
-    for f in [f for f in lent if f.crate != "reviews" and f.place not in BUFFER_BY_HAND]:
+    for f in [f for f in lent if f.crate != "reviews" and f.place != ASK and f.place not in BUFFER_BY_HAND]:
         form = re.match(r"(Put) \(now \(\w+ \.entry\)\) (\w+) |(Wrote) \(now \(\w+ \.entry\)\) \(now \(\w+ \.exit\)\) (\w+) ", f.promise)
         if not form or "&mut [u8]" not in f.types or f.result != "usize" or f.types.count("usize") != ((form[2] or form[4]) != "0"):
             stop(f"{f.place} is lent a buffer, and its promise is of a new form: write its line in crates/unique/specs/Buffers.antt, and its name in BUFFER_BY_HAND of tests/unique.py")
@@ -435,7 +439,7 @@ def putters_of(every):
 
 def written_by_hand(every, arms):
     """What is no command and changes the state and answers, is asked or saves has a line of OwnCalls; what is lent a buffer has one of Buffers."""
-    asked = {"sessions.check", "reviews.ask", "policyfile.save", "clibrary.marruskil_check", "clibrary.marruskil_save"}
+    asked = {"checking.check", ASK, "policyfile.save", "clibrary.marruskil_check", "clibrary.marruskil_save"}
     for file, places in (("OwnCalls", asked | {f.place for f in every if f.hands_back() and f.place not in arms}), ("Buffers", BUFFER_BY_HAND)):
         text = (HOME / f"specs/{file}.antt").read_text(encoding="utf-8")
         for f in sorted(places):

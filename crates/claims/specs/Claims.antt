@@ -47,12 +47,15 @@ pub record OneOutcome : Type 0 where
   pub sweeps : promises.Sweeps
   pub lists : promises.Lists
   pub users : promises.Users
+  pub roles : promises.Roles
   pub assigning : promises.Assigning
+  pub granting : promises.Granting
   pub inheriting : promises.Inheriting
   pub sets : promises.Sets
   pub sessions : promises.Sessions
-  pub engine : promises.Engine
+  pub checking : promises.Checking
   pub reviews : promises.Reviews
+  pub engine : promises.Engine
   pub text : promises.Text
   pub policywrite : promises.Policywrite
   pub policyread : promises.Policyread

@@ -20,8 +20,9 @@ use Rattle.model.proofs.Asking.{asked-same}
 use Rattle.model.proofs.Results.{few-results}
 use Rattle.model.specs.commands.Naming.{sessionBeyond, permissionBeyond}
 use Rattle.model.specs.commands.Sessions.{check}
-use Rattle.sessions.specs.Answering.{Checks, toldChecked, isDone}
-use Rattle.sessions.specs.declared.Checked.{Checked}
+use Rattle.state.specs.Results.{isDone}
+use Rattle.checking.specs.Answering.{Checks, toldChecked}
+use Rattle.checking.specs.declared.Checked.{Checked}
 use Rattle.policyform.specs.Promises.{Saves}
 use Rattle.text.specs.Putting.{Put}
 use Rattle.decimal.specs.Decimal.{decimal, numbered}

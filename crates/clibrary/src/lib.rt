@@ -94,7 +94,7 @@ pub extern "C" fn marruskil_check(
     let x = Session {
         number: sixteen(session),
     };
-    let c = sessions::check(state, x, sixteen(operation), sixteen(object));
+    let c = checking::check(state, x, sixteen(operation), sixteen(object));
     let answer = c.answer;
     if numbers::is_done(answer) {
         *result = c.yes as u8;

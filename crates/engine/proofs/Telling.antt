@@ -6,7 +6,8 @@ use Prim.Native.Nat.{ℕ}
 use Rattle.numbers.specs.declared.Answer.{Answer}
 use Rattle.model.specs.Sheet.{Told}
 use Rattle.state.specs.View.{told}
-use Rattle.sessions.specs.Answering.{Opens, toldOpened, isDone}
+use Rattle.sessions.specs.Answering.{Opens, toldOpened}
+use Rattle.state.specs.Results.{isDone}
 use Rattle.sessions.specs.declared.Opened.{Opened}
 use Rattle.engine.specs.Stepping.{Steps}
 

@@ -6,7 +6,7 @@ use Prim.Native.Nat.{ℕ}
 use Rattle.numbers.specs.Answers.{numberOf}
 use Rattle.model.specs.Sheet.{Told}
 use Rattle.state.specs.View.{view}
-use Rattle.sessions.specs.Answering.{given}
+use Rattle.state.specs.Results.{given}
 use Rattle.engine.specs.declared.Stepped.{Stepped}
 
 -- the answer, whether there is a result, the number of the session that was opened (the only result of a command; 0 where there is none), and

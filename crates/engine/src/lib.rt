@@ -1,13 +1,17 @@
-// Every command through one function.
+// Every command through one function, and every question through another.
 ghost use mathlib.Core.Bool.{false};
 ghost use mathlib.Core.Path.{_≡_};
 ghost use Rattle.model.specs.Step.{step};
+ghost use Rattle.model.specs.declared.Question.the-variants.{Check};
 ghost use Rattle.state.specs.View.{view};
-ghost use Rattle.sessions.specs.Answering.{isDone};
+ghost use Rattle.state.specs.Results.{isDone};
+ghost use Rattle.reviews.specs.Reviewing.{AskedAny};
 ghost use Rattle.engine.specs.Stepping.{Steps};
 use model::Command;
+use model::Question;
 use numbers::Answer;
 use numbers::Session;
+use reviews::Review;
 use sessions::Opened;
 use state::PLACES;
 
@@ -49,13 +53,13 @@ pub fn step(state: &mut [u64; PLACES], c: Command, list: &[u16]) -> Stepped
 {
     match c {
         Command::AddUser(u) => plain(users::user(state, u)),
-        Command::AddRole(r) => plain(users::role(state, r)),
+        Command::AddRole(r) => plain(roles::role(state, r)),
         Command::NoUser(u) => plain(users::nouser(state, u)),
-        Command::NoRole(r) => plain(users::norole(state, r)),
+        Command::NoRole(r) => plain(roles::norole(state, r)),
         Command::Assign(u, r) => plain(assigning::assign(state, u, r)),
         Command::Deassign(u, r) => plain(assigning::deassign(state, u, r)),
-        Command::Grant(op, obj, r) => plain(assigning::grant(state, op, obj, r)),
-        Command::Revoke(op, obj, r) => plain(assigning::revoke(state, op, obj, r)),
+        Command::Grant(op, obj, r) => plain(granting::grant(state, op, obj, r)),
+        Command::Revoke(op, obj, r) => plain(granting::revoke(state, op, obj, r)),
         Command::Inherit(senior, junior) => plain(inheriting::inherit(state, senior, junior)),
         Command::Disinherit(senior, junior) => plain(inheriting::disinherit(state, senior, junior)),
         Command::MakeSet(kind, name, n) => plain(sets::make_set(state, kind, name, n, list)),
@@ -72,5 +76,46 @@ pub fn step(state: &mut [u64; PLACES], c: Command, list: &[u16]) -> Stepped
         Command::Activate(u, x, r) => plain(sessions::activate(state, u, x, r)),
         Command::DropActive(u, x, r) => plain(sessions::drop(state, u, x, r)),
         Command::EndSession(u, x) => plain(sessions::end(state, u, x)),
+    }
+}
+
+// `check` with its one result in the buffer: 1 for yes or 0 for no; 15 too, where the buffer has no place.
+fn check(state: &[u64; PLACES], x: Session, op: u16, obj: u16, out: &mut [u16]) -> Review
+    ensures { λ r. ⌜ AskedAny (view (now (state .entry))) (Check x op obj) (now (out .entry)) (now (out .exit)) r ⌝ }
+{
+    let c = checking::check(state, x, op, obj);
+    let answer = c.answer;
+    if !numbers::is_done(answer) {
+        return Review { answer, count: 0 };
+    }
+    if out.len() < 1 {
+        return Review {
+            answer: Answer::BufferShort,
+            count: 0,
+        };
+    }
+    out[0] = c.yes as u16;
+    Review { answer, count: 1 }
+}
+
+// Any question, with its results in the buffer. The answer of `check` is 15 too where the buffer has no place.
+pub fn ask(state: &[u64; PLACES], q: Question, out: &mut [u16]) -> Review
+    ensures { λ x. ⌜ AskedAny (view (now (state .entry))) q (now (out .entry)) (now (out .exit)) x ⌝ }
+{
+    match q {
+        Question::Check(x, op, obj) => check(state, x, op, obj, out),
+        Question::AssignedUsers(r) => reviews::assigned_users(state, r, out),
+        Question::AssignedRoles(u) => reviews::assigned_roles(state, u, out),
+        Question::AuthUsers(r) => reviews::auth_users(state, r, out),
+        Question::AuthRoles(u) => reviews::auth_roles(state, u, out),
+        Question::RolePerms(r) => reviews::role_perms(state, r, out),
+        Question::UserPerms(u) => reviews::user_perms(state, u, out),
+        Question::SessionRoles(x) => reviews::session_roles(state, x, out),
+        Question::SessionPerms(x) => reviews::session_perms(state, x, out),
+        Question::RoleOps(r, obj) => reviews::role_ops(state, r, obj, out),
+        Question::UserOps(u, obj) => reviews::user_ops(state, u, obj, out),
+        Question::Sets(kind) => reviews::set_names(state, kind, out),
+        Question::SetRoles(kind, name) => reviews::set_roles(state, kind, name, out),
+        Question::SetCount(kind, name) => reviews::set_count(state, kind, name, out),
     }
 }

@@ -6,4 +6,3 @@ mod Writing
 mod Settling
 mod Filling
 mod Walking
-mod Fitting

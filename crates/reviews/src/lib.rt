@@ -1,10 +1,9 @@
 // The reviews: the questions whose answer is a list. Each finds the set of roles that it is about, by one walk at most, and lists by one shared pass.
 // The results stand at the front of the lent buffer. Its places past them are untouched, and so is all of it on a refusal; 1, 2, 13, 15.
-ghost use Rattle.model.specs.declared.Question.the-variants.{Check, AssignedUsers, AssignedRoles, AuthUsers, AuthRoles, RolePerms, UserPerms, SessionRoles, SessionPerms, RoleOps, UserOps, Sets, SetRoles, SetCount};
+ghost use Rattle.model.specs.declared.Question.the-variants.{AssignedUsers, AssignedRoles, AuthUsers, AuthRoles, RolePerms, UserPerms, SessionRoles, SessionPerms, RoleOps, UserOps, Sets, SetRoles, SetCount};
 ghost use Rattle.state.specs.View.{view};
-ghost use Rattle.reviews.specs.Reviewing.{Asked, AskedAny};
+ghost use Rattle.reviews.specs.Reviewing.{Asked};
 use model::Kind;
-use model::Question;
 use numbers::Answer;
 use numbers::Role;
 use numbers::Session;
@@ -12,14 +11,12 @@ use numbers::SetName;
 use numbers::User;
 use state::PLACES;
 use state::naming::either;
-use state::naming::permission_beyond;
 use state::parts::assigned;
 use state::parts::holders;
 use state::parts::juniors_table;
 use state::reads::assigned_to;
 use state::reads::has_role;
 use state::reads::has_user;
-use state::reads::holders_of;
 use state::reads::session_at;
 use state::reads::set_named;
 use walking::reach;
@@ -215,42 +212,4 @@ pub fn set_count(state: &[u64; PLACES], kind: Kind, name: SetName, out: &mut [u1
         (set.card % 65536) as u16,
         out,
     )
-}
-
-// May the session do the operation on the object? The one result is 1 for yes or 0 for no.
-fn check(state: &[u64; PLACES], x: Session, op: u16, obj: u16, out: &mut [u16]) -> Review
-    ensures { λ a. ⌜ AskedAny (view (now (state .entry))) (Check x op obj) (now (out .entry)) (now (out .exit)) a ⌝ }
-{
-    let session = session_at(state, x);
-    let walk = reach(state, session.active);
-    let held = holders_of(state, op as usize * 256 + obj as usize);
-    listing::review_one(
-        either(numbers::session_beyond(x), permission_beyond(op, obj)),
-        !session.live,
-        walk.cut,
-        listing::meet(walk.roles, held) as u16,
-        out,
-    )
-}
-
-// Any question, with its results in the buffer. The answer of `check` is 15 too where the buffer has no place.
-pub fn ask(state: &[u64; PLACES], q: Question, out: &mut [u16]) -> Review
-    ensures { λ x. ⌜ AskedAny (view (now (state .entry))) q (now (out .entry)) (now (out .exit)) x ⌝ }
-{
-    match q {
-        Question::Check(x, op, obj) => check(state, x, op, obj, out),
-        Question::AssignedUsers(r) => assigned_users(state, r, out),
-        Question::AssignedRoles(u) => assigned_roles(state, u, out),
-        Question::AuthUsers(r) => auth_users(state, r, out),
-        Question::AuthRoles(u) => auth_roles(state, u, out),
-        Question::RolePerms(r) => role_perms(state, r, out),
-        Question::UserPerms(u) => user_perms(state, u, out),
-        Question::SessionRoles(x) => session_roles(state, x, out),
-        Question::SessionPerms(x) => session_perms(state, x, out),
-        Question::RoleOps(r, obj) => role_ops(state, r, obj, out),
-        Question::UserOps(u, obj) => user_ops(state, u, obj, out),
-        Question::Sets(kind) => set_names(state, kind, out),
-        Question::SetRoles(kind, name) => set_roles(state, kind, name, out),
-        Question::SetCount(kind, name) => set_count(state, kind, name, out),
-    }
 }

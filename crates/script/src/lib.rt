@@ -61,7 +61,7 @@ fn ask_question(state: &[u64; PLACES], q: Question, buf: &mut [u8]) -> Answered
     ensures { λ x. ⌜ Puts (ask (view (now (state .entry))) 4096 q) (now (buf .entry)) (now (buf .exit)) x ⌝ }
 {
     let mut results = [0u16; 4096];
-    let r = reviews::ask(state, q, &mut results);
+    let r = engine::ask(state, q, &mut results);
     let answer = r.answer;
     let count = r.count;
     let number = numbers::number_of(answer);

@@ -32,7 +32,7 @@ pub(crate) fn check(state: &[u64; PLACES], rounds: u64) -> u64 {
         let x = Session {
             number: (i % 8 * 2) as u16,
         };
-        let a = sessions::check(state, x, operation_of(i), object_of(i));
+        let a = checking::check(state, x, operation_of(i), object_of(i));
         let answer = a.answer;
         sum = mix(sum, answer, told(a.yes));
         i += 1;

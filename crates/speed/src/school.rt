@@ -67,7 +67,7 @@ fn add_grant(state: &mut [u64; PLACES], n: u16) {
     let b = n / 48 % 16;
     let kind = n / 16 % 3;
     let obj = b * 16 + n % 16;
-    assigning::grant(
+    granting::grant(
         state,
         kind,
         obj,
@@ -111,7 +111,7 @@ fn add(state: &mut [u64; PLACES], depth: u16, users: u16, step: u16, n: u16) {
             }
         }
         1 => {
-            users::role(state, Role { number: n });
+            roles::role(state, Role { number: n });
         }
         2 => add_lines(state, depth, n),
         3 => add_grant(state, n),

@@ -39,6 +39,10 @@ within n k rest h = leb-false n k (or-clear (leb n k) rest h .0)
 pub placed : (n k : ℕ) (before x after : Model) → k < n → after ≡ inRange n k before x → after ≡ x
 placed n k before x after h e = e ∙ in-range n k before x h
 
+-- roles at a place of a table, and the count that goes with them
+pub placed-as : (n k : ℕ) (before after : Model) (stored : ℕ → ℕ → Model) (roles new standing count : ℕ) → roles ≡ new → standing ≡ count → k < n → after ≡ inRange n k before (stored roles standing) → after ≡ stored new count
+placed-as n k before after stored roles new standing count is counted h e = placed n k before (stored roles standing) after h e ∙ ap₂ stored is counted
+
 -- ---- the view of a state that differs within one part
 
 module _ (l after : List ℕ) where

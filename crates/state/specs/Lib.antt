@@ -2,3 +2,4 @@
 pub mod Places
 pub mod View
 pub mod Stores
+pub mod Results

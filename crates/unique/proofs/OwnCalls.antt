@@ -23,8 +23,9 @@ use Rattle.model.specs.declared.Command.the-variants as commands
 use Rattle.model.specs.declared.Question.{Question}
 use Rattle.model.specs.declared.Question.the-variants as questions
 use Rattle.state.specs.View.{view, told}
-use Rattle.sessions.specs.Answering.{isDone, given, toldChecked}
-use Rattle.sessions.specs.declared.Checked as code
+use Rattle.state.specs.Results.{isDone, given}
+use Rattle.checking.specs.Answering.{toldChecked}
+use Rattle.checking.specs.declared.Checked as code
 use Rattle.engine.specs.Stepping.{Steps}
 use Rattle.engine.specs.declared.Stepped.{Stepped}
 use Rattle.reviews.specs.Reviewing.{Reviewed, fitted}
@@ -77,8 +78,8 @@ of-commands =
     record {
       -- ---- written by tests/unique.py: the commands
       user = λ c h. does h (commands.AddUser (c .given .1 .0)) [] (c .met);
-      role = λ c h. does h (commands.AddRole (c .given .1 .0)) [] (c .met);
       nouser = λ c h. does h (commands.NoUser (c .given .1 .0)) [] (c .met);
+      role = λ c h. does h (commands.AddRole (c .given .1 .0)) [] (c .met);
       norole = λ c h. does h (commands.NoRole (c .given .1 .0)) [] (c .met);
       assign = λ c h. does h (commands.Assign (c .given .1 .0) (c .given .1 .1 .0)) [] (c .met);
       deassign = λ c h. does h (commands.Deassign (c .given .1 .0) (c .given .1 .1 .0)) [] (c .met);

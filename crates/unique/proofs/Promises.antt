@@ -117,8 +117,13 @@ pub users : promises.Users
 users =
     record {
       user = λ κs a x y e f sx sy p q. laws.outcomes sx sy p q;
-      role = λ κs a x y e f sx sy p q. laws.outcomes sx sy p q;
       nouser = λ κs a x y e f sx sy p q. laws.outcomes sx sy p q;
+    }
+
+pub roles : promises.Roles
+roles =
+    record {
+      role = λ κs a x y e f sx sy p q. laws.outcomes sx sy p q;
       norole = λ κs a x y e f sx sy p q. laws.outcomes sx sy p q;
     }
 
@@ -127,6 +132,11 @@ assigning =
     record {
       assign = λ κs a x y e f sx sy p q. laws.outcomes sx sy p q;
       deassign = λ κs a x y e f sx sy p q. laws.outcomes sx sy p q;
+    }
+
+pub granting : promises.Granting
+granting =
+    record {
       grant = λ κs a x y e f sx sy p q. laws.outcomes sx sy p q;
       revoke = λ κs a x y e f sx sy p q. laws.outcomes sx sy p q;
     }
@@ -155,14 +165,13 @@ sessions =
       activate = λ κs a x y e f sx sy p q. laws.outcomes sx sy p q;
       drop = λ κs a x y e f sx sy p q. laws.outcomes sx sy p q;
       end = λ κs a x y e f sx sy p q. laws.outcomes sx sy p q;
-      owner = λ κs a x y e f vx vy p q. laws.owns-one p q;
-      check = λ κs a x y e f vx vy p q. laws.checks-one p q;
     }
 
-pub engine : promises.Engine
-engine =
+pub checking : promises.Checking
+checking =
     record {
-      step = λ κs a x y e f sx sy p q. laws.steps-one sx sy p q;
+      owner = λ κs a x y e f vx vy p q. laws.owns-one p q;
+      check = λ κs a x y e f vx vy p q. laws.checks-one p q;
     }
 
 pub reviews : promises.Reviews
@@ -181,6 +190,12 @@ reviews =
       set-names = λ κs a x y e f vx vy p q. laws.reviewed-one p q;
       set-roles = λ κs a x y e f vx vy p q. laws.reviewed-one p q;
       set-count = λ κs a x y e f vx vy p q. laws.reviewed-one p q;
+    }
+
+pub engine : promises.Engine
+engine =
+    record {
+      step = λ κs a x y e f sx sy p q. laws.steps-one sx sy p q;
       ask = λ κs a x y e f vx vy p q. laws.reviewed-one p q;
     }
 

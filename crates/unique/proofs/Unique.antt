@@ -32,10 +32,12 @@ use Rattle.state.proofs.Tables as tables
 use Rattle.sweeps.specs.Sweeps.{Asks, ShedsAll, Strips}
 use Rattle.sweeps.specs.declared.Asked.{Asked}
 use Rattle.sweeps.specs.declared.Kept.{Kept}
-use Rattle.sessions.specs.Answering.{Opens, Checks, Owns, isDone, given, toldOpened, toldChecked, toldOwned}
+use Rattle.state.specs.Results.{isDone, given}
+use Rattle.sessions.specs.Answering.{Opens, toldOpened}
+use Rattle.checking.specs.Answering.{Checks, Owns, toldChecked, toldOwned}
 use Rattle.sessions.specs.declared.Opened.{Opened}
-use Rattle.sessions.specs.declared.Checked.{Checked}
-use Rattle.sessions.specs.declared.Owned.{Owned}
+use Rattle.checking.specs.declared.Checked.{Checked}
+use Rattle.checking.specs.declared.Owned.{Owned}
 use Rattle.engine.specs.Stepping.{Steps}
 use Rattle.engine.specs.declared.Stepped.{Stepped}
 use Rattle.reviews.specs.Reviewing.{Reviewed}

@@ -13,6 +13,7 @@ use Rattle.program.specs.Printing.{stageOf, piece}
 use Rattle.unique.specs.Handed.{Call}
 -- ---- written by tests/unique.py: the crates
 use Rattle.reviews.proofs as reviews
+use Rattle.engine.proofs as engine
 use Rattle.text.proofs as text
 use Rattle.policywrite.proofs as policywrite
 use Rattle.policyfile.proofs as policyfile
@@ -66,7 +67,7 @@ pub record Buffers : Type 0 where
   pub set-names : (c : Call reviews.set_names.Kinds.ps reviews.set_names.Kinds.r reviews.set_names.Reads.Post) → Lent (numberOf (c .result .answer)) (c .result .count) (c .given .1 .1 .0 .now) (c .exits .1 .1 .0 .now)
   pub set-roles : (c : Call reviews.set_roles.Kinds.ps reviews.set_roles.Kinds.r reviews.set_roles.Reads.Post) → Lent (numberOf (c .result .answer)) (c .result .count) (c .given .1 .1 .1 .0 .now) (c .exits .1 .1 .1 .0 .now)
   pub set-count : (c : Call reviews.set_count.Kinds.ps reviews.set_count.Kinds.r reviews.set_count.Reads.Post) → Lent (numberOf (c .result .answer)) (c .result .count) (c .given .1 .1 .1 .0 .now) (c .exits .1 .1 .1 .0 .now)
-  pub ask : (c : Call reviews.ask.Kinds.ps reviews.ask.Kinds.r reviews.ask.Reads.Post) → Lent (numberOf (c .result .answer)) (c .result .count) (c .given .1 .1 .0 .now) (c .exits .1 .1 .0 .now)
+  pub ask : (c : Call engine.ask.Kinds.ps engine.ask.Kinds.r engine.ask.Reads.Post) → Lent (numberOf (c .result .answer)) (c .result .count) (c .given .1 .1 .0 .now) (c .exits .1 .1 .0 .now)
   -- ---- end of what tests/unique.py writes
   -- "Saving answers 15 or 0 with the length".
   pub save : (c : Call policyfile.save.Kinds.ps policyfile.save.Kinds.r policyfile.save.Reads.Post) → Lent (numberOf (c .result .answer)) (c .result .length) (c .given .1 .0 .now) (c .exits .1 .0 .now)

@@ -23,7 +23,9 @@ use Rattle.demands.specs.Reachable.{Reachable}
 use Rattle.state.proofs as state
 -- ---- written by tests/unique.py: the crates
 use Rattle.users.proofs as users
+use Rattle.roles.proofs as roles
 use Rattle.assigning.proofs as assigning
+use Rattle.granting.proofs as granting
 use Rattle.inheriting.proofs as inheriting
 use Rattle.sets.proofs as sets
 use Rattle.sessions.proofs as sessions
@@ -49,13 +51,13 @@ pub data Handed : List ℕ → Type 0 where
   empty : (c : Call state.stores.start.Kinds.ps state.stores.start.Kinds.r state.stores.start.Reads.Post) → Handed (c .exits .0 .now)
   -- ---- written by tests/unique.py: the functions that change the state and answer
   user : (c : Call users.user.Kinds.ps users.user.Kinds.r users.user.Reads.Post) → Handed (c .given .0 .now) → Handed (c .exits .0 .now)
-  role : (c : Call users.role.Kinds.ps users.role.Kinds.r users.role.Reads.Post) → Handed (c .given .0 .now) → Handed (c .exits .0 .now)
   nouser : (c : Call users.nouser.Kinds.ps users.nouser.Kinds.r users.nouser.Reads.Post) → Handed (c .given .0 .now) → Handed (c .exits .0 .now)
-  norole : (c : Call users.norole.Kinds.ps users.norole.Kinds.r users.norole.Reads.Post) → Handed (c .given .0 .now) → Handed (c .exits .0 .now)
+  role : (c : Call roles.role.Kinds.ps roles.role.Kinds.r roles.role.Reads.Post) → Handed (c .given .0 .now) → Handed (c .exits .0 .now)
+  norole : (c : Call roles.norole.Kinds.ps roles.norole.Kinds.r roles.norole.Reads.Post) → Handed (c .given .0 .now) → Handed (c .exits .0 .now)
   assign : (c : Call assigning.assign.Kinds.ps assigning.assign.Kinds.r assigning.assign.Reads.Post) → Handed (c .given .0 .now) → Handed (c .exits .0 .now)
   deassign : (c : Call assigning.deassign.Kinds.ps assigning.deassign.Kinds.r assigning.deassign.Reads.Post) → Handed (c .given .0 .now) → Handed (c .exits .0 .now)
-  grant : (c : Call assigning.grant.Kinds.ps assigning.grant.Kinds.r assigning.grant.Reads.Post) → Handed (c .given .0 .now) → Handed (c .exits .0 .now)
-  revoke : (c : Call assigning.revoke.Kinds.ps assigning.revoke.Kinds.r assigning.revoke.Reads.Post) → Handed (c .given .0 .now) → Handed (c .exits .0 .now)
+  grant : (c : Call granting.grant.Kinds.ps granting.grant.Kinds.r granting.grant.Reads.Post) → Handed (c .given .0 .now) → Handed (c .exits .0 .now)
+  revoke : (c : Call granting.revoke.Kinds.ps granting.revoke.Kinds.r granting.revoke.Reads.Post) → Handed (c .given .0 .now) → Handed (c .exits .0 .now)
   inherit : (c : Call inheriting.inherit.Kinds.ps inheriting.inherit.Kinds.r inheriting.inherit.Reads.Post) → Handed (c .given .0 .now) → Handed (c .exits .0 .now)
   disinherit : (c : Call inheriting.disinherit.Kinds.ps inheriting.disinherit.Kinds.r inheriting.disinherit.Reads.Post) → Handed (c .given .0 .now) → Handed (c .exits .0 .now)
   make-set : (c : Call sets.make_set.Kinds.ps sets.make_set.Kinds.r sets.make_set.Reads.Post) → Handed (c .given .0 .now) → Handed (c .exits .0 .now)

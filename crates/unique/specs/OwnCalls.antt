@@ -21,7 +21,9 @@ use Rattle.model.specs.declared.Command.the-variants as commands
 use Rattle.model.specs.declared.Question.{Question}
 use Rattle.model.specs.declared.Question.the-variants as questions
 use Rattle.state.specs.View.{view, told}
-use Rattle.sessions.specs.Answering.{given, toldOpened, toldChecked}
+use Rattle.state.specs.Results.{given}
+use Rattle.sessions.specs.Answering.{toldOpened}
+use Rattle.checking.specs.Answering.{toldChecked}
 use Rattle.engine.specs.declared.Stepped.{Stepped}
 use Rattle.reviews.specs.Reviewing.{fitted}
 use Rattle.reviews.specs.declared.Review.{Review}
@@ -43,12 +45,15 @@ use Rattle.unique.specs.Handed.{Call, Handed}
 use Rattle.unique.specs.Unique.{State}
 -- ---- written by tests/unique.py: the crates
 use Rattle.users.proofs as users
+use Rattle.roles.proofs as roles
 use Rattle.assigning.proofs as assigning
+use Rattle.granting.proofs as granting
 use Rattle.inheriting.proofs as inheriting
 use Rattle.sets.proofs as sets
 use Rattle.sessions.proofs as sessions
-use Rattle.engine.proofs as engine
+use Rattle.checking.proofs as checking
 use Rattle.reviews.proofs as reviews
+use Rattle.engine.proofs as engine
 use Rattle.policyfile.proofs as policyfile
 use Rattle.script.proofs as script
 use Rattle.program.proofs as program
@@ -75,13 +80,13 @@ toldStepped x l = record { answer = numberOf (x .answer); results = given (x .re
 pub record Commands : Type 0 where
   -- ---- written by tests/unique.py: the commands
   pub user : (c : Call users.user.Kinds.ps users.user.Kinds.r users.user.Reads.Post) → Obeyed (c .given .0 .now) (commands.AddUser (c .given .1 .0)) [] (told (c .result) (c .exits .0 .now))
-  pub role : (c : Call users.role.Kinds.ps users.role.Kinds.r users.role.Reads.Post) → Obeyed (c .given .0 .now) (commands.AddRole (c .given .1 .0)) [] (told (c .result) (c .exits .0 .now))
   pub nouser : (c : Call users.nouser.Kinds.ps users.nouser.Kinds.r users.nouser.Reads.Post) → Obeyed (c .given .0 .now) (commands.NoUser (c .given .1 .0)) [] (told (c .result) (c .exits .0 .now))
-  pub norole : (c : Call users.norole.Kinds.ps users.norole.Kinds.r users.norole.Reads.Post) → Obeyed (c .given .0 .now) (commands.NoRole (c .given .1 .0)) [] (told (c .result) (c .exits .0 .now))
+  pub role : (c : Call roles.role.Kinds.ps roles.role.Kinds.r roles.role.Reads.Post) → Obeyed (c .given .0 .now) (commands.AddRole (c .given .1 .0)) [] (told (c .result) (c .exits .0 .now))
+  pub norole : (c : Call roles.norole.Kinds.ps roles.norole.Kinds.r roles.norole.Reads.Post) → Obeyed (c .given .0 .now) (commands.NoRole (c .given .1 .0)) [] (told (c .result) (c .exits .0 .now))
   pub assign : (c : Call assigning.assign.Kinds.ps assigning.assign.Kinds.r assigning.assign.Reads.Post) → Obeyed (c .given .0 .now) (commands.Assign (c .given .1 .0) (c .given .1 .1 .0)) [] (told (c .result) (c .exits .0 .now))
   pub deassign : (c : Call assigning.deassign.Kinds.ps assigning.deassign.Kinds.r assigning.deassign.Reads.Post) → Obeyed (c .given .0 .now) (commands.Deassign (c .given .1 .0) (c .given .1 .1 .0)) [] (told (c .result) (c .exits .0 .now))
-  pub grant : (c : Call assigning.grant.Kinds.ps assigning.grant.Kinds.r assigning.grant.Reads.Post) → Obeyed (c .given .0 .now) (commands.Grant (c .given .1 .0) (c .given .1 .1 .0) (c .given .1 .1 .1 .0)) [] (told (c .result) (c .exits .0 .now))
-  pub revoke : (c : Call assigning.revoke.Kinds.ps assigning.revoke.Kinds.r assigning.revoke.Reads.Post) → Obeyed (c .given .0 .now) (commands.Revoke (c .given .1 .0) (c .given .1 .1 .0) (c .given .1 .1 .1 .0)) [] (told (c .result) (c .exits .0 .now))
+  pub grant : (c : Call granting.grant.Kinds.ps granting.grant.Kinds.r granting.grant.Reads.Post) → Obeyed (c .given .0 .now) (commands.Grant (c .given .1 .0) (c .given .1 .1 .0) (c .given .1 .1 .1 .0)) [] (told (c .result) (c .exits .0 .now))
+  pub revoke : (c : Call granting.revoke.Kinds.ps granting.revoke.Kinds.r granting.revoke.Reads.Post) → Obeyed (c .given .0 .now) (commands.Revoke (c .given .1 .0) (c .given .1 .1 .0) (c .given .1 .1 .1 .0)) [] (told (c .result) (c .exits .0 .now))
   pub inherit : (c : Call inheriting.inherit.Kinds.ps inheriting.inherit.Kinds.r inheriting.inherit.Reads.Post) → Obeyed (c .given .0 .now) (commands.Inherit (c .given .1 .0) (c .given .1 .1 .0)) [] (told (c .result) (c .exits .0 .now))
   pub disinherit : (c : Call inheriting.disinherit.Kinds.ps inheriting.disinherit.Kinds.r inheriting.disinherit.Reads.Post) → Obeyed (c .given .0 .now) (commands.Disinherit (c .given .1 .0) (c .given .1 .1 .0)) [] (told (c .result) (c .exits .0 .now))
   pub make-set : (c : Call sets.make_set.Kinds.ps sets.make_set.Kinds.r sets.make_set.Reads.Post) → Obeyed (c .given .0 .now) (commands.MakeSet (c .given .1 .0) (c .given .1 .1 .0) (c .given .1 .1 .1 .0)) (c .given .1 .1 .1 .1 .0 .now) (told (c .result) (c .exits .0 .now))
@@ -115,17 +120,17 @@ Tells l q before after x = toldReview (view l) x after ≡ model.ask (view l) (l
 
 pub record Questions : Type 0 where
   -- `check`, asked with the lent state and the session's number, is refused and answered as demand 2 says.
-  pub check : (c : Call sessions.check.Kinds.ps sessions.check.Kinds.r sessions.check.Reads.Post) → Handed (c .given .0 .now) → Checked (view (c .given .0 .now)) (c .given .1 .0 .number) (c .given .1 .1 .0) (c .given .1 .1 .1 .0) (toldChecked (view (c .given .0 .now)) (c .result))
+  pub check : (c : Call checking.check.Kinds.ps checking.check.Kinds.r checking.check.Reads.Post) → Handed (c .given .0 .now) → Checked (view (c .given .0 .now)) (c .given .1 .0 .number) (c .given .1 .1 .0) (c .given .1 .1 .1 .0) (toldChecked (view (c .given .0 .now)) (c .result))
   -- "Yes exactly when some effective role of the session holds the grant."
-  pub yes : (c : Call sessions.check.Kinds.ps sessions.check.Kinds.r sessions.check.Reads.Post) → Handed (c .given .0 .now) → (c .result .yes ≡ true) ↔ MayDo (view (c .given .0 .now)) (c .given .1 .0 .number) (c .given .1 .1 .0) (c .given .1 .1 .1 .0)
+  pub yes : (c : Call checking.check.Kinds.ps checking.check.Kinds.r checking.check.Reads.Post) → Handed (c .given .0 .now) → (c .result .yes ≡ true) ↔ MayDo (view (c .given .0 .now)) (c .given .1 .0 .number) (c .given .1 .1 .0) (c .given .1 .1 .1 .0)
   -- Any question through `ask`, of any state, with a buffer that has a place.
-  pub ask : (c : Call reviews.ask.Kinds.ps reviews.ask.Kinds.r reviews.ask.Reads.Post) → 1 ≤ length (c .given .1 .1 .0 .now)
+  pub ask : (c : Call engine.ask.Kinds.ps engine.ask.Kinds.r engine.ask.Reads.Post) → 1 ≤ length (c .given .1 .1 .0 .now)
       → Tells (c .given .0 .now) (c .given .1 .0) (c .given .1 .1 .0 .now) (c .exits .1 .1 .0 .now) (c .result)
   -- So on a state of the code's own it is answered as demand 2 says of questions.
-  pub asked : (c : Call reviews.ask.Kinds.ps reviews.ask.Kinds.r reviews.ask.Reads.Post) → Handed (c .given .0 .now) → 1 ≤ length (c .given .1 .1 .0 .now)
+  pub asked : (c : Call engine.ask.Kinds.ps engine.ask.Kinds.r engine.ask.Reads.Post) → Handed (c .given .0 .now) → 1 ≤ length (c .given .1 .1 .0 .now)
       → demands.Answered (view (c .given .0 .now)) (length (c .given .1 .1 .0 .now)) (c .given .1 .0) (toldReview (view (c .given .0 .now)) (c .result) (c .exits .1 .1 .0 .now))
   -- With no place at all what would have a result is 15, `check` too (`fitted`).
-  pub no-place : (c : Call reviews.ask.Kinds.ps reviews.ask.Kinds.r reviews.ask.Reads.Post) → length (c .given .1 .1 .0 .now) ≡ 0
+  pub no-place : (c : Call engine.ask.Kinds.ps engine.ask.Kinds.r engine.ask.Reads.Post) → length (c .given .1 .1 .0 .now) ≡ 0
       → toldReview (view (c .given .0 .now)) (c .result) (c .exits .1 .1 .0 .now) ≡ fitted 0 (model.ask (view (c .given .0 .now)) 0 (c .given .1 .0))
   -- Each review by its own function, of any state, with any buffer.
   -- ---- written by tests/unique.py: the reviews

@@ -12,12 +12,15 @@ use Rattle.separation.proofs as separation
 use Rattle.sweeps.proofs as sweeps
 use Rattle.lists.proofs as lists
 use Rattle.users.proofs as users
+use Rattle.roles.proofs as roles
 use Rattle.assigning.proofs as assigning
+use Rattle.granting.proofs as granting
 use Rattle.inheriting.proofs as inheriting
 use Rattle.sets.proofs as sets
 use Rattle.sessions.proofs as sessions
-use Rattle.engine.proofs as engine
+use Rattle.checking.proofs as checking
 use Rattle.reviews.proofs as reviews
+use Rattle.engine.proofs as engine
 use Rattle.text.proofs as text
 use Rattle.policywrite.proofs as policywrite
 use Rattle.policyread.proofs as policyread
@@ -121,15 +124,19 @@ pub record Lists : Type 0 where
 
 pub record Users : Type 0 where
   pub user : UniqueState users.user.Kinds.ps users.user.Kinds.r users.user.Reads.Post (λ κs e. e .0 .now)
-  pub role : UniqueState users.role.Kinds.ps users.role.Kinds.r users.role.Reads.Post (λ κs e. e .0 .now)
   pub nouser : UniqueState users.nouser.Kinds.ps users.nouser.Kinds.r users.nouser.Reads.Post (λ κs e. e .0 .now)
-  pub norole : UniqueState users.norole.Kinds.ps users.norole.Kinds.r users.norole.Reads.Post (λ κs e. e .0 .now)
+
+pub record Roles : Type 0 where
+  pub role : UniqueState roles.role.Kinds.ps roles.role.Kinds.r roles.role.Reads.Post (λ κs e. e .0 .now)
+  pub norole : UniqueState roles.norole.Kinds.ps roles.norole.Kinds.r roles.norole.Reads.Post (λ κs e. e .0 .now)
 
 pub record Assigning : Type 0 where
   pub assign : UniqueState assigning.assign.Kinds.ps assigning.assign.Kinds.r assigning.assign.Reads.Post (λ κs e. e .0 .now)
   pub deassign : UniqueState assigning.deassign.Kinds.ps assigning.deassign.Kinds.r assigning.deassign.Reads.Post (λ κs e. e .0 .now)
-  pub grant : UniqueState assigning.grant.Kinds.ps assigning.grant.Kinds.r assigning.grant.Reads.Post (λ κs e. e .0 .now)
-  pub revoke : UniqueState assigning.revoke.Kinds.ps assigning.revoke.Kinds.r assigning.revoke.Reads.Post (λ κs e. e .0 .now)
+
+pub record Granting : Type 0 where
+  pub grant : UniqueState granting.grant.Kinds.ps granting.grant.Kinds.r granting.grant.Reads.Post (λ κs e. e .0 .now)
+  pub revoke : UniqueState granting.revoke.Kinds.ps granting.revoke.Kinds.r granting.revoke.Reads.Post (λ κs e. e .0 .now)
 
 pub record Inheriting : Type 0 where
   pub inherit : UniqueState inheriting.inherit.Kinds.ps inheriting.inherit.Kinds.r inheriting.inherit.Reads.Post (λ κs e. e .0 .now)
@@ -147,11 +154,10 @@ pub record Sessions : Type 0 where
   pub activate : UniqueState sessions.activate.Kinds.ps sessions.activate.Kinds.r sessions.activate.Reads.Post (λ κs e. e .0 .now)
   pub drop : UniqueState sessions.drop.Kinds.ps sessions.drop.Kinds.r sessions.drop.Reads.Post (λ κs e. e .0 .now)
   pub end : UniqueState sessions.end.Kinds.ps sessions.end.Kinds.r sessions.end.Reads.Post (λ κs e. e .0 .now)
-  pub owner : Unique sessions.owner.Kinds.ps sessions.owner.Kinds.r sessions.owner.Reads.Post
-  pub check : Unique sessions.check.Kinds.ps sessions.check.Kinds.r sessions.check.Reads.Post
 
-pub record Engine : Type 0 where
-  pub step : UniqueState engine.step.Kinds.ps engine.step.Kinds.r engine.step.Reads.Post (λ κs e. e .0 .now)
+pub record Checking : Type 0 where
+  pub owner : Unique checking.owner.Kinds.ps checking.owner.Kinds.r checking.owner.Reads.Post
+  pub check : Unique checking.check.Kinds.ps checking.check.Kinds.r checking.check.Reads.Post
 
 pub record Reviews : Type 0 where
   pub assigned-users : UniqueLent reviews.assigned_users.Kinds.ps reviews.assigned_users.Kinds.r reviews.assigned_users.Reads.Post (λ κs e. e .1 .1 .0 .now)
@@ -167,7 +173,10 @@ pub record Reviews : Type 0 where
   pub set-names : UniqueLent reviews.set_names.Kinds.ps reviews.set_names.Kinds.r reviews.set_names.Reads.Post (λ κs e. e .1 .1 .0 .now)
   pub set-roles : UniqueLent reviews.set_roles.Kinds.ps reviews.set_roles.Kinds.r reviews.set_roles.Reads.Post (λ κs e. e .1 .1 .1 .0 .now)
   pub set-count : UniqueLent reviews.set_count.Kinds.ps reviews.set_count.Kinds.r reviews.set_count.Reads.Post (λ κs e. e .1 .1 .1 .0 .now)
-  pub ask : UniqueLent reviews.ask.Kinds.ps reviews.ask.Kinds.r reviews.ask.Reads.Post (λ κs e. e .1 .1 .0 .now)
+
+pub record Engine : Type 0 where
+  pub step : UniqueState engine.step.Kinds.ps engine.step.Kinds.r engine.step.Reads.Post (λ κs e. e .0 .now)
+  pub ask : UniqueLent engine.ask.Kinds.ps engine.ask.Kinds.r engine.ask.Reads.Post (λ κs e. e .1 .1 .0 .now)
 
 pub record Text : Type 0 where
   pub put : UniqueLent text.put.Kinds.ps text.put.Kinds.r text.put.Reads.Post (λ κs e. e .0 .now)

@@ -7,7 +7,8 @@ use mir.Val.{boolByte}
 use Rattle.roleset.specs.Bounded.{bit}
 use Rattle.model.specs.commands.Sessions.{check}
 use Rattle.state.specs.View.{view}
-use Rattle.sessions.specs.Answering.{Checks, isDone}
+use Rattle.state.specs.Results.{isDone}
+use Rattle.checking.specs.Answering.{Checks}
 use Rattle.clibrary.proofs.Calling.{check-sixteen, checked-done, checked-refused}
 use Rattle.clibrary.proofs.marruskil_check.Statement.{statement}
 use Rattle.clibrary.proofs.marruskil_check.Tie as tie

@@ -11,7 +11,7 @@ use Rattle.model.specs.Sheet.{verdict, settle, done}
 use Rattle.model.specs.commands.Naming.{userBeyond, userMissing}
 use Rattle.model.specs.commands.Users.{nouser}
 use Rattle.state.specs.View.{view, told}
-use Rattle.users.proofs.Laws.{user-gone}
+use Rattle.users.proofs.Gone.{user-gone}
 use Rattle.users.proofs.nouser.Statement.{statement}
 use Rattle.users.proofs.nouser.Tie as tie
 

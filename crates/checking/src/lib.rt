@@ -1,0 +1,79 @@
+// The question `check`, and whose a session is.
+ghost use Rattle.model.specs.commands.Sessions.{check, owner};
+ghost use Rattle.state.specs.View.{view};
+ghost use Rattle.checking.specs.Answering.{Checks, Owns};
+use numbers::Answer;
+use numbers::Session;
+use state::PLACES;
+use state::naming::either;
+use state::naming::permission_beyond;
+use state::reads::holders_of;
+use state::reads::session_at;
+use walking::reach;
+
+// What `check` answers: yes or no, and no on a refusal.
+pub struct Checked {
+    pub answer: Answer,
+    pub yes: bool,
+}
+
+// Whose a session is, as the state has it: in a state of the engine's own a user's number, in any other any number; 0 on a refusal.
+pub struct Owned {
+    pub answer: Answer,
+    pub owner: u64,
+}
+
+// Whose the session is; 1, 2.
+pub fn owner(state: &[u64; PLACES], x: Session) -> Owned
+    ensures { λ o. ⌜ Owns (view (now (state .entry))) (owner (view (now (state .entry))) (x .number)) o ⌝ }
+{
+    if numbers::session_beyond(x) {
+        return Owned {
+            answer: Answer::BeyondRange,
+            owner: 0,
+        };
+    }
+    let session = session_at(state, x);
+    if !session.live {
+        return Owned {
+            answer: Answer::Missing,
+            owner: 0,
+        };
+    }
+    Owned {
+        answer: Answer::Done,
+        owner: session.owner,
+    }
+}
+
+// May the session do the operation on the object? Yes exactly when some effective role holds the grant; 1, 2, 13. Nothing is copied.
+pub fn check(state: &[u64; PLACES], x: Session, op: u16, obj: u16) -> Checked
+    ensures { λ a. ⌜ Checks (view (now (state .entry))) (check (view (now (state .entry))) (x .number) op obj) a ⌝ }
+{
+    if either(numbers::session_beyond(x), permission_beyond(op, obj)) {
+        return Checked {
+            answer: Answer::BeyondRange,
+            yes: false,
+        };
+    }
+    let session = session_at(state, x);
+    if !session.live {
+        return Checked {
+            answer: Answer::Missing,
+            yes: false,
+        };
+    }
+    let walk = reach(state, session.active);
+    if walk.cut {
+        return Checked {
+            answer: Answer::ChainTooLong,
+            yes: false,
+        };
+    }
+    let holders = holders_of(state, op as usize * 256 + obj as usize);
+    let holding = roleset::common(walk.roles, holders);
+    Checked {
+        answer: Answer::Done,
+        yes: !roleset::is_empty(holding),
+    }
+}
