@@ -17,7 +17,7 @@ struct Bench {
     lead: Role,
 }
 
-fn bench(b: u16) -> Bench {
+fn roles_of(b: u16) -> Bench {
     let first = b % 16 * 4;
     Bench {
         capture: Role { number: first },
@@ -30,7 +30,7 @@ fn bench(b: u16) -> Bench {
 // The spare role of the bench's user: the review of another bench, or the role in the middle of a chain.
 fn spare(depth: u16, b: u16) -> Role {
     if depth < 3 {
-        bench(b % 16 + 2).review
+        roles_of(b % 16 + 2).review
     } else {
         Role { number: 17 }
     }
@@ -39,7 +39,7 @@ fn spare(depth: u16, b: u16) -> Role {
 // The senior of a line that may be drawn: the bench's lead, or the top of the first chain.
 fn senior(depth: u16, b: u16) -> Role {
     if depth < 3 {
-        bench(b).lead
+        roles_of(b).lead
     } else {
         Role { number: depth - 1 }
     }
@@ -100,7 +100,7 @@ fn of_grants(state: &mut [u64; PLACES], m: u64, i: u64, b: u16) -> Answer {
 fn of_lines(state: &mut [u64; PLACES], m: u64, depth: u16, b: u16) -> Answer {
     let s = senior(depth, b);
     let r = spare(depth, b);
-    let of = bench(b);
+    let of = roles_of(b);
     match m {
         30 => inheriting::inherit(state, s, r),
         31 => inheriting::disinherit(state, s, r),
@@ -146,7 +146,7 @@ fn of_sessions(state: &mut [u64; PLACES], m: u64, depth: u16, b: u16) -> Answer 
     let u = User { number: b };
     let other = User { number: b % 16 + 1 };
     let own = Session { number: b };
-    let of = bench(b);
+    let of = roles_of(b);
     let lead = top(depth, b);
     let list = [lead];
     let pair = pair_of(Kind::Dynamic, b);
