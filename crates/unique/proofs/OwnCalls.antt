@@ -1,14 +1,14 @@
 -- What the code's own calls tell. Assumes nothing.
-use mathlib.Core.Bool.{Bool, true, false, _||_}
+use mathlib.Core.Bool.{Bool, true, false, not, _||_}
 use mathlib.Core.List.{List, [], _∷_}
-use mathlib.Core.Logic.{inl, inr, _↔_}
+use mathlib.Core.Logic.{_⊎_, inl, inr, _↔_}
 use mathlib.Core.Path.{_≡_, refl, sym, ap, subst, _∙_}
-use Prim.Native.Nat.{ℕ, _≤_}
+use Prim.Native.Nat.{ℕ, _<_, _≤_}
 use native.Mathlib.Omega.{arith}
-use lib.Dec.{ltb}
+use lib.Dec.{eqb, ltb}
 use lib.ListN.{length, getD, take, drop}
-use lib.Seq.{take-at}
-use borrow.Author.Tests.{eqb-true, leb-false, lt-leb}
+use lib.Seq.{sets, take-at}
+use borrow.Author.Tests.{eqb-true, eqb-false, leb-false, lt-leb, lt-ltb, le-ltb}
 use Rattle.roleset.specs.Bounded.{bit}
 use Rattle.roleset.specs.Roles.{has}
 use Rattle.roleset.proofs.BoundedLaws.{clash, or-clear}
@@ -16,7 +16,7 @@ use Rattle.numbers.specs.Answers.{numberOf}
 use Rattle.numbers.specs.declared.Answer.{Answer}
 use Rattle.model.specs.Model.{Model}
 use Rattle.model.specs.Questions.{ask}
-use Rattle.model.specs.Sheet.{Told}
+use Rattle.model.specs.Sheet.{Told, _when_, refused}
 use Rattle.model.specs.Step as steps
 use Rattle.model.specs.declared.Command.{Command}
 use Rattle.model.specs.declared.Command.the-variants as commands
@@ -24,8 +24,9 @@ use Rattle.model.specs.declared.Question.{Question}
 use Rattle.model.specs.declared.Question.the-variants as questions
 use Rattle.state.specs.View.{view, told}
 use Rattle.state.specs.Results.{isDone, given}
-use Rattle.checking.specs.Answering.{toldChecked}
+use Rattle.checking.specs.Answering.{toldChecked, Owns, toldOwned}
 use Rattle.checking.specs.declared.Checked as code
+use Rattle.checking.specs.declared.Owned.{Owned}
 use Rattle.engine.specs.Stepping.{Steps}
 use Rattle.engine.specs.declared.Stepped.{Stepped}
 use Rattle.reviews.specs.Reviewing.{Reviewed, fitted}
@@ -46,19 +47,20 @@ use Rattle.script.specs.LineAnswers.{toldAt}
 use Rattle.program.specs.Printing.{Stage, piece}
 use Rattle.transcripts.proofs.ScriptLines.{script-lines}
 use Rattle.demands.specs.Authorised.{InOrBelow, Effective}
-use Rattle.demands.specs.Demand2.{_beyond_, checkRefusals, Checked}
+use Rattle.demands.specs.Demand2.{Exactly, _beyond_, checkRefusals, Checked}
 use Rattle.demands.specs.Demand3.{Shape}
 use Rattle.demands.specs.Reachable.{Reachable}
 use Rattle.demands.specs.Reviews as reviewing
 use Rattle.demands.proofs.Demand1.{demand1}
 use Rattle.demands.proofs.Demand2.{demand2}
 use Rattle.demands.proofs.Reviews.{questions-demand}
-use Rattle.demands.proofs.Exact.{applies-none, none-applies}
+use Rattle.demands.proofs.Exact.{exact, applies-none, none-applies}
 use Rattle.demands.proofs.PolicyFile.{faithful}
 use Rattle.unique.specs.Handed.{Handed}
 use Rattle.unique.specs.Unique.{State}
-use Rattle.unique.specs.OwnCalls.{Does, toldStepped, Commands, MayDo, toldReview, Questions, Means, LineTells, Lines, Files, OwnCalls, FromC}
-use Rattle.model.specs.commands.Sessions.{check}
+use Rattle.unique.specs.OwnCalls.{Does, toldStepped, Commands, MayDo, toldReview, Questions, Means, LineTells, Lines, Files, OwnCalls, FromC, NoPlace, OwnerTold}
+use Rattle.clibrary.specs.Calls.{Obeys, ChecksAt, SavesAt, answerLine, placed}
+use Rattle.model.specs.commands.Sessions.{owner}
 use Rattle.unique.proofs.Handed.{reachable, owned}
 use Rattle.unique.proofs.Unique.{states}
 
@@ -120,8 +122,19 @@ fitted-after room t = go (ltb room (length (t .results))) refl
     go false e = rw (e, fitted)
 
 -- with no place in the buffer
-no-room : (m : Model) (q : Question) {before after : List ℕ} {x : Review} → length before ≡ 0 → Reviewed (fitted (length before) (ask m (length before) q)) before after x → toldReview m x after ≡ fitted 0 (ask m 0 q)
-no-room m q z r = reviewed-tells (fitted-after 0 (ask m 0 q) ∙ demand1 .asking m 0 q) (rw z at r)
+no-place-told : (m : Model) (t told : Told) → t .after ≡ m → told ≡ fitted 0 t → NoPlace m t told
+unfolding fitted
+no-place-told m t told same e = by (t .results) refl
+  where
+    chosen : Bool → Told
+    chosen b = elim b as (λ _. Told) [ true ↦ refused 15 (t .after) | false ↦ t ]
+
+    by : (l : List ℕ) → t .results ≡ l → NoPlace m t told
+    by [] none = inl (none, e ∙ ap chosen (ap (λ (l : List ℕ). ltb 0 (length l)) none ∙ le-ltb 0 0 (omega arith)))
+    by (k ∷ l) some = inr ((λ none. absurd (omega (arith, ap length some, ap length none))), e ∙ ap chosen (ap (λ (l : List ℕ). ltb 0 (length l)) some ∙ lt-ltb 0 (length (k ∷ l)) (omega arith)) ∙ ap (refused 15) same)
+
+no-room : (m : Model) (q : Question) {before after : List ℕ} {x : Review} → length before ≡ 0 → Reviewed (fitted (length before) (ask m (length before) q)) before after x → NoPlace m (ask m 0 q) (toldReview m x after)
+no-room m q z r = no-place-told m (ask m 0 q) _ (demand1 .asking m 0 q) (reviewed-tells (fitted-after 0 (ask m 0 q) ∙ demand1 .asking m 0 q) (rw z at r))
 
 -- a session with an effective role is open, and is one of the 64
 open-session : {m : Model} {s r : ℕ} → Shape m → Effective m s r → (m .sessions s .live ≡ true) × (s ≤ 63)
@@ -160,6 +173,11 @@ says-yes m s op obj x shape c silent = (granted (isDone (x .answer)) refl, yes)
         let zero = c .done .1 (none-applies (checkRefusals m s op obj) (within, (rw (there .0), tt))) in
         said (isDone (x .answer)) (x .yes) (c .exactly zero .1 (may .granted))
 
+-- whose a session is
+owner-told : (m : Model) (s : ℕ) (x : Owned) → Owns m (owner m s) x → OwnerTold m s (numberOf (x .answer)) (x .owner)
+unfolding toldOwned owner
+owner-told m s x o = subst (Exactly m _ _ m) (sym (o .tells)) (exact (1 when (s beyond 63) ∷ 2 when not (m .sessions s .live) ∷ []) m (m .sessions s .owner ∷ []) m refl refl)
+
 of-questions : Questions
 unfolding ask
 of-questions =
@@ -169,6 +187,7 @@ of-questions =
       ask = λ c h. reviewed-tells (demand1 .asking _ _ (c .given .1 .0)) (rw (asked-with-room _ _ (c .given .1 .0) h) at (c .met));
       asked = λ c h room. subst (reviewing.Answered (view (c .given .0 .now)) (length (c .given .1 .1 .0 .now)) (c .given .1 .0)) (sym (reviewed-tells (demand1 .asking _ _ (c .given .1 .0)) (rw (asked-with-room _ _ (c .given .1 .0) room) at (c .met)))) (questions-demand .questions (view (c .given .0 .now)) (reachable h) (length (c .given .1 .1 .0 .now)) (c .given .1 .0));
       no-place = λ c z. no-room (view (c .given .0 .now)) (c .given .1 .0) z (c .met);
+      owner = λ c. owner-told _ _ _ (c .met);
       -- ---- written by tests/unique.py: the reviews
       assigned-users = λ c. reviewed-tells (demand1 .asking _ _ (questions.AssignedUsers (c .given .1 .0))) (c .met);
       assigned-roles = λ c. reviewed-tells (demand1 .asking _ _ (questions.AssignedRoles (c .given .1 .0))) (c .met);
@@ -255,14 +274,41 @@ of-files =
 
 -- ---- what a C program calls
 
+-- the answer line has room and is written, or it has none and nothing is obeyed
+obeyed-at : {m : Model} {t : Told} {out after l : List ℕ} {size : ℕ} → Obeys m t out after size l
+    → (length (answerLine t) ≤ length out → (size ≡ length (answerLine t)) × (after ≡ sets out 0 (answerLine t)) × (view l ≡ t .after)) × (length out < length (answerLine t) → (size ≡ 0) × (after ≡ out) × (view l ≡ m))
+obeyed-at (inl x) = ((λ h. absurd (omega (arith, h, x .short))), (λ h. (x .no-length, x .untouched, x .unchanged)))
+obeyed-at (inr x) = ((λ h. (x .long, x .stored, x .state)), (λ h. absurd (omega (arith, h, x .fits))))
+
+-- what `check` stores where the caller says is its result
+module _ {m : Model} {s op obj before after answer : ℕ} {t : Told} (x : Checked m s op obj t) (p : ChecksAt t before after answer) where
+  stored : (b : Bool) → eqb answer 0 ≡ b → t .results ≡ given b after
+  stored true e = one (x .answers (sym (p .answered) ∙ eqb-true answer 0 e))
+    where
+      one : (t .results ≡ 1 ∷ []) ⊎ (t .results ≡ 0 ∷ []) → t .results ≡ after ∷ []
+      one (inl q) = q ∙ ap (λ (n : ℕ). n ∷ []) (sym (p .result ∙ ap (λ (l : List ℕ). placed l before) q))
+      one (inr q) = q ∙ ap (λ (n : ℕ). n ∷ []) (sym (p .result ∙ ap (λ (l : List ℕ). placed l before) q))
+  stored false e = x .silent (λ z. eqb-false answer 0 e (p .answered ∙ z))
+
+  checked-at : Checked m s op obj (record { answer = answer; results = given (eqb answer 0) after; after = m }) × ((answer ≡ 0 → ⊥) → after ≡ before)
+  checked-at = (
+    subst (Checked m s op obj) (λ i. record { answer = sym (p .answered) i; results = stored (eqb answer 0) refl i; after = x .unchanged i }) x,
+    λ n. p .result ∙ ap (λ (l : List ℕ). placed l before) (x .silent (λ z. n (p .answered ∙ z))),
+  )
+
+-- the length of a save is stored where it is done
+saved-at : {m : Model} {out after : List ℕ} {before size answer : ℕ} → SavesAt m out after before size answer → (n : ℕ) × Saves m out after answer n × (answer ≡ 0 → size ≡ n) × ((answer ≡ 0 → ⊥) → size ≡ before)
+saved-at (inl p) = (0, inl (p .refused), (λ z. absurd (omega (arith, z, p .refused .answered))), λ n. p .kept)
+saved-at {size = size} (inr p) = (size, inr p, (λ z. refl), λ n. absurd (n (p .answered)))
+
 of-c : FromC
 of-c =
     record {
       marruskil-start = λ c. c .met;
-      marruskil-obey = λ c h. (obey (view (c .given .0 .now)) (c .given .1 .0 .now), line-tells (reachable h) (c .given .1 .0 .now), c .met);
-      marruskil-check = λ c h. (check (view (c .given .0 .now)) (c .given .1 .0) (c .given .1 .1 .0) (c .given .1 .1 .1 .0), demand2 .access (view (c .given .0 .now)) (reachable h) (c .given .1 .0) (c .given .1 .1 .0) (c .given .1 .1 .1 .0), c .met);
+      marruskil-obey = λ c h. (obey (view (c .given .0 .now)) (c .given .1 .0 .now), line-tells (reachable h) (c .given .1 .0 .now), obeyed-at (c .met) .0, obeyed-at (c .met) .1);
+      marruskil-check = λ c h. checked-at (demand2 .access (view (c .given .0 .now)) (reachable h) (c .given .1 .0) (c .given .1 .1 .0) (c .given .1 .1 .1 .0)) (c .met);
       marruskil-load = λ c. c .met;
-      marruskil-save = λ c. c .met;
+      marruskil-save = λ c. saved-at (c .met);
     }
 
 pub own-calls : OwnCalls

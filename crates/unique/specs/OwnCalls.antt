@@ -5,17 +5,18 @@
 --
 -- Of a call c, `c .given` is what the function was given, in the order of its parameters: .0 is the first, .1 .0 the second, .1 .1 .0 the third. `c .exits`
 -- is the same after the call, `c .result` what it handed back, and `.now` the numbers of what was lent.
-use mathlib.Core.Bool.{true}
-use mathlib.Core.List.{List, []}
-use mathlib.Core.Logic.{_↔_}
+use mathlib.Core.Bool.{true, not}
+use mathlib.Core.List.{List, [], _∷_}
+use mathlib.Core.Logic.{_⊎_, _↔_}
 use mathlib.Core.Path.{_≡_}
-use Prim.Native.Nat.{ℕ, _+_, _*_, _≤_}
+use Prim.Native.Nat.{ℕ, _+_, _*_, _<_, _≤_}
 use lib.Dec.{eqb}
 use lib.ListN.{length, getD, take, drop}
+use lib.Seq.{sets}
 use Rattle.numbers.specs.Answers.{numberOf}
 use Rattle.model.specs.Model.{Model, empty}
 use Rattle.model.specs.Questions as model
-use Rattle.model.specs.Sheet.{Told, refused}
+use Rattle.model.specs.Sheet.{Told, _when_, refused}
 use Rattle.model.specs.declared.Command.{Command}
 use Rattle.model.specs.declared.Command.the-variants as commands
 use Rattle.model.specs.declared.Question.{Question}
@@ -25,7 +26,6 @@ use Rattle.state.specs.Results.{given}
 use Rattle.sessions.specs.Answering.{toldOpened}
 use Rattle.checking.specs.Answering.{toldChecked}
 use Rattle.engine.specs.declared.Stepped.{Stepped}
-use Rattle.reviews.specs.Reviewing.{fitted}
 use Rattle.reviews.specs.declared.Review.{Review}
 use Rattle.text.specs.Putting.{Put}
 use Rattle.textlines.specs.Parts.{partAt, placePast}
@@ -37,10 +37,9 @@ use Rattle.meaning.specs.declared.Meant.{Meant}
 use Rattle.meaning.specs.declared.Meant.the-variants.{Do, Ask, Nothing}
 use Rattle.script.specs.Script.{answerText, lineFeed}
 use Rattle.program.specs.Printing.{Begins, stageOf, line}
-use Rattle.demands.specs.Demand2.{Exactly, refusals, results, effect, Checked, Granted}
+use Rattle.demands.specs.Demand2.{Exactly, _beyond_, refusals, results, effect, Checked, Granted}
 use Rattle.demands.specs.Reviews as demands
-use Rattle.policyform.specs.Promises.{Loads}
-use Rattle.clibrary.specs.Calls.{Obeys, ChecksAt, SavesAt, loaded}
+use Rattle.policyform.specs.Promises.{Loads, Saves}
 use Rattle.unique.specs.Handed.{Call, Handed}
 use Rattle.unique.specs.Unique.{State}
 -- ---- written by tests/unique.py: the crates
@@ -118,6 +117,14 @@ toldReview m x after = record { answer = numberOf (x .answer); results = take (x
 abbrev pub Tells : List ℕ → Question → List ℕ → List ℕ → Review → Type 0
 Tells l q before after x = toldReview (view l) x after ≡ model.ask (view l) (length before) q
 
+-- What is told where there is no place at all for results: what has none is told as it is, and what would have one is 15, `check` too.
+abbrev pub NoPlace : Model → Told → Told → Type 0
+NoPlace m asked told = ((asked .results ≡ []) × (told ≡ asked)) ⊎ ((asked .results ≡ [] → ⊥) × (told ≡ refused 15 m))
+
+-- What the question whose session s is answers, and the owner that it hands back.
+abbrev pub OwnerTold : Model → ℕ → ℕ → ℕ → Type 0
+OwnerTold m s answer owner = Exactly m (1 when (s beyond 63) ∷ 2 when not (m .sessions s .live) ∷ []) (m .sessions s .owner ∷ []) m (record { answer = answer; results = given (eqb answer 0) owner; after = m })
+
 pub record Questions : Type 0 where
   -- `check`, asked with the lent state and the session's number, is refused and answered as demand 2 says.
   pub check : (c : Call checking.check.Kinds.ps checking.check.Kinds.r checking.check.Reads.Post) → Handed (c .given .0 .now) → Checked (view (c .given .0 .now)) (c .given .1 .0 .number) (c .given .1 .1 .0) (c .given .1 .1 .1 .0) (toldChecked (view (c .given .0 .now)) (c .result))
@@ -129,9 +136,11 @@ pub record Questions : Type 0 where
   -- So on a state of the code's own it is answered as demand 2 says of questions.
   pub asked : (c : Call engine.ask.Kinds.ps engine.ask.Kinds.r engine.ask.Reads.Post) → Handed (c .given .0 .now) → 1 ≤ length (c .given .1 .1 .0 .now)
       → demands.Answered (view (c .given .0 .now)) (length (c .given .1 .1 .0 .now)) (c .given .1 .0) (toldReview (view (c .given .0 .now)) (c .result) (c .exits .1 .1 .0 .now))
-  -- With no place at all what would have a result is 15, `check` too (`fitted`).
+  -- With no place at all.
   pub no-place : (c : Call engine.ask.Kinds.ps engine.ask.Kinds.r engine.ask.Reads.Post) → length (c .given .1 .1 .0 .now) ≡ 0
-      → toldReview (view (c .given .0 .now)) (c .result) (c .exits .1 .1 .0 .now) ≡ fitted 0 (model.ask (view (c .given .0 .now)) 0 (c .given .1 .0))
+      → NoPlace (view (c .given .0 .now)) (model.ask (view (c .given .0 .now)) 0 (c .given .1 .0)) (toldReview (view (c .given .0 .now)) (c .result) (c .exits .1 .1 .0 .now))
+  -- Whose a session is, of any state: 1 where its number is beyond 63, else 2 where it is not open, else its owner.
+  pub owner : (c : Call checking.owner.Kinds.ps checking.owner.Kinds.r checking.owner.Reads.Post) → OwnerTold (view (c .given .0 .now)) (c .given .1 .0 .number) (numberOf (c .result .answer)) (c .result .owner)
   -- Each review by its own function, of any state, with any buffer.
   -- ---- written by tests/unique.py: the reviews
   pub assigned-users : (c : Call reviews.assigned_users.Kinds.ps reviews.assigned_users.Kinds.r reviews.assigned_users.Reads.Post) → Tells (c .given .0 .now) (questions.AssignedUsers (c .given .1 .0)) (c .given .1 .1 .0 .now) (c .exits .1 .1 .0 .now) (c .result)
@@ -204,15 +213,25 @@ pub record Files : Type 0 where
 pub record FromC : Type 0 where
   -- The state becomes the empty policy with no session.
   pub marruskil-start : (c : Call clibrary.marruskil_start.Kinds.ps clibrary.marruskil_start.Kinds.r clibrary.marruskil_start.Reads.Post) → view (c .exits .0 .now) ≡ empty
-  -- What a line tells, by demand 2, is obeyed and its answer line written; or, where that does not fit, nothing is.
+  -- What a line tells, by demand 2, is obeyed: where its answer line has room, this stands at the front of the buffer, its length is handed back, and the
+  -- policy and sessions are what the line tells. Where it has none, 0 is handed back, and the buffer, the policy and the sessions are as they were.
   pub marruskil-obey : (c : Call clibrary.marruskil_obey.Kinds.ps clibrary.marruskil_obey.Kinds.r clibrary.marruskil_obey.Reads.Post) → Handed (c .given .0 .now)
-      → (t : Told) × LineTells (view (c .given .0 .now)) (c .given .1 .0 .now) t × Obeys (view (c .given .0 .now)) t (c .given .1 .1 .0 .now) (c .exits .1 .1 .0 .now) (c .result) (c .exits .0 .now)
-  -- The answer number, and the result where the caller says, are those that demand 2 says of the question for access.
+      → (t : Told) × LineTells (view (c .given .0 .now)) (c .given .1 .0 .now) t
+      × (length (answerText (t .answer) (t .results)) ≤ length (c .given .1 .1 .0 .now)
+      → (c .result ≡ length (answerText (t .answer) (t .results))) × (c .exits .1 .1 .0 .now ≡ sets (c .given .1 .1 .0 .now) 0 (answerText (t .answer) (t .results))) × (view (c .exits .0 .now) ≡ t .after))
+      × (length (c .given .1 .1 .0 .now) < length (answerText (t .answer) (t .results)) → (c .result ≡ 0) × (c .exits .1 .1 .0 .now ≡ c .given .1 .1 .0 .now) × (view (c .exits .0 .now) ≡ view (c .given .0 .now)))
+  -- The number that is handed back, and where that is 0 the one stored where the caller says, are those that demand 2 says of the question for access.
+  -- Where it is refused, what stood there stays.
   pub marruskil-check : (c : Call clibrary.marruskil_check.Kinds.ps clibrary.marruskil_check.Kinds.r clibrary.marruskil_check.Reads.Post) → Handed (c .given .0 .now)
-      → (t : Told) × Checked (view (c .given .0 .now)) (c .given .1 .0) (c .given .1 .1 .0) (c .given .1 .1 .1 .0) t × ChecksAt t (c .given .1 .1 .1 .1 .0 .now) (c .exits .1 .1 .1 .1 .0 .now) (c .result)
+      → Checked (view (c .given .0 .now)) (c .given .1 .0) (c .given .1 .1 .0) (c .given .1 .1 .1 .0) (record { answer = c .result; results = given (eqb (c .result) 0) (c .exits .1 .1 .1 .1 .0 .now); after = view (c .given .0 .now) })
+      × ((c .result ≡ 0 → ⊥) → c .exits .1 .1 .1 .1 .0 .now ≡ c .given .1 .1 .1 .1 .0 .now)
   -- Loading and saving are those of the policy file, to which `Loading` and `SavesAsThePaperSays` apply (fileanswers/specs).
-  pub marruskil-load : (c : Call clibrary.marruskil_load.Kinds.ps clibrary.marruskil_load.Kinds.r clibrary.marruskil_load.Reads.Post) → Loads (view (c .given .0 .now)) (c .given .1 .0 .now) (loaded (c .result) (c .exits .0 .now))
-  pub marruskil-save : (c : Call clibrary.marruskil_save.Kinds.ps clibrary.marruskil_save.Kinds.r clibrary.marruskil_save.Reads.Post) → SavesAt (view (c .given .0 .now)) (c .given .1 .0 .now) (c .exits .1 .0 .now) (c .given .1 .1 .0 .now) (c .exits .1 .1 .0 .now) (c .result)
+  pub marruskil-load : (c : Call clibrary.marruskil_load.Kinds.ps clibrary.marruskil_load.Kinds.r clibrary.marruskil_load.Reads.Post)
+      → Loads (view (c .given .0 .now)) (c .given .1 .0 .now) (record { answer = c .result; results = []; after = view (c .exits .0 .now) })
+  -- A save that is done stores the file's length where the caller says, and where it is refused, what stood there stays.
+  pub marruskil-save : (c : Call clibrary.marruskil_save.Kinds.ps clibrary.marruskil_save.Kinds.r clibrary.marruskil_save.Reads.Post)
+      → (n : ℕ) × Saves (view (c .given .0 .now)) (c .given .1 .0 .now) (c .exits .1 .0 .now) (c .result) n
+      × (c .result ≡ 0 → c .exits .1 .1 .0 .now ≡ n) × ((c .result ≡ 0 → ⊥) → c .exits .1 .1 .0 .now ≡ c .given .1 .1 .0 .now)
 
 pub record OwnCalls : Type 0 where
   pub commands : Commands
