@@ -76,7 +76,8 @@ walked c = rw (← new (c .before .before)) (sym (c .reach .ensures))
 found-4 : (c : tie.After-breaks-some) → let s = to-start (to-1 (to-2 (c .before .before .before .before .before))) in staticBroken (assigned (m s) (user s) (role s)) (user s) ≡ c .breaks-some .result
 found-4 c =
     let s = to-start (to-1 (to-2 (c .before .before .before .before .before))) in
-    assigned-static (m s) (user s) (role s) ∙ ap (λ (w : Walk). breaksSome (m s .ssd) (w .roles)) (walked (c .before .before)) ∙ sym (c .breaks-some .ensures)
+    let ruled : c .breaks-some .result ≡ breaksSome (m s .ssd) (c .before .before .reach .result .roles) = c .breaks-some .ensures in
+    assigned-static (m s) (user s) (role s) ∙ ap (λ (w : Walk). breaksSome (m s .ssd) (w .roles)) (walked (c .before .before)) ∙ sym ruled
 
 clear-4 : (c : tie.Else4) → let s = to-start (to-1 (to-2 (to-3 c))) in staticBroken (assigned (m s) (user s) (role s)) (user s) ≡ false
 clear-4 c = found-4 (c .before) ∙ c .if4 .left

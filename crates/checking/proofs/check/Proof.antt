@@ -74,7 +74,9 @@ returns-3 c =
 -- yes or no, in the words of the definition
 answered : (c : tie.After-is-empty) → let s = to-start (to-1 (to-2 (c .before .before .before))) in not (c .is-empty .result) ≡ permitted (m s) (number s) (perm s)
 unfolding permitted
-answered c = ap not (c .is-empty .ensures .is ∙ ap isEmpty (c .before .common .ensures .is ∙ ap₂ (λ (w : Walk) (h : ℕ). common (w .roles) h) (sym (walked (c .before .before .before .before))) (c .before .before .holders-of .ensures)))
+answered c =
+    let holding : c .before .common .result ≡ common (c .before .before .before .before .reach .result .roles) (c .before .before .holders-of .result) = c .before .common .ensures .is in
+    ap not (c .is-empty .ensures .is ∙ ap isEmpty (holding ∙ ap₂ (λ (w : Walk) (h : ℕ). common (w .roles) h) (sym (walked (c .before .before .before .before))) (c .before .before .holders-of .ensures)))
 
 returns-4 : tie.Need-returns-4
 unfolding toldChecked check settle verdict

@@ -74,7 +74,10 @@ found-3 c = rw (← c .before .directly-below .ensures) (sym (c .has .ensures))
 
 -- the roles below the senior without the line
 new : (c : tie.After-without) → let s = start-3 (c .before) in c .without .result ≡ without (m s .juniors (senior s)) (junior s)
-new c = let s = start-3 (c .before) in c .without .ensures .is ∙ ap (λ (x : ℕ). without x (junior s)) (c .before .before .before .directly-below .ensures)
+new c =
+    let below = junior (start-3 (c .before)) in
+    let fewer : c .without .result ≡ without (c .before .before .before .directly-below .result) below = c .without .ensures .is in
+    fewer ∙ ap (λ (x : ℕ). without x below) (c .before .before .before .directly-below .ensures)
 
 found-4 : (c : tie.After-shed) → let s = start-3 (to-3 c) in shedCut (unlined (m s) (senior s) (junior s)) ≡ c .shed .result .cut
 found-4 c =

@@ -87,7 +87,10 @@ walked : (c : tie.After-reach) → let s = start-3 (c .before .before .before) i
 walked c = rw (← c .before .with .ensures .is) (sym (c .reach .ensures))
 
 found-4 : (c : tie.After-has2) → let s = start-3 (c .before .before .before .before) in wouldCircle (m s) (senior s) (junior s) ≡ c .has2 .result
-found-4 c = ap (λ (w : Walk). has (w .roles) (senior (start-3 (c .before .before .before .before)))) (walked (c .before)) ∙ sym (c .has2 .ensures)
+found-4 c =
+    let above = senior (start-3 (c .before .before .before .before)) in
+    let among : c .has2 .result ≡ has (c .before .reach .result .roles) above = c .has2 .ensures in
+    ap (λ (w : Walk). has (w .roles) above) (walked (c .before)) ∙ sym among
 
 clear-4 : (c : tie.Else4) → let s = start-4 c in wouldCircle (m s) (senior s) (junior s) ≡ false
 clear-4 c = found-4 (c .before) ∙ c .if4 .left

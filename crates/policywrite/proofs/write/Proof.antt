@@ -12,7 +12,7 @@ use Rattle.state.specs.View.{view}
 use Rattle.text.specs.Bytes.{section}
 use Rattle.text.specs.Places.{Wrote}
 use Rattle.text.proofs.Writing.{wrote-length, wrote-more}
-use Rattle.policyform.specs.Encode.{pairEntry, pairIn, grantsPart, encode}
+use Rattle.policyform.specs.Encode.{pairEntry, pairIn, grantsPart, sessionsPart, encode}
 use Rattle.policywrite.proofs.write.Statement.{statement}
 use Rattle.policywrite.proofs.write.Tie as tie
 
@@ -33,6 +33,8 @@ whole c =
     let assigned = grants .before .before .before .before .before in
     let lines = assigned .before .before .before .before .before in
     let roles = lines .before .before .before .before .before in
+    let start = roles .before .before .before .before .before .before .before .before in
+    let last : Wrote (dynamic .put-sets2 .last .1 .1 .0) (c .put-sessions .last .1 .0) (dynamic .put-sets2 .result) (c .put-sessions .result) (sessionsPart (view (start .args .state .now) .sessions)) = c .put-sessions .ensures .wrote in
     wrote-more (roles .before .before .before .before .before .put-users .ensures .wrote)
     (wrote-more (rw (roles .before .before .roles .ensures) at (roles .put-roles .ensures .wrote))
     (wrote-more (pairs (lines .before .before .juniors .ensures) (lines .put-pairs .ensures .wrote))
@@ -40,7 +42,7 @@ whole c =
     (wrote-more (renamed (ap grantsPart (grants .before .before .holders .ensures .each)) (grants .put-grants .ensures .wrote))
     (wrote-more (static .put-sets .ensures .wrote)
     (wrote-more (dynamic .put-sets2 .ensures .wrote)
-    (c .put-sessions .ensures .wrote)))))))
+    last))))))
 
 -- the first five sections take little room
 near : (c : tie.After-put-grants) → c .put-grants .result < 2 ^ 24

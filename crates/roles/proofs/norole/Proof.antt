@@ -3,7 +3,7 @@ use borrow.Author.Needs.{needs}
 use borrow.Author.Tests.{leb-false}
 use mathlib.Core.Bool.{false, not, _||_}
 use mathlib.Core.List.{[]}
-use mathlib.Core.Path.{_≡_, sym, ap, _∙_}
+use mathlib.Core.Path.{_≡_, sym, ap, ap₂, _∙_}
 use Prim.Native.Nat.{ℕ, _<_}
 use native.Mathlib.Omega.{arith}
 use Rattle.model.specs.Model.{Model}
@@ -53,7 +53,7 @@ clear-2 : (c : tie.Else2) → let s = to-start (to-1 c) in roleMissing (m s) (na
 clear-2 c = found-2 (c .before) ∙ c .if2 .left
 
 found-3 : (c : tie.After-either) → let s = to-start (to-1 (c .before .before .before .before .before)) in (inSet (m s .ssd) (name s) || inSet (m s .dsd) (name s)) ≡ c .either .result
-found-3 c = rw (← c .before .before .before .in-set .ensures, ← c .before .in-set2 .ensures) (sym (c .either .ensures))
+found-3 c = ap₂ _||_ (sym (c .before .before .before .in-set .ensures)) (sym (c .before .in-set2 .ensures)) ∙ sym (c .either .ensures)
 
 clear-3 : (c : tie.Else3) → let s = to-start (to-1 (to-2 c)) in (inSet (m s .ssd) (name s) || inSet (m s .dsd) (name s)) ≡ false
 clear-3 c = found-3 (c .before) ∙ c .if3 .left
@@ -64,7 +64,7 @@ found-4 c =
     let u = c .before .before .before .before .before in
     let c1 = to-1 (to-2 (to-3 t)) in
     let s = to-start c1 in
-    role-cut (s .args .state .now) _ _ _ _ (name s) _ _ (c .shed .result) (within c1) (t .before .before .juniors-table .ensures) (u .before .before .assigned-table .ensures) (t .strip .ensures) (u .strip2 .ensures) (c .shed .ensures)
+    role-cut (s .args .state .now) _ _ _ _ (name s) (t .strip .result) (u .strip2 .result) (c .shed .result) (within c1) (t .before .before .juniors-table .ensures) (u .before .before .assigned-table .ensures) (t .strip .ensures) (u .strip2 .ensures) (c .shed .ensures)
 
 -- the stores: the role, its lines, assignments and grants, and then what is left to the sessions
 stored : (c : tie.After-put-all-active) → let s = to-start (to-1 (to-2 (to-3 (to-strip (c .before .before .before .before .before .before .before .before .before))))) in view (c .put-all-active .last .0) ≡ shed (withoutRole (m s) (name s))

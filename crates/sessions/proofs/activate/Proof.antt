@@ -77,7 +77,8 @@ walked c = rw (← c .before .before .assigned-to .ensures) (sym (c .reach .ensu
 found-3 : (c : tie.After-has2) → unauthorised (to-start (to-1 (c .before .before .before .before .before))) ≡ not (c .has2 .result)
 found-3 c =
     let s = to-start (to-1 (c .before .before .before .before .before)) in
-    ap (λ (w : Walk). not (has (w .roles) (role s))) (walked (c .before)) ∙ ap not (sym (c .has2 .ensures))
+    let among : c .has2 .result ≡ has (c .before .reach .result .roles) (role s) = c .has2 .ensures in
+    ap (λ (w : Walk). not (has (w .roles) (role s))) (walked (c .before)) ∙ ap not (sym among)
 
 clear-3 : (c : tie.Else3) → unauthorised (to-start (to-1 (to-2 c))) ≡ false
 clear-3 c = found-3 (c .before) ∙ c .if3 .left

@@ -52,8 +52,12 @@ found-2 c = rw (← c .before .before .has-user .ensures, ← c .before .before 
 clear-2 : (c : tie.Else2) → missing (to-start (to-1 c)) ≡ false
 clear-2 c = found-2 (c .before) ∙ c .if2 .left
 
+-- the session as it was found
+abbrev stood : tie.Else2 → Session
+stood c = c .before .before .before .before .before .session-at .result
+
 -- whose the session is, in the words of the definition
-owner : (c : tie.Else2) → let s = to-start (to-1 c) in m s .sessions (number s) .owner ≡ c .before .before .before .before .before .session-at .result .owner
+owner : (c : tie.Else2) → let s = to-start (to-1 c) in m s .sessions (number s) .owner ≡ stood c .owner
 owner c = ap (λ (x : Session). x .owner) (sym (c .before .before .before .before .before .session-at .ensures))
 
 returns : tie.Need-returns
@@ -68,7 +72,7 @@ returns-3 : tie.Need-returns-3
 unfolding told end settle verdict
 returns-3 c =
     let c2 = c .before .before .before in
-    rw (clear-1 (to-1 c2), clear-2 c2, owner c2, ne-eqb _ _ (c .if3 .taken))
+    rw (clear-1 (to-1 c2), clear-2 c2, owner c2, ne-eqb (stood c2 .owner) (user (to-start (to-1 c2))) (c .if3 .taken))
 
 returns-4 : tie.Need-returns-4
 unfolding told end settle verdict
@@ -76,7 +80,7 @@ returns-4 c =
     let c2 = c .before .before .before .before .before in
     let c1 = to-1 c2 in
     let s = to-start c1 in
-    rw (clear-1 c1, clear-2 c2, owner c2, eq-eqb _ _ (c .before .before .if3 .left))
+    rw (clear-1 c1, clear-2 c2, owner c2, eq-eqb (stood c2 .owner) (user s) (c .before .before .if3 .left))
     (ap (done []) (c .close-session .ensures ∙ in-range 64 (number s) _ _ (leb-false 64 (number s) (or-clear (userBeyond (user s)) _ (clear-1 c1) .1))))
 
 pub end-spec : {M : Type 1} → statement M

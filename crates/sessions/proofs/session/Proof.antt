@@ -125,7 +125,8 @@ found-5 : (c : tie.After-breaks-some) → breaking (to-start (to-1 (to-2 (to-3 (
 found-5 c =
     let c1 = to-1 (to-2 (to-3 (c .before .before))) in
     let s = to-start c1 in
-    opened-dynamic (m s) (user s) (setOf (list s)) ∙ ap (breaksSome (m s .dsd)) (asked c1) ∙ sym (c .breaks-some .ensures)
+    let ruled : c .breaks-some .result ≡ breaksSome (m s .dsd) (c1 .before .before .read .result .roles) = c .breaks-some .ensures in
+    opened-dynamic (m s) (user s) (setOf (list s)) ∙ ap (breaksSome (m s .dsd)) (asked c1) ∙ sym ruled
 
 clear-5 : (c : tie.Else5) → breaking (to-start (to-1 (to-2 (to-3 (to-4 c))))) ≡ false
 clear-5 c = found-5 (c .before) ∙ c .if5 .left
