@@ -45,7 +45,7 @@ check() { # DOC NAME
     missing=1
 }
 
-for doc in docs/PROMISES.md docs/HOW-TO-READ.md docs/LAYOUT.md; do
+for doc in docs/PROMISES.md docs/HOW-TO-READ.md docs/LAYOUT.md docs/MISTAKES.md; do
     while read -r name; do
         check "$doc" "$name"
     done < <(sed '/^```/,/^```/d' "$doc" | grep -o '`[^`]*`' | tr -d '`' | grep -e '^[^ ]*$' -e '^[A-Z][A-Za-z0-9]* \.[a-zA-Z0-9-]*$' | sort -u)
@@ -65,6 +65,14 @@ files=$(sed -n '/^## What must be believed/,/^What may be skipped/p' docs/HOW-TO
 believed=0
 for file in $files; do
     believed=$((believed + $(grep -vc -e '^use ' -e '^ *--' -e '^ *$' "crates/$file.antt")))
+done
+# And none of them rests on a file of specs/ that the page neither lists nor says may be skipped. (What src/ declares is read there.)
+named=$(sed -n '/^## What must be believed/,/^## /p' docs/HOW-TO-READ.md | grep -o '`[a-z]*/specs/[A-Za-z0-9/]*`' | tr -d '`' | sort -u)
+for file in $files; do
+    below=$(sed -n 's/^use Rattle·\([a-z]*\)\(·specs\)*\.specs\.\([A-Za-z0-9.]*\).*/\1\/specs\/\3/p' "crates/$file.antt" | sed 's/\.$//; s/\./\//g' | sed '/specs\/declared/d' | sort -u)
+    for other in $below; do
+        grep -qx -e "$other" -e "${other%/*}" <<<"$named" || { echo "docs: $file rests on $other, of which docs/HOW-TO-READ.md says nothing"; missing=1; }
+    done
 done
 most=$(sed -n 's/.* they are \([0-9,]*\) lines at most.*/\1/p' docs/HOW-TO-READ.md | tr -d ,)
 [ -n "$most" ] && [ "$believed" -gt 0 ]
