@@ -17,12 +17,13 @@ use Rattle.model.specs.commands.Inheriting.{inherit, lined, usersCut, disinheri
 use Rattle.model.specs.commands.Sets.{broken, makeSet, dropSet, addMember, dropMember, setCardinality}
 use Rattle.model.specs.commands.Sessions.{freeFrom, opened, session, activeSet, activate, drop, end, permitted, check}
 use Rattle.decimal.specs.Decimal.{decimal, lead, numbered, takenFrom}
-use Rattle.words.specs.Bytes.{same}
+use Rattle.words.specs.Bytes.{same, bytes}
 use Rattle.words.specs.ScriptWords.{words, spelling, takes, placeIn, which}
 use Rattle.textlines.specs.Parts.{partsOf, upTo}
 use Rattle.reading.specs.Form.{render, wordIn, numbersIn, parse}
 use Rattle.meaning.specs.Meaning.{meanings, meant}
-use Rattle.script.specs.Script.{obey, answerText, totalText}
+use Rattle.script.specs.Script.{obey, answerText, totalText, runLines, runScript}
+use Rattle.transcripts.specs.Rows.{lineOf}
 use Rattle.transcripts.proofs.Scripts.{plain, tallies, rightLines, noFeed, noFeeds, rightScript, prints-rows}
 use Rattle.edges.specs.Edges.{numbers, removals, sets, lists, forms, longLines, openSessions, Edges}
 
@@ -50,6 +51,11 @@ longLines-right : rightScript (plain longLines) "total 0 2" ≡ true
 unfolding some every tally total members has pack those with without union common minus subset isEmpty count juniorsOf joined walk reach turned atOrAbove rising someFrom listed setOf empty put ask assignedUsers assignedRoles authUsers authRoles sessionRoles roleOps userOps setNames setRoles setCount verdict settle step breaks breaksSome staticBroken dynamicBroken shedded shed shedCut sessionsOpen user role nouser norole inSet endedOf allEnded withoutUser withoutRole assign assigned deassign deassigned grant granted revoke revoked inherit lined usersCut disinherit unlined broken makeSet dropSet addMember dropMember setCardinality freeFrom opened session activeSet activate drop end permitted check decimal lead numbered takenFrom same words spelling takes placeIn which partsOf upTo render wordIn numbersIn parse meanings meant obey answerText totalText tallies rightLines noFeed noFeeds rightScript
 longLines-right = refl
 
+-- a last line with no LF
+last-lines : (runScript (bytes "user 7") ≡ lineOf "0" ++ lineOf "total 1 0") × (runScript (lineOf "user 7" ++ bytes "role 3") ≡ lineOf "0" ++ (lineOf "0" ++ lineOf "total 2 0"))
+unfolding some every tally total members has pack those with empty put verdict settle step user role decimal lead numbered takenFrom same words spelling takes placeIn which partsOf upTo render wordIn numbersIn parse meanings meant obey answerText totalText runLines runScript
+last-lines = (refl, refl)
+
 pub edges : Edges
 edges =
     record {
@@ -60,4 +66,6 @@ edges =
       longLines = prints-rows longLines "total 0 2" longLines-right;
       lengths = (refl, refl);
       openSessions = prints-rows openSessions "total 70 4" openSessions-right;
+      onlyLine = last-lines .0;
+      lastLine = last-lines .1;
     }

@@ -4,7 +4,8 @@ use mathlib.Core.Path.{_≡_}
 use Prim.Native.String.{String}
 use lib.ListN.{length}
 use Rattle.words.specs.Bytes.{bytes}
-use Rattle.transcripts.specs.Rows.{Row, _⇒_, Prints}
+use Rattle.script.specs.Script.{runScript}
+use Rattle.transcripts.specs.Rows.{Row, _⇒_, lineOf, Prints}
 
 -- "Users are 0 to 255, roles 0 to 63, sessions 0 to 63 .. Operations 0 to 15 and objects 0 to 255": beyond that a number is answered 1, in every
 -- command and in every question
@@ -341,3 +342,6 @@ pub record Edges : Type 0 where
   pub longLines : Prints longLines "total 0 2"
   pub lengths : (length (bytes bytes512) ≡ 512) × (length (bytes bytes513) ≡ 513)
   pub openSessions : Prints openSessions "total 70 4"
+  -- "A line ends at LF; the last may lack it, and nothing after the last LF is no line.": the only line, and the second of two, without LF
+  pub onlyLine : runScript (bytes "user 7") ≡ lineOf "0" ++ lineOf "total 1 0"
+  pub lastLine : runScript (lineOf "user 7" ++ bytes "role 3") ≡ lineOf "0" ++ (lineOf "0" ++ lineOf "total 2 0")
