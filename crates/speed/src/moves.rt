@@ -9,28 +9,17 @@ use numbers::SetName;
 use numbers::User;
 use state::PLACES;
 
-// The roles of a bench.
-struct Bench {
-    capture: Role,
-    review: Role,
-    release: Role,
-    lead: Role,
-}
-
-fn roles_of(b: u16) -> Bench {
-    let first = b % 16 * 4;
-    Bench {
-        capture: Role { number: first },
-        review: Role { number: first + 1 },
-        release: Role { number: first + 2 },
-        lead: Role { number: first + 3 },
+// The bench's roles: capture (0), review (1), release (2) or lead (3).
+fn of_bench(b: u16, kind: u16) -> Role {
+    Role {
+        number: b % 16 * 4 + kind % 4,
     }
 }
 
 // The spare role of the bench's user: the review of another bench, or the role in the middle of a chain.
 fn spare(depth: u16, b: u16) -> Role {
     if depth < 3 {
-        roles_of(b % 16 + 2).review
+        of_bench(b % 16 + 2, 1)
     } else {
         Role { number: 17 }
     }
@@ -39,7 +28,7 @@ fn spare(depth: u16, b: u16) -> Role {
 // The senior of a line that may be drawn: the bench's lead, or the top of the first chain.
 fn senior(depth: u16, b: u16) -> Role {
     if depth < 3 {
-        roles_of(b).lead
+        of_bench(b, 3)
     } else {
         Role { number: depth - 1 }
     }
@@ -47,37 +36,34 @@ fn senior(depth: u16, b: u16) -> Role {
 
 // `user` and `nouser`, `role` and `norole`: done, refused with 4 and 8.
 fn of_users(state: &mut [u64; PLACES], m: u64, b: u16) -> Answer {
-    let u = User { number: 255 };
-    let r = Role { number: 63 };
     match m {
-        0 => users::user(state, u),
-        1 => users::nouser(state, u),
+        0 => users::user(state, User { number: 255 }),
+        1 => users::nouser(state, User { number: 255 }),
         2 => users::user(state, User { number: b }),
-        3 => roles::norole(state, r),
-        4 => roles::role(state, r),
+        3 => roles::norole(state, Role { number: 63 }),
+        4 => roles::role(state, Role { number: 63 }),
         5 => roles::role(state, Role { number: b }),
-        6 => roles::norole(state, Role { number: b % 16 * 4 }),
+        6 => roles::norole(state, of_bench(b, 0)),
         _ => Answer::Done,
     }
 }
 
 // `assign` and `deassign`: done, refused with 4, 10, 2 and 5.
 fn of_assignments(state: &mut [u64; PLACES], m: u64, depth: u16, b: u16) -> Answer {
-    let u = User { number: b };
     let r = spare(depth, b);
-    let lead = Role {
-        number: top(depth, b),
-    };
-    let release = Role {
-        number: b % 16 * 4 + 2,
-    };
     match m {
-        10 => assigning::assign(state, u, r),
-        11 => assigning::deassign(state, u, r),
-        12 => assigning::assign(state, u, lead),
-        13 => assigning::assign(state, u, release),
+        10 => assigning::assign(state, User { number: b }, r),
+        11 => assigning::deassign(state, User { number: b }, r),
+        12 => assigning::assign(
+            state,
+            User { number: b },
+            Role {
+                number: top(depth, b),
+            },
+        ),
+        13 => assigning::assign(state, User { number: b }, of_bench(b, 2)),
         14 => assigning::assign(state, User { number: 255 }, r),
-        15 => assigning::deassign(state, u, r),
+        15 => assigning::deassign(state, User { number: b }, r),
         _ => Answer::Done,
     }
 }
@@ -85,28 +71,25 @@ fn of_assignments(state: &mut [u64; PLACES], m: u64, depth: u16, b: u16) -> Answ
 // `grant` and `revoke`: done, refused with 4 and 5.
 fn of_grants(state: &mut [u64; PLACES], m: u64, i: u64, b: u16) -> Answer {
     let obj = (i % 256) as u16;
-    let r = Role { number: b };
-    let capture = Role { number: b % 16 * 4 };
     match m {
-        20 => granting::grant(state, 5, obj, r),
-        21 => granting::revoke(state, 5, obj, r),
-        22 => granting::grant(state, 0, b % 16 * 16, capture),
-        23 => granting::revoke(state, 6, obj, r),
+        20 => granting::grant(state, 5, obj, Role { number: b }),
+        21 => granting::revoke(state, 5, obj, Role { number: b }),
+        22 => granting::grant(state, 0, b % 16 * 16, of_bench(b, 0)),
+        23 => granting::revoke(state, 6, obj, Role { number: b }),
         _ => Answer::Done,
     }
 }
 
 // `inherit` and `disinherit`: done, refused with 4, 6, 10 and 5.
 fn of_lines(state: &mut [u64; PLACES], m: u64, depth: u16, b: u16) -> Answer {
-    let s = senior(depth, b);
     let r = spare(depth, b);
-    let of = roles_of(b);
+    let s = senior(depth, b);
     match m {
         30 => inheriting::inherit(state, s, r),
         31 => inheriting::disinherit(state, s, r),
-        32 => inheriting::inherit(state, of.lead, of.capture),
-        33 => inheriting::inherit(state, of.capture, of.lead),
-        34 => inheriting::inherit(state, of.lead, of.release),
+        32 => inheriting::inherit(state, of_bench(b, 3), of_bench(b, 0)),
+        33 => inheriting::inherit(state, of_bench(b, 0), of_bench(b, 3)),
+        34 => inheriting::inherit(state, of_bench(b, 3), of_bench(b, 2)),
         35 => inheriting::disinherit(state, s, r),
         _ => Answer::Done,
     }
@@ -116,19 +99,14 @@ fn of_lines(state: &mut [u64; PLACES], m: u64, depth: u16, b: u16) -> Answer {
 fn of_sets(state: &mut [u64; PLACES], m: u64, kind: Kind, b: u16) -> Answer {
     let name = SetName { number: b };
     let pair = pair_of(kind, b);
-    let other = Role {
-        number: (b % 16 + 5) % 16 * 4,
-    };
-    let lead = Role {
-        number: b % 16 * 4 + 3,
-    };
+    let other = of_bench(b % 16 + 5, 0);
     match m {
         0 => sets::drop_set(state, kind, name),
         1 => sets::make_set(state, kind, name, 2, &pair),
         2 => sets::add_member(state, kind, name, other),
         3 => sets::drop_member(state, kind, name, other),
         4 => sets::set_cardinality(state, kind, name, 2),
-        5 => sets::add_member(state, kind, name, lead),
+        5 => sets::add_member(state, kind, name, of_bench(b, 3)),
         6 => sets::drop_member(state, kind, name, other),
         7 => sets::set_cardinality(state, kind, name, 3),
         _ => Answer::Done,
@@ -143,23 +121,20 @@ fn opened(state: &mut [u64; PLACES], u: User, list: &[u16]) -> Answer {
 
 // `session` and `end`, `activate` and `drop`: done, refused with 9, 3, 4, 5 and 11. Sixteen sessions are open, so that the next is session 16. The two roles of move 68 are those that a dynamic set holds apart.
 fn of_sessions(state: &mut [u64; PLACES], m: u64, depth: u16, b: u16) -> Answer {
-    let u = User { number: b };
-    let other = User { number: b % 16 + 1 };
-    let own = Session { number: b };
-    let of = roles_of(b);
     let lead = top(depth, b);
     let list = [lead];
     let pair = pair_of(Kind::Dynamic, b);
+    let own = Session { number: b };
     match m {
-        60 => opened(state, u, &list),
-        61 => sessions::end(state, u, Session { number: 16 }),
-        62 => sessions::activate(state, u, own, of.capture),
-        63 => sessions::drop(state, u, own, of.capture),
-        64 => opened(state, other, &list),
-        65 => sessions::end(state, other, own),
-        66 => sessions::activate(state, u, own, Role { number: lead }),
-        67 => sessions::drop(state, u, own, of.release),
-        68 => opened(state, u, &pair),
+        60 => opened(state, User { number: b }, &list),
+        61 => sessions::end(state, User { number: b }, Session { number: 16 }),
+        62 => sessions::activate(state, User { number: b }, own, of_bench(b, 0)),
+        63 => sessions::drop(state, User { number: b }, own, of_bench(b, 0)),
+        64 => opened(state, User { number: b % 16 + 1 }, &list),
+        65 => sessions::end(state, User { number: b % 16 + 1 }, own),
+        66 => sessions::activate(state, User { number: b }, own, Role { number: lead }),
+        67 => sessions::drop(state, User { number: b }, own, of_bench(b, 2)),
+        68 => opened(state, User { number: b }, &pair),
         _ => Answer::Done,
     }
 }
