@@ -7,10 +7,9 @@ use native.Mathlib.Omega.{arith}
 use lib.Dec.{eqb}
 use borrow.Author.Tests.{eqb-true}
 use Rattle.roleset.specs.Bounded.{some}
-use Rattle.roleset.specs.Promises.{Lowest}
-use Rattle.roleset.specs.Roles.{has, without, union, isEmpty, count}
+use Rattle.roleset.specs.Roles.{has, without, union, isEmpty}
 use Rattle.roleset.proofs.BoundedLaws.{clash, and-left, and-both, or-left, or-right, or-cases, not-yes, agree, never}
-use Rattle.roleset.proofs.Laws.{those-small, has-none, has-union, has-without, union-small, ext, isEmpty-zero, member-small, count-without}
+use Rattle.roleset.proofs.Laws.{those-small, has-none, has-union, has-without, union-small, ext}
 use Rattle.hierarchy.specs.Lines.{line}
 use Rattle.hierarchy.specs.Walks.{juniorsOf, joined, walk}
 use Rattle.hierarchy.specs.declared.Walk.{Walk}
@@ -55,25 +54,6 @@ module _ (lines : ℕ → ℕ) where
 
   pub juniors-end : (met : ℕ) → met < 2 ^ 64 → union met (juniorsOf lines 0) ≡ met
   juniors-end met l = ext (union met (juniorsOf lines 0)) met (union-small met (juniorsOf lines 0)) l (λ k lk. rw (has-union met (juniorsOf lines 0) k lk, juniors-none k) (or-false (has met k)))
-
--- a set that is not the number 0 is not empty
-pub not-zero : (s : ℕ) → s < 2 ^ 64 → (s ≡ 0 → ⊥) → isEmpty s ≡ false
-not-zero s l n = never (isEmpty s) (λ e. n (isEmpty-zero s l e))
-
--- the lowest role of a set that is not the number 0: it is in the set, and without it there are fewer
-pub record Taken (s r : ℕ) : Type 0 where
-  pub member : has s r ≡ true
-  pub small : r < 64
-  pub fewer : count (without s r) < count s
-
-pub lowest-taken : (s r : ℕ) → s < 2 ^ 64 → (s ≡ 0 → ⊥) → (isEmpty s ≡ false → Lowest s r) → Taken s r
-lowest-taken s r l n low = record { member = here; small = below; fewer = omega (arith, count-without s r below here) }
-  where
-    here : has s r ≡ true
-    here = low (not-zero s l n) .member
-
-    below : r < 64
-    below = member-small s r l here
 
 -- no roles joined to what is met change nothing
 pub union-none : (met : ℕ) → met < 2 ^ 64 → union met 0 ≡ met

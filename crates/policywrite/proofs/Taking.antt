@@ -15,7 +15,7 @@ use Rattle.roleset.specs.Roles.{has, without, isEmpty}
 use Rattle.roleset.proofs.BoundedLaws.{clash}
 use Rattle.roleset.proofs.Laws.{has-none, without-small}
 use Rattle.roleset.proofs.MembersLaws.{members-start, members-taken, members-most}
-use Rattle.hierarchy.proofs.Fronts.{not-zero, Taken, lowest-taken}
+use Rattle.roleset.proofs.Taking.{not-zero, Taken, lowest-taken}
 use Rattle.text.specs.Bytes.{flat}
 use Rattle.text.specs.Places.{Wrote}
 use Rattle.text.proofs.Writing.{wrote-none, wrote-more, flat-none, flat-one, flat-append}

@@ -5,7 +5,8 @@ use native.Mathlib.Omega.{arith}
 use Rattle.roleset.proofs.Laws.{isEmpty-none}
 use Rattle.hierarchy.specs.Lines.{tableOf}
 use Rattle.hierarchy.proofs.WalkLaws.{walk-empty, walk-stopped}
-use Rattle.hierarchy.proofs.Fronts.{not-zero, union-none, walk-step}
+use Rattle.roleset.proofs.Taking.{not-zero}
+use Rattle.hierarchy.proofs.Fronts.{union-none, walk-step}
 use borrow.Fn.Kinds.{In}
 use borrow.Fn.PlainCycle.{Measures, is, falls, and}
 use Rattle.hierarchy.proofs.walk_from.Reads as walk-from

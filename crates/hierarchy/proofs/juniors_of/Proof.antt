@@ -6,7 +6,8 @@ use Rattle.roleset.specs.Roles.{union, count}
 use Rattle.roleset.proofs.Laws.{union-small, without-small}
 use Rattle.hierarchy.specs.Lines.{tableOf}
 use Rattle.hierarchy.specs.Walks.{juniorsOf}
-use Rattle.hierarchy.proofs.Fronts.{juniors-step, juniors-begin, juniors-end, Taken, lowest-taken}
+use Rattle.roleset.proofs.Taking.{Taken, lowest-taken}
+use Rattle.hierarchy.proofs.Fronts.{juniors-step, juniors-begin, juniors-end}
 use Rattle.hierarchy.proofs.juniors_of.Statement.{statement}
 use Rattle.hierarchy.proofs.juniors_of.Tie as tie
 

@@ -7,7 +7,7 @@ use Rattle.roleset.specs.Roles.{count}
 use Rattle.roleset.proofs.Laws.{has-none, without-small}
 use Rattle.hierarchy.specs.Lines.{tableOf}
 use Rattle.hierarchy.specs.Marks.{marked}
-use Rattle.hierarchy.proofs.Fronts.{Taken, lowest-taken}
+use Rattle.roleset.proofs.Taking.{Taken, lowest-taken}
 use Rattle.hierarchy.proofs.Marking.{mark-step}
 use Rattle.hierarchy.proofs.mark.Statement.{statement}
 use Rattle.hierarchy.proofs.mark.Tie as tie

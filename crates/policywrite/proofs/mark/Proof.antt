@@ -8,7 +8,7 @@ use lib.ListN.{length, length-set}
 use Rattle.roleset.specs.Roles.{count}
 use Rattle.roleset.proofs.Laws.{without-small}
 use Rattle.hierarchy.specs.Lines.{tableOf}
-use Rattle.hierarchy.proofs.Fronts.{Taken, lowest-taken}
+use Rattle.roleset.proofs.Taking.{Taken, lowest-taken}
 use Rattle.policyform.specs.Encode.{pairIn}
 use Rattle.policywrite.specs.Parts.{granted}
 use Rattle.policywrite.proofs.Turning.{mark-step, none-left}

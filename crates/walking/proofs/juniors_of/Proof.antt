@@ -8,7 +8,8 @@ use Rattle.state.specs.Places.{juniorsAt}
 use Rattle.state.specs.View.{part}
 use Rattle.state.proofs.Slots.{part-at}
 use Rattle.hierarchy.specs.Walks.{juniorsOf}
-use Rattle.hierarchy.proofs.Fronts.{juniors-step, juniors-begin, juniors-end, Taken, lowest-taken}
+use Rattle.roleset.proofs.Taking.{Taken, lowest-taken}
+use Rattle.hierarchy.proofs.Fronts.{juniors-step, juniors-begin, juniors-end}
 use Rattle.walking.proofs.juniors_of.Statement.{statement}
 use Rattle.walking.proofs.juniors_of.Tie as tie
 
