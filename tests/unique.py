@@ -37,6 +37,7 @@ LAW_OF = {
 # The proofs of promises that have no name: x and y are the results, p and q that they meet the promise, vx and vy that they are of their type.
 BY_HAND = {
     "roleset.count": "p .0 ∙ sym (q .0)",
+    "roleset.size": "p .0 ∙ sym (q .0)",
     "roleset.lowest": "laws.lowest-one (a .0) x y p q",
     "hierarchy.turned": "laws.arrays 64 x y _ (vx .1 .1 .0 .1) (vy .1 .1 .0 .1) p q",
     "textlines.next_from": "λ i. ((p .0 ∙ sym (q .0)) i, (p .1 ∙ sym (q .1)) i)",

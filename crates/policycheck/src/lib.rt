@@ -221,7 +221,7 @@ fn bad_cardinality(set: RoleSet) -> bool
     ensures { λ b. ⌜ b ≡ (set .there && badCardinality (set .card) (set .roles)) ⌝ }
 {
     if set.there {
-        either(set.card < 2, (roleset::count(set.roles) as u64) < set.card)
+        separation::bad_cardinality(set.card, set.roles)
     } else {
         false
     }

@@ -2,7 +2,6 @@
 ghost use mathlib.Core.Path.{_≡_};
 ghost use Prim.Native.Nat.{_<_, _≤_, _+_, _*_, _^_};
 ghost use lib.ListN.{length};
-ghost use Rattle.roleset.specs.Roles.{count};
 ghost use Rattle.hierarchy.specs.Lines.{tableOf};
 ghost use Rattle.model.specs.Model.{standing};
 ghost use Rattle.state.specs.View.{view};
@@ -212,17 +211,6 @@ fn read_sessions(bytes: &[u8], at: usize, state: &mut [u64; PLACES]) -> usize
     next
 }
 
-// How many roles are in the set; one with none is not counted.
-fn size(set: u64) -> u64
-    ensures { λ n. ⌜ (n ≡ count set) × (n ≤ 64) ⌝ }
-{
-    if set == 0 {
-        0
-    } else {
-        roleset::count(set) as u64
-    }
-}
-
 // How many roles are in the sets of a table in all.
 fn members(table: &[u64]) -> u64
     requires { do ⌜ (← ⟦table.len()⟧) ≤ 4096 ⌝ }
@@ -231,7 +219,7 @@ fn members(table: &[u64]) -> u64
     let mut n: u64 = 0;
     let mut k: usize = 0;
     while k < table.len() {
-        n += size(table[k]);
+        n += roleset::size(table[k]);
         k += 1;
     }
     n

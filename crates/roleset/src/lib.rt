@@ -3,7 +3,7 @@
 ghost use mathlib.Core.Bool.{Bool, true, false, _&&_, _||_, not};
 ghost use mathlib.Core.Path.{_≡_};
 ghost use Prim.Native.Nat.{ℕ, _<_, _≤_};
-ghost use lib.Dec.{eqb, ltb};
+ghost use lib.Dec.{eqb, leb, ltb};
 ghost use Rattle.roleset.specs.Roles.{has, with, without, union, common, minus, subset, isEmpty, count};
 ghost use Rattle.roleset.specs.Promises.{Made, Answers, Lowest};
 
@@ -75,4 +75,33 @@ pub fn lowest(s: u64) -> u16
     ensures { λ r. ⌜ (r ≤ 64) × ((isEmpty s ≡ false → Lowest s r) × (isEmpty s ≡ true → r ≡ 64)) ⌝ }
 {
     u64::trailing_zeros(s) as u16
+}
+
+// How many roles are in s, for tables where most sets hold none or one: those are not counted.
+pub fn size(s: u64) -> u64
+    ensures { λ n. ⌜ (n ≡ count s) × (n ≤ 64) ⌝ }
+{
+    if s == 0 {
+        return 0;
+    }
+    if without(s, lowest(s)) == 0 {
+        return 1;
+    }
+    count(s) as u64
+}
+
+// Are n roles or more in s? The lowest are taken away until n are, or none is left: a rule asks for two or three, so that it need not know how many there are.
+pub fn at_least(s: u64, n: u64) -> bool
+    ensures { λ yes. ⌜ yes ≡ leb n (count s) ⌝ }
+{
+    let mut rest = s;
+    let mut left = n;
+    while 0 < left {
+        if rest == 0 {
+            return false;
+        }
+        rest = without(rest, lowest(rest));
+        left -= 1;
+    }
+    true
 }

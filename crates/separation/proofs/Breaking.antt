@@ -1,23 +1,15 @@
--- Breaking is monotone: what no role held breaks, is broken by any roles held. Where nothing is in common, only a cardinality of 0 is reached. Assumes nothing.
+-- Breaking is monotone: what no role held breaks, is broken by any roles held. Assumes nothing.
 use mathlib.Core.Bool.{true}
-use mathlib.Core.Path.{_≡_, sym, ap, _∙_}
+use mathlib.Core.Path.{_≡_, sym, _∙_}
 use Prim.Native.Nat.{ℕ, _<_}
 use native.Mathlib.Omega.{arith}
-use lib.Dec.{eqb, leb}
-use borrow.Author.Tests.{eqb-true, eq-eqb, leb-true, le-leb}
+use lib.Dec.{leb}
+use borrow.Author.Tests.{leb-true, le-leb}
 use Rattle.roleset.specs.Roles.{has, common, count}
-use Rattle.roleset.proofs.BoundedLaws.{clash, agree, and-left, and-right, and-both, some-intro, some-elim}
-use Rattle.roleset.proofs.Laws.{has-common, has-none, count-mono, count-none}
+use Rattle.roleset.proofs.BoundedLaws.{clash, and-left, and-right, and-both, some-intro, some-elim}
+use Rattle.roleset.proofs.Laws.{has-common, has-none, count-mono}
 use Rattle.model.specs.Model.{RoleSet}
 use Rattle.model.specs.Words.{breaks, breaksSome}
-
--- a count of 0 reaches a cardinality of 0 alone
-pub none-common : (card common : ℕ) → common ≡ 0 → eqb card 0 ≡ leb card (count common)
-none-common card common e =
-    let z : count common ≡ 0 = ap count e ∙ count-none in
-    agree (eqb card 0) (leb card (count common))
-    (λ h. let p = eqb-true card 0 h in le-leb card (count common) (omega arith))
-    (λ h. let p = leb-true card (count common) h in eq-eqb card 0 (omega arith))
 
 module _ (held more : ℕ) (grows : (k : ℕ) → k < 64 → has held k ≡ true → has more k ≡ true) where
   -- more roles held share as many with a set, or more

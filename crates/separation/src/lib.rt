@@ -1,7 +1,7 @@
 // The separation rule, for a set of roles and a cardinality: what SSD and DSD share.
 ghost use mathlib.Core.Path.{_≡_};
 ghost use Rattle.model.specs.Words.{breaks, breaksSome};
-ghost use Rattle.model.specs.commands.Sets.{setsOf};
+ghost use Rattle.model.specs.commands.Sets.{badCardinality, setsOf};
 ghost use Rattle.state.specs.View.{view};
 use model::Kind;
 use model::RoleSet;
@@ -9,19 +9,25 @@ use numbers::SetName;
 use state::PLACES;
 use state::reads::set_named;
 
-// Are as many of the set's roles as its cardinality, or more, among the roles held? They are not counted where none is: then only a cardinality of 0 is reached.
+// Are as many of the set's roles as its cardinality, or more, among the roles held?
 pub fn breaks(set: RoleSet, held: u64) -> bool
     ensures { λ b. ⌜ b ≡ breaks set held ⌝ }
 {
     if set.there {
-        let shared = roleset::common(set.roles, held);
-        if shared == 0 {
-            set.card == 0
-        } else {
-            set.card <= roleset::count(shared) as u64
-        }
+        roleset::at_least(roleset::common(set.roles, held), set.card)
     } else {
         false
+    }
+}
+
+// Is the cardinality below 2, or above the number of the roles?
+pub fn bad_cardinality(n: u64, roles: u64) -> bool
+    ensures { λ b. ⌜ b ≡ badCardinality n roles ⌝ }
+{
+    if n < 2 {
+        true
+    } else {
+        !roleset::at_least(roles, n)
     }
 }
 

@@ -2,7 +2,7 @@
 ghost use mathlib.Core.Path.{_≡_};
 ghost use Rattle.numbers.specs.Answers.{numberOf};
 ghost use Rattle.model.specs.Sheet.{verdict};
-ghost use Rattle.model.specs.commands.Sets.{ruleNumber, badCardinality, makeSet, dropSet, addMember, dropMember, setCardinality};
+ghost use Rattle.model.specs.commands.Sets.{ruleNumber, makeSet, dropSet, addMember, dropMember, setCardinality};
 ghost use Rattle.state.specs.View.{view, told};
 ghost use Rattle.sets.specs.Asking.{ruleRefusals};
 use model::Kind;
@@ -27,13 +27,6 @@ fn rule_answer(kind: Kind) -> Answer
         Kind::Static => Answer::BreaksStatic,
         Kind::Dynamic => Answer::BreaksDynamic,
     }
-}
-
-// Is the cardinality below 2, or above the number of the roles?
-fn bad_cardinality(n: u64, roles: u64) -> bool
-    ensures { λ b. ⌜ b ≡ badCardinality n roles ⌝ }
-{
-    either(n < 2, (roleset::count(roles) as u64) < n)
 }
 
 // The last refusals of a command that would store this set: its rule would be broken; 10 or 11, 13.
@@ -75,7 +68,7 @@ pub fn make_set(
         return Answer::AlreadyThere;
     }
     let card = n as u64;
-    if bad_cardinality(card, read.roles) {
+    if separation::bad_cardinality(card, read.roles) {
         return Answer::BadCardinality;
     }
     let new = RoleSet {
@@ -149,7 +142,7 @@ pub fn drop_member(state: &mut [u64; PLACES], kind: Kind, name: SetName, r: Role
         return Answer::NotThere;
     }
     let rest = roleset::without(old.roles, r.number);
-    if bad_cardinality(old.card, rest) {
+    if separation::bad_cardinality(old.card, rest) {
         return Answer::BadCardinality;
     }
     put_members(state, kind, name, rest);
@@ -168,7 +161,7 @@ pub fn set_cardinality(state: &mut [u64; PLACES], kind: Kind, name: SetName, n: 
         return Answer::Missing;
     }
     let card = n as u64;
-    if bad_cardinality(card, old.roles) {
+    if separation::bad_cardinality(card, old.roles) {
         return Answer::BadCardinality;
     }
     let new = RoleSet {

@@ -18,6 +18,8 @@ roleset =
       is-empty = λ κs a x y e f vx vy p q. laws.answers-one p q;
       count = λ κs a x y e f vx vy p q. p .0 ∙ sym (q .0);
       lowest = λ κs a x y e f vx vy p q. laws.lowest-one (a .0) x y p q;
+      size = λ κs a x y e f vx vy p q. p .0 ∙ sym (q .0);
+      at-least = λ κs a x y e f vx vy p q. p ∙ sym q;
     }
 
 pub numbers : promises.Numbers
@@ -93,6 +95,7 @@ pub separation : promises.Separation
 separation =
     record {
       breaks = λ κs a x y e f vx vy p q. p ∙ sym q;
+      bad-cardinality = λ κs a x y e f vx vy p q. p ∙ sym q;
       breaks-some = λ κs a x y e f vx vy p q. p ∙ sym q;
     }
 

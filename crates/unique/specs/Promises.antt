@@ -49,6 +49,8 @@ pub record Roleset : Type 0 where
   pub is-empty : Unique roleset.is_empty.Kinds.ps roleset.is_empty.Kinds.r roleset.is_empty.Reads.Post
   pub count : Unique roleset.count.Kinds.ps roleset.count.Kinds.r roleset.count.Reads.Post
   pub lowest : Unique roleset.lowest.Kinds.ps roleset.lowest.Kinds.r roleset.lowest.Reads.Post
+  pub size : Unique roleset.size.Kinds.ps roleset.size.Kinds.r roleset.size.Reads.Post
+  pub at-least : Unique roleset.at_least.Kinds.ps roleset.at_least.Kinds.r roleset.at_least.Reads.Post
 
 pub record Numbers : Type 0 where
   pub number-of : Unique numbers.number_of.Kinds.ps numbers.number_of.Kinds.r numbers.number_of.Reads.Post
@@ -109,6 +111,7 @@ pub record Walking : Type 0 where
 
 pub record Separation : Type 0 where
   pub breaks : Unique separation.breaks.Kinds.ps separation.breaks.Kinds.r separation.breaks.Reads.Post
+  pub bad-cardinality : Unique separation.bad_cardinality.Kinds.ps separation.bad_cardinality.Kinds.r separation.bad_cardinality.Reads.Post
   pub breaks-some : Unique separation.breaks_some.Kinds.ps separation.breaks_some.Kinds.r separation.breaks_some.Reads.Post
 
 pub record Sweeps : Type 0 where

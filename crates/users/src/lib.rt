@@ -36,7 +36,7 @@ pub fn nouser(state: &mut [u64; PLACES], u: User) -> Answer
     if !has_user(state, u) {
         return Answer::Missing;
     }
-    let gone = roleset::count(assigned_to(state, u)) as u64;
+    let gone = roleset::size(assigned_to(state, u));
     let left = less(assignment_count(state), gone);
     sweeps::end_all(state, u);
     put_assigned(state, u, 0, left);

@@ -35,8 +35,8 @@ found-2 c = ap not (sym (c .has-user .ensures))
 -- how many assignments are left
 left : (c : tie.After-less) → let s = to-start (c .before .before .before .before .before .before .before .before .before) in c .less .result ≡ m s .assignmentCount - count (m s .assigned (name s))
 left c =
-    let less : c .less .result ≡ c .before .assignment-count .result - c .before .before .before .count .result = c .less .ensures in
-    less ∙ ap₂ (λ (n gone : ℕ). n - gone) (c .before .assignment-count .ensures) (c .before .before .before .count .ensures .0 ∙ ap count (c .before .before .before .before .assigned-to .ensures))
+    let less : c .less .result ≡ c .before .assignment-count .result - c .before .before .before .size .result = c .less .ensures in
+    less ∙ ap₂ (λ (n gone : ℕ). n - gone) (c .before .assignment-count .ensures) (c .before .before .before .size .ensures .0 ∙ ap count (c .before .before .before .before .assigned-to .ensures))
 
 returns : tie.Need-returns
 unfolding told nouser settle verdict
@@ -66,7 +66,6 @@ nouser-spec =
     returns-2
     (λ c κs. search needs)
     (λ c κs. search needs)
-    (λ c. search needs)
     (λ c κs. search needs)
     (λ c κs. search needs)
     (λ c κs. search needs)
