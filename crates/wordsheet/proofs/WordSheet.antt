@@ -56,7 +56,7 @@ said =
     record { line = "session-perms 0"; answer = "0 1822 4095"; told = sessionTold 0; is = session-told 0 } ∷
     []
 
-permissions-right : rightScript (plain granting ++ (said ++ plain revoking)) "total 20 0" ≡ true
+permissions-right : rightScript (plain granting ++ (said ++ plain revoking)) "total 23 0" ≡ true
 unfolding some every tally total members has pack those with without union common minus subset isEmpty count juniorsOf joined walk reach turned atOrAbove rising someFrom listed setOf empty put ask assignedUsers assignedRoles authUsers authRoles sessionRoles roleOps userOps setNames setRoles setCount verdict settle step breaks breaksSome staticBroken dynamicBroken shedded shed shedCut sessionsOpen user role nouser norole inSet endedOf allEnded withoutUser withoutRole assign assigned deassign deassigned grant granted revoke revoked inherit lined usersCut disinherit unlined broken makeSet dropSet addMember dropMember setCardinality freeFrom opened session activeSet activate drop end permitted check decimal lead numbered takenFrom same words spelling takes placeIn which partsOf upTo render wordIn numbersIn parse meanings meant obey answerText totalText tallies rightLines noFeed noFeeds rightScript quick said
 permissions-right = refl
 
@@ -66,7 +66,7 @@ word-sheet =
     record {
       people = prints-rows people "total 24 1" people-right;
       sessions = prints-rows sessions "total 18 1" sessions-right;
-      permissions = prints-said (plain granting ++ (said ++ plain revoking)) "total 20 0" permissions-right;
+      permissions = prints-said (plain granting ++ (said ++ plain revoking)) "total 23 0" permissions-right;
       sets = prints-rows sets "total 32 3" sets-right;
       oneTooFew = prints-rows oneTooFew "total 0 39" oneTooFew-right;
       oneTooMany = prints-rows oneTooMany "total 0 38" oneTooMany-right;

@@ -101,11 +101,14 @@ permissions =
     "session-perms 0" ⇒ "0 1822 4095" ∷
     []
 
--- `revoke`, after those
+-- `revoke`, after those; and a role that was deleted and is there again holds nothing
 abbrev pub revoking : List Row
 revoking =
     "revoke 7 30 1" ⇒ "0" ∷
     "check 0 7 30" ⇒ "0 0" ∷
+    "norole 4" ⇒ "0" ∷
+    "role 4" ⇒ "0" ∷
+    "role-ops 4 30" ⇒ "0" ∷
     []
 
 -- the five `ssd` and the five `dsd` commands, and the three questions for each kind
@@ -244,7 +247,7 @@ oneTooMany =
 pub record WordSheet : Type 0 where
   pub people : Prints people "total 24 1"
   pub sessions : Prints sessions "total 18 1"
-  pub permissions : Prints (granting ++ (permissions ++ revoking)) "total 20 0"
+  pub permissions : Prints (granting ++ (permissions ++ revoking)) "total 23 0"
   pub sets : Prints sets "total 32 3"
   pub oneTooFew : Prints oneTooFew "total 0 39"
   pub oneTooMany : Prints oneTooMany "total 0 38"
