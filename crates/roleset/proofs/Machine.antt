@@ -1,21 +1,21 @@
 -- What the machine's operations on a `u64` do to its members: each law is what one function's contract asks. Assumes nothing.
 use mathlib.Core.Bool.{Bool, true, false, not, _&&_, _||_, and-true, or-false}
 use mathlib.Core.Logic.{_⊎_, inl, inr}
-use mathlib.Core.Path.{_≡_, refl, sym, ap, ap₂, _∙_, subst}
+use mathlib.Core.Path.{_≡_, refl, sym, ap, _∙_}
 use Prim.Native.Nat.{ℕ, zero, suc, _+_, _*_, _/_, _%_, _^_, _-_, _≤_, _<_}
 use native.Mathlib.Omega.{arith}
 use native.Mathlib.Decide.{decLt}
-use native.Mathlib.Nat.{mod-lt, mod-eq-of-lt, div-eq-of-lt, pow-succ', div-lt-iff-lt-mul, one-mul}
+use native.Mathlib.Nat.{mod-lt, mod-eq-of-lt, div-eq-of-lt, one-mul}
 use lib.Dec.{eqb, ltb}
-use lib.Pow.{split, pow-pos, pow-lt, shr-shr}
+use lib.Pow.{pow-pos, pow-lt, shr-shr}
 use lib.Bits.{bitAnd, bitOr, bitXor, xor-shr, xor-step, or-lt, and-lt, xor-lt, differ}
-use lib.Count.{ones, ones-cat, trailingZeros, under, trailing-of-zero}
+use lib.Count.{trailingZeros, under, trailing-of-zero}
 use borrow.Author.Tests.{eq-eqb, ne-eqb, eqb-true, lt-ltb}
-use Rattle.roleset.specs.Bounded.{bit, tally}
-use Rattle.roleset.specs.Roles.{has, those, with, without, union, common, minus, subset, isEmpty, count}
+use Rattle.roleset.specs.Bounded.{bit}
+use Rattle.roleset.specs.Roles.{has, those, with, without, union, common, minus, subset, isEmpty}
 use Rattle.roleset.specs.Promises.{Made, Answers, Lowest}
-use Rattle.roleset.proofs.BoundedLaws.{clash, and-left, and-right, agree, never, tally-ext}
-use Rattle.roleset.proofs.Laws.{digit, digit-bit, has-mod, has-top, has-low, has-none, is-those, has-or, has-and, ext, subset-true, subset-intro, member-small, isEmpty-zero, isEmpty-false, isEmpty-none}
+use Rattle.roleset.proofs.BoundedLaws.{clash, and-left, and-right, agree, never}
+use Rattle.roleset.proofs.Laws.{digit, has-top, has-low, has-none, is-those, has-or, has-and, ext, subset-true, subset-intro, member-small, isEmpty-zero, isEmpty-false, isEmpty-none}
 
 -- a number below 2 ^ 64 whose members are those that pass the test is the set that the definition gives
 made : (s : ℕ) (f g : ℕ → Bool) → s < 2 ^ 64 → ((k : ℕ) → has s k ≡ g k) → ((k : ℕ) → k < 64 → g k ≡ f k) → Made s (those f) g
@@ -136,32 +136,6 @@ and-subset a b ha hb = record { is = agree (eqb (bitAnd a b) a) (subset a b) (λ
 
 pub zero-empty : (s : ℕ) → s < 2 ^ 64 → Answers (eqb s 0) (isEmpty s) ((k : ℕ) → has s k ≡ false)
 zero-empty s h = record { is = agree (eqb s 0) (isEmpty s) (λ e. rw (eqb-true s 0 e) isEmpty-none) (λ e. eq-eqb s 0 (isEmpty-zero s h e)); yes-means = λ e k. rw (eqb-true s 0 e) (has-none k); means-yes = λ f. eq-eqb s 0 (ext s 0 h (omega arith) (λ k l. f k ∙ sym (has-none k))) }
-
--- ---- counts of digits
-
-ones-digit : (d : ℕ) → d < 2 → ones d ≡ d
-unfolding ones
-ones-digit zero h = refl
-ones-digit (suc zero) h = refl
-ones-digit (suc (suc d)) h = absurd (omega arith)
-
-ones-tally : (n s : ℕ) → s < 2 ^ n → ones s ≡ tally n (has s)
-unfolding tally ones has
-ones-tally zero s h = let e : s ≡ 0 = omega arith in rw e
-ones-tally (suc n) s h = go (ones-tally n (s % 2 ^ n) (mod-lt s (pow-pos n)))
-  where
-    small : s / 2 ^ n < 2
-    small = div-lt-iff-lt-mul (pow-pos n) .1 (subst (λ (x : ℕ). s < x) (pow-succ' 2 n) h)
-
-    top : s / 2 ^ n ≡ bit (has s n)
-    top = digit-bit (s / 2 ^ n) small
-
-    go : ones (s % 2 ^ n) ≡ tally n (has (s % 2 ^ n)) → ones s ≡ bit (has s n) + tally n (has s)
-    go ih = ap ones (sym (split s n)) ∙ ones-cat n (s / 2 ^ n) (s % 2 ^ n) (mod-lt s (pow-pos n)) ∙ ap₂ (λ (x y : ℕ). x + y) (ones-digit (s / 2 ^ n) small ∙ top) (ih ∙ tally-ext n (has (s % 2 ^ n)) (has s) (has-mod s n))
-
-pub ones-count : (s : ℕ) → s < 2 ^ 64 → ones s ≡ count s
-unfolding count
-ones-count s h = ones-tally 64 s h
 
 -- ---- the lowest member
 

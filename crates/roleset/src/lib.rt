@@ -63,11 +63,17 @@ pub fn is_empty(s: u64) -> bool
     s == 0
 }
 
-// How many roles are in s. Every count of roles goes through this function.
+// How many roles are in s: each role from 0 to 63 is looked at once, and one is added for each that is in s. Every count of roles goes through this function.
 pub fn count(s: u64) -> u16
     ensures { λ n. ⌜ (n ≡ count s) × (n ≤ 64) ⌝ }
 {
-    u64::count_ones(s) as u16
+    let mut n = 0;
+    for r in 0..64 {
+        if has(s, r) {
+            n += 1;
+        }
+    }
+    n
 }
 
 // The lowest role of s; 64 where it has none.

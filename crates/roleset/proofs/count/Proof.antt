@@ -1,15 +1,63 @@
--- The machine counts the ones. Assumes nothing.
+-- Of the roles passed, those in the set are counted. Assumes nothing.
+use borrow.Author.Needs.{needs}
+use mathlib.Core.Bool.{true, false}
+use mathlib.Core.Logic.{⊎-elim}
+use mathlib.Core.Path.{_≡_, refl, sym, ap, _∙_}
+use Prim.Native.Nat.{_≤_, _-_}
 use native.Mathlib.Omega.{arith}
-use lib.Count.{ones-le}
-use Rattle.roleset.proofs.Machine.{ones-count}
+use Rattle.roleset.specs.Bounded.{bit, tally}
+use Rattle.roleset.specs.Roles.{has, count}
+use Rattle.roleset.proofs.BoundedLaws.{tally-le, tally-step}
 use Rattle.roleset.proofs.count.Statement.{statement}
 use Rattle.roleset.proofs.count.Tie as tie
 
-cast-result : tie.Need-cast-result
-cast-result c = omega (arith, ones-le 64 (c .args .s) (c .fits .s .fits))
+abbrev Inv-loop : tie.InvT-loop
+Inv-loop s n₀ r₀ n r = (r ≤ 64) × (n ≡ tally r (has s))
 
-returns : tie.Need-returns
-returns c = (ones-count (c .args .s) (c .fits .s .fits), ones-le 64 (c .args .s) (c .fits .s .fits))
+abbrev μ-loop : tie.MeasureT-loop
+μ-loop s n₀ r₀ n r = 64 - r
+
+loop-holds : tie.Need-loop-holds Inv-loop μ-loop
+unfolding tally
+loop-holds c = (omega arith, refl)
+
+add-n : tie.Need-add-n Inv-loop μ-loop
+add-n c =
+    let at = c .before .before .before in
+    omega (arith, tally-le (at .loop .r) (has (at .before .args .s)))
+
+loop-again : tie.Need-loop-again Inv-loop μ-loop
+loop-again c =
+    let at = c .before .before .before in
+    let s = at .before .args .s in
+    let r = at .loop .r in
+    let asked : has s r ≡ c .before .has .result = sym (c .before .has .ensures) in (
+      omega arith,
+      ⊎-elim
+          (λ w. let member : has s r ≡ true = asked ∙ w .0 .taken in omega (arith, tally-step r (has s), ap bit member, w .1, at .loop .inv .1))
+          (λ w. let other : has s r ≡ false = asked ∙ w .0 .left in omega (arith, tally-step r (has s), ap bit other, w .1, at .loop .inv .1))
+          (c .if1 .came),
+    )
+
+returns : tie.Need-returns Inv-loop μ-loop
+unfolding count
+returns c =
+    let at = c .before in
+    let s = at .before .args .s in
+    let all : at .loop .r ≡ 64 = omega arith in
+    let counted : at .loop .n ≡ tally 64 (has s) = rw all at (at .loop .inv .1) in
+    (counted, omega (arith, tally-le 64 (has s)))
 
 pub count-spec : {M : Type 1} → statement M
-count-spec = tie.close (tie.spec cast-result returns)
+count-spec =
+    tie.close
+    (tie.spec
+    Inv-loop
+    μ-loop
+    loop-holds
+    (λ c κs. search needs)
+    add-n
+    (λ c. search needs)
+    (λ c. search needs)
+    loop-again
+    returns)
