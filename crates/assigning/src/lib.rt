@@ -19,7 +19,7 @@ use state::reads::has_user;
 use state::stores::put_all_active;
 use state::stores::put_assigned;
 
-// The role is assigned to the user; 1, 2, 4, 10, 12, 13.
+// The role is assigned to the user; 1, 2, 4, 10, 12.
 pub fn assign(state: &mut [u64; PLACES], u: User, r: Role) -> Answer
     ensures { λ a. ⌜ told a (now (state .exit)) ≡ assign (view (now (state .entry))) (u .number) (r .number) ⌝ }
 {
@@ -34,22 +34,19 @@ pub fn assign(state: &mut [u64; PLACES], u: User, r: Role) -> Answer
         return Answer::AlreadyThere;
     }
     let new = roleset::with(old, r.number);
-    let walk = walking::reach(state, new);
-    if breaks_some(state, Kind::Static, walk.roles) {
+    let authorised = walking::reach(state, new);
+    if breaks_some(state, Kind::Static, authorised) {
         return Answer::BreaksStatic;
     }
     let assignments = assignment_count(state);
     if 2048 <= assignments {
         return Answer::TableFull;
     }
-    if walk.cut {
-        return Answer::ChainTooLong;
-    }
     put_assigned(state, u, new, assignments + 1);
     Answer::Done
 }
 
-// The assignment goes; then the sessions shed; 1, 2, 5, 13.
+// The assignment goes; then the sessions shed; 1, 2, 5.
 pub fn deassign(state: &mut [u64; PLACES], u: User, r: Role) -> Answer
     ensures { λ a. ⌜ told a (now (state .exit)) ≡ deassign (view (now (state .entry))) (u .number) (r .number) ⌝ }
 {
@@ -68,11 +65,8 @@ pub fn deassign(state: &mut [u64; PLACES], u: User, r: Role) -> Answer
     let mut assigned = assigned_table(state);
     assigned[u.number as usize] = new;
     let kept = sweeps::shed(&juniors, &assigned, state);
-    if kept.cut {
-        return Answer::ChainTooLong;
-    }
     let left = less(assignment_count(state), 1);
     put_assigned(state, u, new, left);
-    put_all_active(state, &kept.active);
+    put_all_active(state, &kept);
     Answer::Done
 }

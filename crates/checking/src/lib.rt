@@ -46,7 +46,7 @@ pub fn owner(state: &[u64; PLACES], x: Session) -> Owned
     }
 }
 
-// May the session do the operation on the object? Yes exactly when some effective role holds the grant; 1, 2, 13. Nothing is copied.
+// May the session do the operation on the object? Yes exactly when some effective role holds the grant; 1, 2. Nothing is copied.
 pub fn check(state: &[u64; PLACES], x: Session, op: u16, obj: u16) -> Checked
     ensures { λ a. ⌜ Checks (view (now (state .entry))) (check (view (now (state .entry))) (x .number) op obj) a ⌝ }
 {
@@ -63,15 +63,9 @@ pub fn check(state: &[u64; PLACES], x: Session, op: u16, obj: u16) -> Checked
             yes: false,
         };
     }
-    let walk = reach(state, session.active);
-    if walk.cut {
-        return Checked {
-            answer: Answer::ChainTooLong,
-            yes: false,
-        };
-    }
+    let effective = reach(state, session.active);
     let holders = holders_of(state, op as usize * 256 + obj as usize);
-    let holding = roleset::common(walk.roles, holders);
+    let holding = roleset::common(effective, holders);
     Checked {
         answer: Answer::Done,
         yes: !roleset::is_empty(holding),

@@ -11,7 +11,6 @@ use Rattle.roleset.specs.Bounded.{some}
 use Rattle.roleset.specs.Roles.{has, common, count}
 use Rattle.roleset.proofs.BoundedLaws.{clash, some-intro, some-elim}
 use Rattle.roleset.proofs.Laws.{member-small, has-none, common-small}
-use Rattle.hierarchy.specs.Lines.{Acyclic}
 use Rattle.hierarchy.proofs.WalkLaws.{reach-small}
 use Rattle.model.specs.Model.{Model, RoleSet, Session}
 use Rattle.model.specs.Words.{authorised, breaks, breaksSome, staticBroken, dynamicBroken}
@@ -75,9 +74,9 @@ module _ (n : ℕ) (sets : ℕ → RoleSet) (held : ℕ → ℕ) (Holds : ℕ �
 -- ---- of a policy, whether or not it breaks a rule
 
 -- The computed set of the roles that a user is authorised for is what the paper's sentence says, where no role inherits itself.
-pub authorises : (m : Model) → Shape m → Acyclic (m .juniors) → (u r : ℕ) → (has (authorised m u) r ≡ true) ↔ Authorised m u r
-authorises m x acyclic u r =
-    let e = reached-exact m x acyclic (m .assigned u) (x .assigned u) r in
+pub authorises : (m : Model) → Shape m → (u r : ℕ) → (has (authorised m u) r ≡ true) ↔ Authorised m u r
+authorises m x u r =
+    let e = reached-exact m x (m .assigned u) (x .assigned u) r in
     ((λ h. let p = e .0 h in record { exists = p .0; through = p .1 }), (λ a. e .1 (a .exists, a .through)))
 
 -- Nobody beyond 255 is authorised for a role.
@@ -91,9 +90,9 @@ nobody-beyond m x u r l a = go (a .through)
 two-above : {n : ℕ} → 2 ≤ n → 0 < n
 two-above h = omega arith
 
-pub static-exact : (m : Model) → Shape m → Acyclic (m .juniors) → (wouldBreak Static m ≡ true) ↔ StaticBroken m
+pub static-exact : (m : Model) → Shape m → (wouldBreak Static m ≡ true) ↔ StaticBroken m
 unfolding staticBroken
-static-exact m x acyclic = broken-exact 256 (m .ssd) (authorised m) (Authorised m) (λ u. reach-small (m .juniors) (m .assigned u)) (authorises m x acyclic) (nobody-beyond m x) (λ name. x .ssd name .named) (λ name t. two-above (x .ssd name .atLeast t))
+static-exact m x = broken-exact 256 (m .ssd) (authorised m) (Authorised m) (λ u. reach-small (m .juniors) (m .assigned u)) (authorises m x) (nobody-beyond m x) (λ name. x .ssd name .named) (λ name t. two-above (x .ssd name .atLeast t))
 
 pub dynamic-exact : (m : Model) → Shape m → (wouldBreak Dynamic m ≡ true) ↔ DynamicBroken m
 unfolding dynamicBroken

@@ -5,6 +5,7 @@ use mathlib.Core.Path.{_≡_, refl}
 use Prim.Native.Nat.{ℕ}
 use native.Mathlib.Omega.{arith}
 use Rattle.roleset.proofs.BoundedLaws.{and-left, and-right}
+use Rattle.numbers.specs.Answers.{withNumber}
 use Rattle.model.specs.Model.{Model}
 use Rattle.model.specs.Sheet.{Refusal, Told, settle}
 use Rattle.model.specs.Sound.{Sound}
@@ -17,8 +18,8 @@ use Rattle.model.specs.commands.Sessions.{session, activate, drop, end}
 use Rattle.model.specs.declared.Command.{Command}
 use Rattle.model.specs.declared.Command.the-variants.{AddUser, AddRole, NoUser, NoRole, Assign, Deassign, Grant, Revoke, Inherit, Disinherit, MakeSet, DropSet, AddMember, DropMember, SetCardinality, OpenSession, Activate, DropActive, EndSession}
 use Rattle.model.specs.declared.Kind.the-variants.{Static, Dynamic}
-use Rattle.sound.proofs.Sheet.{positive, ordered, absent, not-told}
-use Rattle.sound.proofs.Listed.{assign-listed, deassign-listed, grant-listed, inherit-listed, disinherit-listed, norole-listed, makeSet-listed, addMember-listed, setCardinality-listed, session-listed, activate-listed}
+use Rattle.sound.proofs.Sheet.{positive, ordered}
+use Rattle.sound.proofs.Listed.{assign-listed, grant-listed, inherit-listed, makeSet-listed, addMember-listed, setCardinality-listed, session-listed, activate-listed}
 use Rattle.sound.proofs.Users.{user-sound, role-sound, nouser-sound}
 use Rattle.sound.proofs.Shedding.{deassign-sound, disinherit-sound, norole-sound}
 use Rattle.sound.proofs.Assigning.{assign-sound, grant-sound, revoke-sound}
@@ -27,7 +28,7 @@ use Rattle.sound.proofs.Sets.{makeSet-sound, dropSet-sound, addMember-sound, dr
 use Rattle.sound.proofs.Sessions.{session-sound, activate-sound, drop-sound, end-sound}
 use Rattle.demands.specs.Demand1.{Harmless}
 use Rattle.demands.specs.Demand2.{refusals, results, effect}
-use Rattle.demands.proofs.Settled.{below, settled-below, settled-harmless}
+use Rattle.demands.proofs.Settled.{below, settled-below, numbered, allNumbered, settled-harmless}
 
 -- what is shown of a command that tells so
 pub record Shown (m : Model) (c : Command) (list : List ℕ) (told : Told) : Type 0 where
@@ -40,38 +41,34 @@ pub record Shown (m : Model) (c : Command) (list : List ℕ) (told : Told) : Typ
   -- on a sound policy it settles by that list, and leaves a sound one
   pub listed : Sound m → told ≡ settle (refusals m c list) m (results m c list) (effect m c list)
   pub kept : Sound m → Sound (told .after)
-  -- where it is not answered 13: no chain of more than 64 roles is met
-  pub never-13 : Sound m → told .answer ≡ 13 → ⊥
 
--- The same from what differs: that the numbers of its list in the model are below 15, that the paper's list is in order and has no 13, and the two
--- laws of the command.
-by : {m : Model} {c : Command} {list : List ℕ} (rs : List Refusal) (gives : List ℕ) (after : Model) → below 15 rs ≡ true → (ordered (refusals m c list) && (positive (refusals m c list) && absent 13 (refusals m c list))) ≡ true → (Sound m → settle rs m gives after ≡ settle (refusals m c list) m (results m c list) (effect m c list)) → (Sound m → Sound (settle rs m gives after .after)) → Shown m c list (settle rs m gives after)
+-- The same from what differs: that the numbers of its list in the model are below 15 and on the sheet, that the paper's list is in order and has no
+-- 0, and the two laws of the command.
+by : {m : Model} {c : Command} {list : List ℕ} (rs : List Refusal) (gives : List ℕ) (after : Model) → (below 15 rs && allNumbered rs) ≡ true → (ordered (refusals m c list) && positive (refusals m c list)) ≡ true → (Sound m → settle rs m gives after ≡ settle (refusals m c list) m (results m c list) (effect m c list)) → (Sound m → Sound (settle rs m gives after .after)) → Shown m c list (settle rs m gives after)
 by {m} {c} {list} rs gives after small order listed kept =
     let paper = refusals m c list in
-    let h = settled-below 15 rs m gives after (omega arith) small in
-    let rest = and-right (ordered paper) (positive paper && absent 13 paper) order in
+    let h = settled-below 15 rs m gives after (omega arith) (and-left (below 15 rs) (allNumbered rs) small) in
     record {
-      harmless = settled-harmless rs m gives after (omega arith);
+      harmless = settled-harmless rs m gives after (and-right (below 15 rs) (allNumbered rs) small);
       never-15 = λ e. omega arith;
-      ordered = and-left (ordered paper) (positive paper && absent 13 paper) order;
-      positive = and-left (positive paper) (absent 13 paper) rest;
+      ordered = and-left (ordered paper) (positive paper) order;
+      positive = and-right (ordered paper) (positive paper) order;
       listed = listed;
       kept = kept;
-      never-13 = λ s. not-told 13 paper m (results m c list) (effect m c list) (settle rs m gives after) (omega arith) (and-right (positive paper) (absent 13 paper) rest) (listed s);
     }
 
 pub shown : (m : Model) (c : Command) (list : List ℕ) → Shown m c list (step m c list)
-unfolding step refusals results effect user role nouser norole assign deassign grant revoke inherit disinherit makeSet dropSet addMember dropMember setCardinality session activate drop end
+unfolding step numbered withNumber refusals results effect user role nouser norole assign deassign grant revoke inherit disinherit makeSet dropSet addMember dropMember setCardinality session activate drop end
 shown m (AddUser u) list = by _ _ _ refl refl (λ s. refl) (user-sound m (u .number))
 shown m (AddRole r) list = by _ _ _ refl refl (λ s. refl) (role-sound m (r .number))
 shown m (NoUser u) list = by _ _ _ refl refl (λ s. refl) (nouser-sound m (u .number))
-shown m (NoRole r) list = by _ _ _ refl refl (norole-listed m (r .number)) (norole-sound m (r .number))
+shown m (NoRole r) list = by _ _ _ refl refl (λ s. refl) (norole-sound m (r .number))
 shown m (Assign u r) list = by _ _ _ refl refl (assign-listed m (u .number) (r .number)) (assign-sound m (u .number) (r .number))
-shown m (Deassign u r) list = by _ _ _ refl refl (deassign-listed m (u .number) (r .number)) (deassign-sound m (u .number) (r .number))
+shown m (Deassign u r) list = by _ _ _ refl refl (λ s. refl) (deassign-sound m (u .number) (r .number))
 shown m (Grant op obj r) list = by _ _ _ refl refl (grant-listed m op obj (r .number)) (grant-sound m op obj (r .number))
 shown m (Revoke op obj r) list = by _ _ _ refl refl (λ s. refl) (revoke-sound m op obj (r .number))
 shown m (Inherit senior junior) list = by _ _ _ refl refl (inherit-listed m (senior .number) (junior .number)) (inherit-sound m (senior .number) (junior .number))
-shown m (Disinherit senior junior) list = by _ _ _ refl refl (disinherit-listed m (senior .number) (junior .number)) (disinherit-sound m (senior .number) (junior .number))
+shown m (Disinherit senior junior) list = by _ _ _ refl refl (λ s. refl) (disinherit-sound m (senior .number) (junior .number))
 shown m (MakeSet Static name n) list = by _ _ _ refl refl (makeSet-listed Static m (name .number) n list) (makeSet-sound Static m (name .number) n list)
 shown m (MakeSet Dynamic name n) list = by _ _ _ refl refl (makeSet-listed Dynamic m (name .number) n list) (makeSet-sound Dynamic m (name .number) n list)
 shown m (DropSet kind name) list = by _ _ _ refl refl (λ s. refl) (dropSet-sound kind m (name .number))

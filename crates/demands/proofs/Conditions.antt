@@ -31,7 +31,7 @@ use Rattle.model.proofs.Puts.{put-other}
 use Rattle.sound.proofs.Asked.{opened-asks-all, room-asks-all}
 use Rattle.sound.proofs.Carried.{existing-at, no-session-beyond, member-there}
 use Rattle.sound.proofs.Changing.{lines-shape, assigned-shape, sets-shape}
-use Rattle.sound.proofs.Inheriting.{circle-exact, lined-acyclic}
+use Rattle.sound.proofs.Inheriting.{circle-exact}
 use Rattle.sound.proofs.Members.{or-no}
 use Rattle.sound.proofs.Put.{put-all}
 use Rattle.sound.proofs.Sessions.{lowest-free, lowest-within}
@@ -120,7 +120,7 @@ module _ (m : Model) (s : Sound m) where
   set-exact kind name new x = go kind (put-all (λ n set. SetShape m n set) (setsOf kind m) name new x (λ n d. shape-of kind m (s .shape) n))
     where
       go : (k : Kind) → ((n : ℕ) → SetShape m n (put (setsOf k m) name new n)) → (wouldBreak k (withSets k m (put (setsOf k m) name new)) ≡ true) ↔ BrokenOf k (withSets k m (put (setsOf k m) name new))
-      go Static shaped = static-exact (withSets Static m (put (m .ssd) name new)) (sets-shape m (s .shape) Static (put (m .ssd) name new) shaped) (s .rules .acyclic)
+      go Static shaped = static-exact (withSets Static m (put (m .ssd) name new)) (sets-shape m (s .shape) Static (put (m .ssd) name new) shaped)
       go Dynamic shaped = dynamic-exact (withSets Dynamic m (put (m .dsd) name new)) (sets-shape m (s .shape) Dynamic (put (m .dsd) name new) shaped)
 
   made-shape : (name n : ℕ) (list : List ℕ) → (leb 16 name || someFrom 64 list) ≡ false → not (subset (setOf list) (m .roles)) ≡ false → (ltb n 2 || ltb (count (setOf list)) n) ≡ false → SetShape m name (aSet n (setOf list))
@@ -159,18 +159,16 @@ module _ (m : Model) (s : Sound m) where
       (assigned-shape m (s .shape) new (m .assignmentCount + 1)
       (put-all (λ k set. (j : ℕ) → has set j ≡ true → m .users k ≡ true) (m .assigned) u (with (m .assigned u) r) (λ j e. not-false (m .users u) (there .0)) (λ k d j e. s .shape .assignees k j e))
       (existing-at m (m .assigned) u r (s .shape .assigned) (not-false (has (m .roles) r) (there .1))))
-      (s .rules .acyclic)
 
-  inherit-exact : (a b : ℕ) → (leb 64 a || leb 64 b) ≡ false → (not (has (m .roles) a) || not (has (m .roles) b)) ≡ false → asked 6 (refusals m (Inherit (record { number = a }) (record { number = b })) []) ≡ false → (wouldBreak Static (lined m a b) ≡ true) ↔ StaticBroken (lined m a b)
-  unfolding lined refusals
-  inherit-exact a b c1 c2 c6 =
+  inherit-exact : (a b : ℕ) → (leb 64 a || leb 64 b) ≡ false → (not (has (m .roles) a) || not (has (m .roles) b)) ≡ false → (wouldBreak Static (lined m a b) ≡ true) ↔ StaticBroken (lined m a b)
+  unfolding lined
+  inherit-exact a b c1 c2 =
       let there = or-no (not (has (m .roles) a)) (not (has (m .roles) b)) c2 in
       let new : ℕ → ℕ = put (m .juniors) a (with (m .juniors a) b) in
       static-exact (lined m a b)
       (lines-shape m (s .shape) new (m .lineCount + 1)
       (put-all (λ k set. (j : ℕ) → has set j ≡ true → has (m .roles) k ≡ true) (m .juniors) a (with (m .juniors a) b) (λ j e. not-false (has (m .roles) a) (there .0)) (λ k d j e. s .shape .seniors k j e))
       (existing-at m (m .juniors) a b (s .shape .juniors) (not-false (has (m .roles) b) (there .1))))
-      (lined-acyclic m s a b (leb-false 64 b (or-no (leb 64 a) (leb 64 b) c1 .1)) c6)
 
   static-keeps : (x : Model) → Sound x → StaticBroken x → ⊥
   static-keeps x sx = rules x sx .static
@@ -188,7 +186,7 @@ module _ (m : Model) (s : Sound m) where
   static-asked (Deassign u r) list none = kept-done 10 StaticBroken static-keeps (Deassign u r) list refl refl none
   static-asked (Grant op obj r) list none = off refl (static-same (effect m (Grant op obj r) list) refl refl refl refl)
   static-asked (Revoke op obj r) list none = kept-done 10 StaticBroken static-keeps (Revoke op obj r) list refl refl none
-  static-asked (Inherit a b) list none = inherit-exact (a .number) (b .number) (not-yet 10 1 _ none (omega arith)) (not-yet 10 2 _ none (omega arith)) (not-yet 10 6 _ none (omega arith))
+  static-asked (Inherit a b) list none = inherit-exact (a .number) (b .number) (not-yet 10 1 _ none (omega arith)) (not-yet 10 2 _ none (omega arith))
   static-asked (Disinherit a b) list none = kept-done 10 StaticBroken static-keeps (Disinherit a b) list refl refl none
   static-asked (MakeSet Static name n) list none = set-exact Static (name .number) (aSet n (setOf list)) (made-shape (name .number) n list (not-yet 10 1 _ none (omega arith)) (not-yet 10 2 _ none (omega arith)) (not-yet 10 7 _ none (omega arith)))
   static-asked (MakeSet Dynamic name n) list none = off refl (static-same (effect m (MakeSet Dynamic name n) list) refl refl refl refl)
@@ -239,7 +237,7 @@ module _ (m : Model) (s : Sound m) where
       record {
         circle = circle-exact m s;
         stands = stands;
-        authorises = authorises m (s .shape) (s .rules .acyclic);
+        authorises = authorises m (s .shape);
         assigned = assignments-many m (s .shape);
         granted = grants-many m (s .shape);
         lined = lines-many m (s .shape);

@@ -3,7 +3,8 @@ use mathlib.Core.List.{List, []}
 use mathlib.Core.Logic.{inl, inr}
 use mathlib.Core.Path.{refl}
 use Prim.Native.Nat.{ℕ}
-use native.Mathlib.Omega.{arith}
+use Rattle.numbers.specs.Answers.{withNumber}
+use Rattle.numbers.specs.declared.Answer.the-variants.{NotOfForm}
 use Rattle.model.specs.Model.{Model}
 use Rattle.model.specs.Sheet.{Told}
 use Rattle.model.proofs.Asking.{asked-same}
@@ -12,13 +13,13 @@ use Rattle.policyform.specs.Rules.{rulesBroken}
 use Rattle.demands.specs.Demand1.{Demand1, Harmless}
 use Rattle.demands.proofs.Commands as commands
 use Rattle.demands.proofs.Questions as questions
-use Rattle.demands.proofs.Settled.{settled-below, settled-harmless}
+use Rattle.demands.proofs.Settled.{numbered, settled-harmless}
 
 -- whatever a load tells is harmless: of the form, it is settled; not of the form, it is 14
 load-harmless : (m : Model) (bytes : List ℕ) (told : Told) → Loads m bytes told → Harmless m told
-unfolding rulesBroken
-load-harmless m bytes told (inl h) = rw (h .tells) (record { unchanged = λ n. refl; silent = λ n. refl; onSheet = omega arith })
-load-harmless m bytes told (inr h) = rw (h .tells) (settled-harmless _ m [] (h .model) (settled-below 16 (rulesBroken (h .model)) m [] (h .model) (omega arith) refl))
+unfolding rulesBroken numbered withNumber
+load-harmless m bytes told (inl h) = rw (h .tells) (record { unchanged = λ n. refl; silent = λ n. refl; onSheet = (NotOfForm, refl) })
+load-harmless m bytes told (inr h) = rw (h .tells) (settled-harmless (rulesBroken (h .model)) m [] (h .model) refl)
 
 -- after any answer but 0 the policy, the sessions and the results are what they were: all commands and all questions
 pub demand1 : Demand1

@@ -16,7 +16,6 @@ use Rattle.model.specs.Sound.{Sound}
 use Rattle.model.specs.Step.{step}
 use Rattle.model.specs.Words.{effective, permission}
 use Rattle.model.specs.commands.Sessions.{permitted, check}
-use Rattle.sound.proofs.Listed.{check-listed}
 use Rattle.sound.proofs.Sheet.{AllClear, rank, positive, ordered, clear-done, done-clear, verdict-here, verdict-later, verdict-lowest, settle-answer, settle-done, settle-refused, settle-same}
 use Rattle.sound.proofs.Words.{effective-exact, permitted-exact}
 use Rattle.demands.specs.Demand2.{Demand2, Exactly, Obeys, Answers, Applies, FirstToApply, place, refusals, results, effect, checkRefusals, Granted}
@@ -49,6 +48,7 @@ bit-yes true e = refl
 bit-yes false e = absurd (let z : 0 ≡ 1 = ap first-result e in omega arith)
 
 access : Answers check
+unfolding check
 access m p k op obj =
     record {
       refused = whole .refused;
@@ -56,14 +56,14 @@ access m p k op obj =
       answers = λ z. subst (λ (l : List ℕ). (l ≡ 1 ∷ []) ⊎ (l ≡ 0 ∷ [])) (sym (whole .gives z)) (one-bit (permitted m k (permission op obj)));
       exactly = λ z. ((λ e. to (permitted-exact m k (permission op obj) .0 (bit-yes (permitted m k (permission op obj)) (sym (whole .gives z) ∙ e)))), (λ g. whole .gives z ∙ ap (λ (b : Bool). bit b ∷ []) (permitted-exact m k (permission op obj) .1 (back g))));
       silent = whole .silent;
-      unchanged = ap (λ (t : Told). t .after) (check-listed m k op obj s) ∙ settle-same _ m _;
+      unchanged = settle-same _ m _;
     }
   where
     s : Sound m
     s = reachable-sound p
 
     whole : Exactly m (checkRefusals m k op obj) (bit (permitted m k (permission op obj)) ∷ []) m (check m k op obj)
-    whole = exactly _ m _ m (check m k op obj) refl refl (check-listed m k op obj s)
+    whole = exactly _ m _ m (check m k op obj) refl refl refl
 
     to : (r : ℕ) × (has (effective m k) r ≡ true) × (has (m .holders (permission op obj)) r ≡ true) → Granted m k (permission op obj)
     to q = let e = effective-exact m s k (q .0) .0 (q .1) in record { role = q .0; effective = record { exists = e .0; through = e .1 }; holds = q .2 }

@@ -5,14 +5,12 @@ use mathlib.Core.Logic.{_⊎_, inl, inr}
 use mathlib.Core.Path.{_≡_, refl, sym, ap, _∙_}
 use Prim.Native.Nat.{ℕ, zero, suc, _<_}
 use native.Mathlib.Omega.{arith}
-use borrow.Author.Tests.{eq-eqb}
 use Rattle.roleset.specs.Bounded.{bit, some}
-use Rattle.roleset.specs.Roles.{has, with, none}
-use Rattle.roleset.proofs.BoundedLaws.{clash, or-right, some-none}
-use Rattle.roleset.proofs.Laws.{has-with}
-use Rattle.hierarchy.specs.Lines.{Inherits, Chain, one, more, down}
+use Rattle.roleset.specs.Roles.{has, none}
+use Rattle.roleset.proofs.BoundedLaws.{clash, some-none}
+use Rattle.hierarchy.specs.Lines.{Inherits, Chain, one, more}
 use Rattle.hierarchy.proofs.InheritsLaws.{trans}
-use Rattle.hierarchy.proofs.WalkLaws.{cut-complete}
+use Rattle.hierarchy.proofs.CircleLaws.{chain-circle}
 use Rattle.model.specs.Model.{Model}
 use Rattle.model.specs.Sheet.{Told, Refusal, done, verdict, settle}
 use Rattle.model.specs.Sound.{Sound}
@@ -20,8 +18,7 @@ use Rattle.model.specs.Sound as sound
 use Rattle.model.specs.Words.{permission, staticBroken, dynamicBroken}
 use Rattle.model.specs.commands.Sets.{setsOf}
 use Rattle.model.specs.commands.Sessions.{check, permitted}
-use Rattle.sound.proofs.Carried.{sound-never-cut, lines-small, role-small, member-there, closed-idle}
-use Rattle.sound.proofs.Listed.{check-listed}
+use Rattle.sound.proofs.Carried.{lines-small, role-small, member-there, closed-idle}
 use Rattle.sound.proofs.Sets.{shape-of}
 use Rattle.sound.proofs.Sheet.{settle-done, settle-refused}
 use Rattle.sound.proofs.Words.{effective-exact, permitted-exact, sessions-limit}
@@ -59,13 +56,14 @@ below m set a r (inl h) p = inr (a, h, p)
 below m set a r (inr q) p = inr (q .0, q .1, trans (q .2) p)
 
 pub rules : (m : Model) → Sound m → Rules m
-rules m s = record { circles = s .rules .acyclic .never; active = active; access = access; static = unbroken 256 (staticBroken m) (static-exact m (s .shape) (s .rules .acyclic) .1) (s .rules .static); dynamic = unbroken 64 (dynamicBroken m) (dynamic-exact m (s .shape) .1) (s .rules .dynamic); chains = chains }
+unfolding check
+rules m s = record { circles = s .rules .acyclic .never; active = active; access = access; static = unbroken 256 (staticBroken m) (static-exact m (s .shape) .1) (s .rules .static); dynamic = unbroken 64 (dynamicBroken m) (dynamic-exact m (s .shape) .1) (s .rules .dynamic); chains = chains }
   where
     unbroken : (n : ℕ) (test : ℕ → Bool) {Broken : Type 0} → (Broken → some n test ≡ true) → ((i : ℕ) → test i ≡ false) → Broken → ⊥
     unbroken n test shown never b = clash (some n test) (shown b) (some-none n test (λ i l. never i))
 
     active : (k r : ℕ) → has (m .sessions k .active) r ≡ true → Authorised m (m .sessions k .owner) r
-    active k r h = authorises m (s .shape) (s .rules .acyclic) (m .sessions k .owner) r .0 (s .rules .active k r h)
+    active k r h = authorises m (s .shape) (m .sessions k .owner) r .0 (s .rules .active k r h)
 
     owned : (k r : ℕ) → Effective m k r → Authorised m (m .sessions k .owner) r
     owned k r e = record { exists = e .exists; through = side (e .through) }
@@ -76,15 +74,13 @@ rules m s = record { circles = s .rules .acyclic .never; active = active; access
 
     access : (k op obj : ℕ) → check m k op obj ≡ done (1 ∷ []) m → Through m k (permission op obj)
     access k op obj e =
-        let found = permitted-exact m k (permission op obj) .0 (result-yes _ m m (permitted m k (permission op obj)) (sym (check-listed m k op obj s) ∙ e)) in
+        let found = permitted-exact m k (permission op obj) .0 (result-yes _ m m (permitted m k (permission op obj)) e) in
         let p = effective-exact m s k (found .0) .0 (found .1) in
         let reached : Effective m k (found .0) = record { exists = p .0; through = p .1 } in
         record { role = found .0; effective = reached; holds = found .2; authorised = owned k (found .0) reached }
 
     chains : (r : ℕ) → Chain (m .juniors) 65 r → ⊥
-    chains r (down h c) =
-        let small = lines-small m (s .shape) .within r _ h .0 in
-        clash _ (cut-complete (m .juniors) (with none r) (lines-small m (s .shape)) (record { role = r; small = small; member = has-with none r r small ∙ or-right (has none r) _ (eq-eqb r r refl); chain = down h c })) (sound-never-cut m s (with none r))
+    chains r c = let x = chain-circle (m .juniors) (lines-small m (s .shape)) _ (omega arith) c in s .rules .acyclic .never (x .0) (x .1)
 
 -- ---- the shape and the limits
 

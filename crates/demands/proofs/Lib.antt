@@ -16,3 +16,4 @@ pub mod Conditions
 pub mod Effects
 pub mod PolicyFile
 pub mod Room
+pub mod ShorterSheet

@@ -1,15 +1,20 @@
 -- What holds of whatever is settled by a list of refusals: demand 1, and which numbers are not answered. Assumes nothing.
 use mathlib.Core.Bool.{Bool, true, false, _&&_}
 use mathlib.Core.List.{List, [], _∷_}
-use mathlib.Core.Path.{_≡_}
+use mathlib.Core.Path.{_≡_, refl, sym, subst}
 use Prim.Native.Nat.{ℕ, _<_}
 use lib.Dec.{ltb}
 use borrow.Author.Tests.{ltb-true}
-use Rattle.roleset.proofs.BoundedLaws.{and-left, and-right}
+use Rattle.roleset.proofs.BoundedLaws.{clash, and-left, and-right}
+use Rattle.numbers.specs.Answers.{answerOf}
+use Rattle.numbers.specs.declared.Answer.the-variants.{Done}
+use Rattle.numbers.specs.declared.Named.{Named}
+use Rattle.numbers.specs.declared.Named.the-variants.{Nothing, Is}
+use Rattle.numbers.proofs.Answers.{number-back}
 use Rattle.model.specs.Model.{Model}
 use Rattle.model.specs.Sheet.{Refusal, verdict, settle}
 use Rattle.sound.proofs.Sheet.{refusal-changes-nothing, settle-answer}
-use Rattle.demands.specs.Demand1.{Harmless}
+use Rattle.demands.specs.Demand1.{OnSheet, Harmless}
 
 -- every number of the list is below n
 abbrev pub below : ℕ → List Refusal → Bool
@@ -29,6 +34,32 @@ verdict-below n (r ∷ rest) p e = go (r .holds) (verdict-below n rest p (and-ri
 pub settled-below : (n : ℕ) (rs : List Refusal) (m : Model) (results : List ℕ) (after : Model) → 0 < n → below n rs ≡ true → settle rs m results after .answer < n
 settled-below n rs m results after p e = rw (settle-answer rs m results after) (verdict-below n rs p e)
 
+-- some answer has the number
+unfoldable pub numbered : ℕ → Bool
+numbered n = elim (answerOf n) [ Nothing ↦ false | Is a ↦ true ]
+
+numbered-on : (n : ℕ) → numbered n ≡ true → OnSheet n
+unfolding numbered
+numbered-on n h = go (answerOf n) refl
+  where
+    go : (x : Named) → answerOf n ≡ x → OnSheet n
+    go Nothing e = clash false (rw (numbered, e) at h) refl
+    go (Is a) e = (a, sym (number-back n a e))
+
+-- and so has every number of the list
+abbrev pub allNumbered : List Refusal → Bool
+allNumbered [] = true
+allNumbered (r ∷ rest) = numbered (r .number) && allNumbered rest
+
+verdict-on : (rs : List Refusal) → allNumbered rs ≡ true → OnSheet (verdict rs)
+unfolding verdict
+verdict-on [] e = (Done, refl)
+verdict-on (r ∷ rest) e = go (r .holds) (verdict-on rest (and-right (numbered (r .number)) (allNumbered rest) e))
+  where
+    go : (b : Bool) → OnSheet (verdict rest) → OnSheet (elim b as (λ _. ℕ) [ true ↦ r .number | false ↦ verdict rest ])
+    go true ih = numbered-on (r .number) (and-left (numbered (r .number)) (allNumbered rest) e)
+    go false ih = ih
+
 -- one law for all: whatever is settled by numbers of the sheet is harmless
-pub settled-harmless : (rs : List Refusal) (m : Model) (results : List ℕ) (after : Model) → settle rs m results after .answer < 16 → Harmless m (settle rs m results after)
-settled-harmless rs m results after h = record { unchanged = λ n. refusal-changes-nothing rs m results after n .0; silent = λ n. refusal-changes-nothing rs m results after n .1; onSheet = h }
+pub settled-harmless : (rs : List Refusal) (m : Model) (results : List ℕ) (after : Model) → allNumbered rs ≡ true → Harmless m (settle rs m results after)
+settled-harmless rs m results after h = record { unchanged = λ n. refusal-changes-nothing rs m results after n .0; silent = λ n. refusal-changes-nothing rs m results after n .1; onSheet = subst OnSheet (sym (settle-answer rs m results after)) (verdict-on rs h) }

@@ -3,7 +3,9 @@
 -- might read or write out of bounds, is not proved. Assumes nothing.
 use mathlib.Core.List.{List, []}
 use mathlib.Core.Path.{_≡_}
-use Prim.Native.Nat.{ℕ, _<_}
+use Prim.Native.Nat.{ℕ}
+use Rattle.numbers.specs.Answers.{numberOf}
+use Rattle.numbers.specs.declared.Answer.{Answer}
 use Rattle.model.specs.Model.{Model}
 use Rattle.model.specs.Questions.{ask}
 use Rattle.model.specs.Sheet.{Told}
@@ -12,11 +14,15 @@ use Rattle.model.specs.declared.Command.{Command}
 use Rattle.model.specs.declared.Question.{Question}
 use Rattle.policyform.specs.Promises.{Loads}
 
+-- The number is on the sheet: it is the number of some answer.
+abbrev pub OnSheet : ℕ → Type 0
+OnSheet n = (a : Answer) × (n ≡ numberOf a)
+
 -- Whatever is told with another answer than 0 changes nothing and has no results, and its answer is on the sheet.
 pub record Harmless (before : Model) (told : Told) : Type 0 where
   pub unchanged : (told .answer ≡ 0 → ⊥) → told .after ≡ before
   pub silent : (told .answer ≡ 0 → ⊥) → told .results ≡ []
-  pub onSheet : told .answer < 16
+  pub onSheet : OnSheet (told .answer)
 
 -- Every command, on any policy, with any numbers and any list; every question, with any room; every load, of any bytes.
 pub record Demand1 : Type 0 where

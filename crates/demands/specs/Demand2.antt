@@ -104,7 +104,7 @@ infixl 90 _beyond_
 abbrev pub _beyond_ : ℕ → ℕ → Bool
 n beyond last = leb (suc last) n
 
--- The cases in which the command is refused, in the order of the answer sheet. 13 is on no list: no chain of more than 64 roles is ever met.
+-- The cases in which the command is refused, in the order of the answer sheet.
 unfoldable pub refusals : Model → Command → List ℕ → List Refusal
 -- "`user u`, `role r` add; 1, 4."
 refusals m (AddUser u) list = 1 when u .number beyond 255 ∷ 4 when m .users (u .number) ∷ []

@@ -37,7 +37,7 @@ pub record Rules (m : Model) : Type 0 where
   pub static : StaticBroken m → ⊥
   -- "no session has that many roles of a dynamic set active"
   pub dynamic : DynamicBroken m → ⊥
-  -- No chain of inheritance has more than 64 roles, so that no answer is ever 13.
+  -- No chain of inheritance has more than 64 roles.
   pub chains : (r : ℕ) → Chain (m .juniors) 65 r → ⊥
 
 -- ---- the shape

@@ -10,3 +10,4 @@ pub mod Demand3
 pub mod Effects
 pub mod PolicyFile
 pub mod Room
+pub mod ShorterSheet

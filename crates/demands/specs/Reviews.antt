@@ -24,8 +24,8 @@ use Rattle.demands.specs.Reachable.{Reachable}
 -- ---- a list
 
 -- What is told of a review on the policy m, with room for so many results: exactly the list of all numbers for which `among` holds. "Refusals: 1, 2,
--- 13, 15": it is refused with 1 where `outside` holds, with 2 where `missing` holds, and with 15 where the room is less than the length of the whole
--- list. (13 is on no list: no chain of more than 64 roles is met.) Otherwise its results are the whole list. It changes nothing either way.
+-- .. 15": it is refused with 1 where `outside` holds, with 2 where `missing` holds, and with 15 where the room is less than the length of the whole
+-- list. Otherwise its results are the whole list. It changes nothing either way.
 pub record Listing (m : Model) (room : ℕ) (outside missing : Bool) (among : ℕ → Type 0) (told : Told) : Type 0 where
   -- "Reviews give ascending lists with no repeats": there is one whole list, and each of its numbers is less than the next
   pub whole : List ℕ
@@ -87,5 +87,3 @@ Reviewing reviewer = (m : Model) → Reachable m → (room : ℕ) (q : Question)
 -- Every question is answered exactly as the paper says.
 pub record QuestionsDemand : Type 0 where
   pub questions : Reviewing ask
-  -- 13, "a chain of inheritance of more than 64 roles is met", is never answered
-  pub never13 : (m : Model) → Reachable m → (room : ℕ) (q : Question) → ask m room q .answer ≡ 13 → ⊥

@@ -8,15 +8,14 @@ use native.Mathlib.Decide.{decLt}
 use native.Mathlib.Omega.{arith}
 use lib.Dec.{ltb}
 use lib.ListN.{length}
-use borrow.Author.Tests.{ltb-true, lt-ltb, eq-eqb}
+use borrow.Author.Tests.{ltb-true, lt-ltb}
 use Rattle.roleset.specs.Bounded.{some}
-use Rattle.roleset.specs.Roles.{has, subset, common, count, with, none}
+use Rattle.roleset.specs.Roles.{has, subset, common, count, none}
 use Rattle.roleset.proofs.BoundedLaws.{clash, never, not-yes, yes-not, and-left, and-right, and-both, or-cases, or-left, or-right, some-elim, some-intro}
-use Rattle.roleset.proofs.Laws.{has-none, has-with, member-small, subset-true, subset-false}
-use Rattle.hierarchy.specs.Lines.{Small, Acyclic, Chain, down}
+use Rattle.roleset.proofs.Laws.{has-none, member-small, subset-true, subset-false}
 use Rattle.hierarchy.specs.Walks.{circular}
-use Rattle.hierarchy.proofs.CircleLaws.{circular-sound, circular-complete, cut-circle}
-use Rattle.hierarchy.proofs.WalkLaws.{cut-complete, reach-small}
+use Rattle.hierarchy.proofs.CircleLaws.{circular-sound, circular-complete}
+use Rattle.hierarchy.proofs.WalkLaws.{reach-small}
 use Rattle.model.specs.Model.{Model, RoleSet, Session}
 use Rattle.model.specs.Words.{authorised, breaks, breaksSome, staticBroken, dynamicBroken}
 use Rattle.model.specs.commands.Sets.{setsOf, badCardinality}
@@ -29,28 +28,15 @@ use Rattle.demands.specs.Broken.{StaticBroken, DynamicBroken}
 use Rattle.demands.specs.Many.{AsMany}
 use Rattle.demands.proofs.Broken.{broken-exact}
 use Rattle.demands.proofs.Counts.{many-in}
-use Rattle.fileanswers.specs.Loading.{Circle, BadCardinality, NotAuthorised, Clear, Asked}
+use Rattle.demands.proofs.ShorterSheet.{formed-lines}
+use Rattle.fileanswers.specs.Loading.{Circle, BadCardinality, NotAuthorised, Asked}
 use Rattle.fileanswers.proofs.Bare.{authorised-formed}
 
 module _ (m : Model) (f : Formed m) where
   -- ---- 6
 
-  lines-small : Small (m .juniors)
-  lines-small = record { within = λ s j e. (member-small (m .roles) s (f .roles) (f .seniors s j e), member-small (m .roles) j (f .roles) (f .juniors s .exist j e)) }
-
   pub circle-says : (circular (m .juniors) ≡ true) ↔ Circle m
-  circle-says = ((λ e. let q = circular-sound (m .juniors) e in record { role = q .0; itself = q .1 }), (λ x. circular-complete (m .juniors) lines-small (x .role) (x .itself)))
-
-  pub acyclic : (Circle m → ⊥) → Acyclic (m .juniors)
-  acyclic clear = record { never = λ r i. clear (record { role = r; itself = i }) }
-
-  -- a chain of 65 roles among 64 goes in a circle
-  pub chain-circle : (r : ℕ) → Chain (m .juniors) 65 r → Circle m
-  chain-circle r (down h c) =
-      let small = lines-small .within r _ h .0 in
-      let cut = cut-complete (m .juniors) (with none r) lines-small (record { role = r; small = small; member = has-with none r r small ∙ or-right (has none r) _ (eq-eqb r r refl); chain = down h c }) in
-      let q = cut-circle (m .juniors) (with none r) cut in
-      record { role = q .0; itself = q .1 }
+  circle-says = ((λ e. let q = circular-sound (m .juniors) e in record { role = q .0; itself = q .1 }), (λ x. circular-complete (m .juniors) (formed-lines m f) (x .role) (x .itself)))
 
   -- ---- 7
 
@@ -109,15 +95,15 @@ module _ (m : Model) (f : Formed m) where
       go true e = e
       go false e = clash (has (m .sessions s .active) r) h (ap (λ (x : Session). has (x .active) r) (f .sessions s .closed e) ∙ has-none r)
 
-  pub owner-says : Clear m → (unauthorised m ≡ true) ↔ NotAuthorised m
+  pub owner-says : (unauthorised m ≡ true) ↔ NotAuthorised m
   unfolding unauthorised
-  owner-says clear = (to, back)
+  owner-says = (to, back)
     where
       test : ℕ → Bool
       test s = not (subset (m .sessions s .active) (authorised m (m .sessions s .owner)))
 
       exact : (u r : ℕ) → (has (authorised m u) r ≡ true) ↔ Authorised m u r
-      exact = authorised-formed m f (acyclic (clear .0))
+      exact = authorised-formed m f
 
       to : unauthorised m ≡ true → NotAuthorised m
       to e =
@@ -140,15 +126,15 @@ module _ (m : Model) (f : Formed m) where
       go (inl h) = let small = f .users u (f .assignees u r h) in omega arith
       go (inr q) = let small = f .users u (f .assignees u (q .0) (q .1)) in omega arith
 
-  pub static-says : Clear m → (some 256 (staticBroken m) ≡ true) ↔ StaticBroken m
+  pub static-says : (BadCardinality m → ⊥) → (some 256 (staticBroken m) ≡ true) ↔ StaticBroken m
   unfolding staticBroken
-  static-says clear = broken-exact 256 (m .ssd) (authorised m) (Authorised m) (λ u. reach-small (m .juniors) (m .assigned u)) (authorised-formed m f (acyclic (clear .0))) nobody-beyond (λ name. f .ssd name .named) (at-least (clear .1) Static)
+  static-says fine = broken-exact 256 (m .ssd) (authorised m) (Authorised m) (λ u. reach-small (m .juniors) (m .assigned u)) (authorised-formed m f) nobody-beyond (λ name. f .ssd name .named) (at-least fine Static)
 
   -- ---- 11
 
-  pub dynamic-says : Clear m → (some 64 (dynamicBroken m) ≡ true) ↔ DynamicBroken m
+  pub dynamic-says : (BadCardinality m → ⊥) → (some 64 (dynamicBroken m) ≡ true) ↔ DynamicBroken m
   unfolding dynamicBroken
-  dynamic-says clear = broken-exact 64 (m .dsd) (λ s. m .sessions s .active) (λ s r. has (m .sessions s .active) r ≡ true) (λ s. f .sessions s .active .small) (λ s r. ((λ e. e), (λ e. e))) (λ s r l h. let open-one = f .sessions s .numbered (live-active s r h) in let z : ⊥ = omega arith in z) (λ name. f .dsd name .named) (at-least (clear .1) Dynamic)
+  dynamic-says fine = broken-exact 64 (m .dsd) (λ s. m .sessions s .active) (λ s r. has (m .sessions s .active) r ≡ true) (λ s. f .sessions s .active .small) (λ s r. ((λ e. e), (λ e. e))) (λ s r l h. let open-one = f .sessions s .numbered (live-active s r h) in let z : ⊥ = omega arith in z) (λ name. f .dsd name .named) (at-least fine Dynamic)
 
   abbrev pub asked : Asked m
   asked = record { circle = circular (m .juniors); circle-says = circle-says; cardinality = badSet (m .ssd) || badSet (m .dsd); cardinality-says = cardinality-says; owner = unauthorised m; owner-says = owner-says; static = some 256 (staticBroken m); static-says = static-says; dynamic = some 64 (dynamicBroken m); dynamic-says = dynamic-says }

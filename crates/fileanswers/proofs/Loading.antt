@@ -1,16 +1,11 @@
 -- Loading answers as the paper says. Assumes nothing.
-use mathlib.Core.Bool.{false}
 use mathlib.Core.List.{List, []}
 use mathlib.Core.Logic.{inl, inr, _↔_}
 use mathlib.Core.Path.{_≡_, refl, sym, ap, subst, _∙_}
 use Prim.Native.Nat.{ℕ}
 use native.Mathlib.Omega.{arith}
-use Rattle.roleset.proofs.BoundedLaws.{clash, some-none}
-use Rattle.hierarchy.specs.Walks.{circular}
-use Rattle.hierarchy.proofs.CircleLaws.{never-cut}
 use Rattle.model.specs.Model.{Model}
 use Rattle.model.specs.Sheet.{Refusal, Told, settle, refused}
-use Rattle.model.specs.commands.Inheriting.{usersCut}
 use Rattle.sound.proofs.Sheet.{Alike, alike-settle, not-told}
 use Rattle.policyform.specs.Form.{Formed, FileOf}
 use Rattle.policyform.specs.Rules.{rulesBroken}
@@ -24,16 +19,11 @@ use Rattle.filebytes.proofs.FileForm.{paper-form}
 use Rattle.demands.proofs.Exact.{exact}
 use Rattle.demands.specs.Demand2.{Exactly}
 use Rattle.fileanswers.specs.Loading.{loadRefusals, Answered, Loading}
-use Rattle.fileanswers.proofs.Conditions.{circle-says, acyclic, chain-circle, asked}
-
--- Where no role inherits itself no chain is cut off; so the list with 13 and the one without it answer alike.
-uncut : (m : Model) (f : Formed m) → circular (m .juniors) ≡ false → usersCut m ≡ false
-unfolding usersCut
-uncut m f e = some-none 256 _ (λ u l. never-cut (m .juniors) (acyclic m f (λ x. clash (circular (m .juniors)) (circle-says m f .1 x) e)) (m .assigned u))
+use Rattle.fileanswers.proofs.Conditions.{asked}
 
 alike : (m : Model) (f : Formed m) → Alike (rulesBroken m) (loadRefusals (asked m f))
 unfolding rulesBroken
-alike m f = (refl, refl, λ e. (refl, refl, λ _. (refl, refl, λ _. (refl, refl, λ _. (refl, refl, λ _. (uncut m f e, tt))))))
+alike m f = (refl, refl, λ _. (refl, refl, λ _. (refl, refl, λ _. (refl, refl, λ _. (refl, refl, λ _. tt)))))
 
 answers : (before m : Model) (bytes : List ℕ) (told : Told) → FileOf m bytes → Loads before bytes told → Answered before m told
 answers before m bytes told x (inl y) = absurd (y .no-file m x)
@@ -50,9 +40,9 @@ listed before f told form l =
     let q = paper-form .form-file (bytesOf f) (record { sections = f; form = form; written = refl }) in
     (q .0, paper-form .file-says (q .0) f (form-sixteen f form) (q .1), answers before (q .0) (bytesOf f) told (q .1) l)
 
--- ---- 14 and 13
+-- ---- 14
 
--- a model that a load answers for is refused with neither 14 nor 13
+-- a model that a load answers for is not refused with 14
 never-14 : (before m : Model) (told : Told) → told ≡ settle (rulesBroken m) before [] m → told .answer ≡ 14 → ⊥
 unfolding rulesBroken
 never-14 before m told e = not-told 14 (rulesBroken m) before [] m told (omega arith) refl e
@@ -65,10 +55,6 @@ unchanged : (before : Model) (bytes : List ℕ) (told : Told) → Loads before b
 unchanged before bytes told (inl y) e = y .tells
 unchanged before bytes told (inr y) e = absurd (never-14 before (y .model) told (y .tells) e)
 
-never-13 : (before : Model) (bytes : List ℕ) (told : Told) → Loads before bytes told → told .answer ≡ 13 → ⊥
-never-13 before bytes told (inl y) e = let z : _≡_ {A = ℕ} 14 13 = sym (ap (λ (t : Told). t .answer) (y .tells)) ∙ e in omega arith
-never-13 before bytes told (inr y) e = not-told 13 (loadRefusals (asked (y .model) (y .file .formed))) before [] (y .model) told (omega arith) refl (y .tells ∙ alike-settle (rulesBroken (y .model)) _ before [] (y .model) (alike (y .model) (y .file .formed))) e
-
 -- what loading answers, for any bytes
 pub loading : Loading
-loading = record { fourteen = fourteen; unchanged = unchanged; listed = listed; answers = answers; one-policy = λ m m′ bytes. file-one bytes m m′; chains = λ m bytes x. chain-circle m (x .formed); never-13 = never-13 }
+loading = record { fourteen = fourteen; unchanged = unchanged; listed = listed; answers = answers; one-policy = λ m m′ bytes. file-one bytes m m′ }

@@ -1,5 +1,5 @@
--- What loading answers, for any bytes. "Answer 14: .. Then 6 (a line from a role to itself too), 7, 9, 10, 11 and 13, lowest first. An accepted
--- load replaces the policy and sessions whole." Assumes nothing.
+-- What loading answers, for any bytes. "Answer 14: .. Then 6 (a line from a role to itself too), 7, 9, 10, 11 .., lowest first. An accepted load
+-- replaces the policy and sessions whole." Assumes nothing.
 use mathlib.Core.Bool.{Bool, true}
 use mathlib.Core.List.{List, [], _∷_}
 use mathlib.Core.Logic.{_⊎_, _↔_}
@@ -7,7 +7,7 @@ use mathlib.Core.Path.{_≡_}
 use Prim.Native.Nat.{ℕ, _<_}
 use lib.ListN.{length}
 use Rattle.roleset.specs.Roles.{has}
-use Rattle.hierarchy.specs.Lines.{Inherits, Chain}
+use Rattle.hierarchy.specs.Lines.{Inherits}
 use Rattle.model.specs.Model.{Model}
 use Rattle.model.specs.Sheet.{Refusal, _when_, Told, refused}
 use Rattle.model.specs.commands.Sets.{setsOf}
@@ -50,24 +50,20 @@ pub record NotAuthorised (m : Model) : Type 0 where
 
 -- ---- the answers
 
--- Neither 6 nor 7 applies.
-abbrev pub Clear : Model → Type 0
-Clear m = (Circle m → ⊥) × (BadCardinality m → ⊥)
-
--- Five answers of yes or no that say what the file breaks. Those that come after 6 and 7 need to say it only where neither of these applies.
+-- Five answers of yes or no that say what the file breaks. The last two come after 7, and need to say it only where 7 does not apply.
 pub record Asked (m : Model) : Type 0 where
   pub circle : Bool
   pub circle-says : (circle ≡ true) ↔ Circle m
   pub cardinality : Bool
   pub cardinality-says : (cardinality ≡ true) ↔ BadCardinality m
   pub owner : Bool
-  pub owner-says : Clear m → (owner ≡ true) ↔ NotAuthorised m
+  pub owner-says : (owner ≡ true) ↔ NotAuthorised m
   pub static : Bool
-  pub static-says : Clear m → (static ≡ true) ↔ StaticBroken m
+  pub static-says : (BadCardinality m → ⊥) → (static ≡ true) ↔ StaticBroken m
   pub dynamic : Bool
-  pub dynamic-says : Clear m → (dynamic ≡ true) ↔ DynamicBroken m
+  pub dynamic-says : (BadCardinality m → ⊥) → (dynamic ≡ true) ↔ DynamicBroken m
 
--- "Then 6 .., 7, 9, 10, 11". 13 is not on the list: a chain of more than 64 roles is a circle, which is 6.
+-- "Then 6 .., 7, 9, 10, 11".
 abbrev pub loadRefusals : {m : Model} → Asked m → List Refusal
 loadRefusals asked =
     6 when asked .circle
@@ -96,7 +92,3 @@ pub record Loading : Type 0 where
   pub answers : (before m : Model) (bytes : List ℕ) (told : Told) → FileOf m bytes → Loads before bytes told → Answered before m told
   -- A file is the file of one policy only.
   pub one-policy : (m m′ : Model) (bytes : List ℕ) → FileOf m bytes → FileOf m′ bytes → m ≡ m′
-  -- A chain of more than 64 roles goes in a circle, which is 6.
-  pub chains : (m : Model) (bytes : List ℕ) → FileOf m bytes → (r : ℕ) → Chain (m .juniors) 65 r → Circle m
-  -- No load answers 13.
-  pub never-13 : (before : Model) (bytes : List ℕ) (told : Told) → Loads before bytes told → told .answer ≡ 13 → ⊥

@@ -11,9 +11,9 @@ use Rattle.roleset.specs.Roles.{has, without, union, isEmpty}
 use Rattle.roleset.proofs.BoundedLaws.{clash, and-left, and-both, or-left, or-right, or-cases, not-yes, agree, never}
 use Rattle.roleset.proofs.Laws.{those-small, has-none, has-union, has-without, union-small, ext}
 use Rattle.hierarchy.specs.Lines.{line}
-use Rattle.hierarchy.specs.Walks.{juniorsOf, joined, walk}
-use Rattle.hierarchy.specs.declared.Walk.{Walk}
-use Rattle.hierarchy.proofs.WalkLaws.{junior-of, of-junior, walk-on}
+use Rattle.hierarchy.specs.Walks.{juniorsOf, walk, longerChain}
+use Rattle.hierarchy.proofs.WalkLaws.{junior-of, of-junior, walk-on, walk-small}
+use Rattle.hierarchy.proofs.ChainLaws.{longer-on}
 
 module _ (lines : ℕ → ℕ) where
   pub juniors-small : (front : ℕ) → juniorsOf lines front < 2 ^ 64
@@ -63,28 +63,19 @@ union-assoc : (a b c : ℕ) → union (union a b) c ≡ union a (union b c)
 union-assoc a b c = ext (union (union a b) c) (union a (union b c)) (union-small (union a b) c) (union-small a (union b c)) (λ k lk. rw (has-union (union a b) c k lk, has-union a b k lk, has-union a (union b c) k lk, has-union b c k lk) (or-assoc (has a k) (has b k) (has c k)))
 
 -- a front that is not empty joins what is met, and then the walk from its juniors with one role fewer allowed
-pub walk-step : (lines : ℕ → ℕ) (allowed front next met more last : ℕ) (cut : Bool) → (allowed ≡ 0 → ⊥) → isEmpty front ≡ false → next ≡ juniorsOf lines front → more ≡ union met front → (last ≡ union more (walk lines (allowed - 1) next .roles)) × (cut ≡ walk lines (allowed - 1) next .cut) → (last ≡ union met (walk lines allowed front .roles)) × (cut ≡ walk lines allowed front .cut)
-unfolding joined
-walk-step lines zero front next met more last cut n e p s q = absurd (n refl)
-walk-step lines (suc m) front next met more last cut n e p s q =
-    let same : suc m - 1 ≡ m = omega arith in (
-      q .0 ∙ rw (s, p, same, walk-on lines m front e) (union-assoc met front (walk lines m (juniorsOf lines front) .roles)),
-      q .1 ∙ rw (p, same, walk-on lines m front e),
-    )
-
--- a walk's roles are a set, so that joined to no roles they stay the same
-walk-small : (lines : ℕ → ℕ) (n front : ℕ) → walk lines n front .roles < 2 ^ 64
-unfolding walk joined
-walk-small lines zero front = omega arith
-walk-small lines (suc n) front = go (isEmpty front) refl
-  where
-    go : (b : Bool) → isEmpty front ≡ b → walk lines (suc n) front .roles < 2 ^ 64
-    go true e = rw (e, walk) (omega arith)
-    go false e = rw (e, walk) (union-small front (walk lines n (juniorsOf lines front) .roles))
-
-walk-begin : (lines : ℕ → ℕ) (n front : ℕ) → union 0 (walk lines n front .roles) ≡ walk lines n front .roles
-walk-begin lines n front = ext (union 0 (walk lines n front .roles)) (walk lines n front .roles) (union-small 0 (walk lines n front .roles)) (walk-small lines n front) (λ k lk. rw (has-union 0 (walk lines n front .roles) k lk, has-none k))
+pub walk-step : (lines : ℕ → ℕ) (allowed front next met more last : ℕ) → (allowed ≡ 0 → ⊥) → isEmpty front ≡ false → next ≡ juniorsOf lines front → more ≡ union met front → last ≡ union more (walk lines (allowed - 1) next) → last ≡ union met (walk lines allowed front)
+walk-step lines zero front next met more last n e p s q = absurd (n refl)
+walk-step lines (suc m) front next met more last n e p s q =
+    let same : suc m - 1 ≡ m = omega arith in
+    q ∙ rw (s, p, same, walk-on lines m front e) (union-assoc met front (walk lines m (juniorsOf lines front)))
 
 -- what a walk from a front adds to no roles is the walk
-pub walk-begun : (lines : ℕ → ℕ) (n front last : ℕ) (cut : Bool) → (last ≡ union 0 (walk lines n front .roles)) × (cut ≡ walk lines n front .cut) → record { roles = last; cut = cut } ≡ walk lines n front
-walk-begun lines n front last cut q = rw (q .0 ∙ walk-begin lines n front, q .1)
+pub walk-begun : (lines : ℕ → ℕ) (n front : ℕ) → union 0 (walk lines n front) ≡ walk lines n front
+walk-begun lines n front = ext (union 0 (walk lines n front)) (walk lines n front) (union-small 0 (walk lines n front)) (walk-small lines n front) (λ k lk. rw (has-union 0 (walk lines n front) k lk, has-none k))
+
+-- a longer chain starts in a front that is not empty where one starts at its juniors, with one role fewer allowed
+pub longer-step : (lines : ℕ → ℕ) (allowed front next : ℕ) (found : Bool) → (allowed ≡ 0 → ⊥) → isEmpty front ≡ false → next ≡ juniorsOf lines front → found ≡ longerChain lines (allowed - 1) next → found ≡ longerChain lines allowed front
+longer-step lines zero front next found n e p q = absurd (n refl)
+longer-step lines (suc m) front next found n e p q =
+    let same : suc m - 1 ≡ m = omega arith in
+    q ∙ rw (p, same, longer-on lines m front e)

@@ -4,15 +4,9 @@ ghost use Prim.Native.Nat.{ℕ, _<_};
 ghost use lib.ListN.{length};
 ghost use Rattle.roleset.specs.Roles.{union};
 ghost use Rattle.hierarchy.specs.Lines.{tableOf};
-ghost use Rattle.hierarchy.specs.Walks.{juniorsOf, walk, reach, turned, atOrAbove, circular};
+ghost use Rattle.hierarchy.specs.Walks.{juniorsOf, walk, longerChain, turned, circular, Reaches, ReachesUp};
 ghost use Rattle.hierarchy.specs.Marks.{Marked};
 use numbers::Role;
-
-// What a walk met: the roles, and whether it was cut off at a chain of more roles than were allowed.
-pub struct Walk {
-    pub roles: u64,
-    pub cut: bool,
-}
 
 // The roles directly below some role of the front. It takes the front's lowest role and drops it, as long as there is one.
 fn juniors_of(juniors: &[u64; 64], front: u64) -> u64
@@ -28,11 +22,32 @@ fn juniors_of(juniors: &[u64; 64], front: u64) -> u64
     met
 }
 
-// Adds to `met` the roles of the front and all that they inherit, in chains of at most `allowed` roles; was it cut off where a longer chain is met? The roles met are lent, so that the call is the last step and the walk needs no stack.
-fn walk_from(juniors: &[u64; 64], front: u64, allowed: u16, met: &mut u64) -> bool
-    ensures { λ cut. ⌜ (now (met .exit) ≡ union (now (met .entry)) (walk (tableOf (now (juniors .entry))) allowed front .roles)) × (cut ≡ walk (tableOf (now (juniors .entry))) allowed front .cut) ⌝ }
+// The roles met so far, those of the front and all that these inherit, in chains of at most `allowed` roles. The call is the last step, so that the walk needs no stack.
+fn walk_from(juniors: &[u64; 64], front: u64, allowed: u16, met: u64) -> u64
+    ensures { λ w. ⌜ w ≡ union met (walk (tableOf (now (juniors .entry))) allowed front) ⌝ }
 {
-    let so_far = *met;
+    if front == 0 {
+        return met;
+    }
+    if allowed == 0 {
+        return met;
+    }
+    let next = juniors_of(juniors, front);
+    let more = roleset::union(met, front);
+    walk_from(juniors, next, allowed - 1, more)
+}
+
+// The roles of a set and all that they inherit, whatever the lines.
+pub fn reach(juniors: &[u64; 64], from: u64) -> u64
+    ensures { λ w. ⌜ Reaches (tableOf (now (juniors .entry))) from w ⌝ }
+{
+    walk_from(juniors, from, 64, 0)
+}
+
+// Does a chain of more than `allowed` roles start in the front?
+fn longer_chain(juniors: &[u64; 64], front: u64, allowed: u16) -> bool
+    ensures { λ yes. ⌜ yes ≡ longerChain (tableOf (now (juniors .entry))) allowed front ⌝ }
+{
     if front == 0 {
         return false;
     }
@@ -40,25 +55,14 @@ fn walk_from(juniors: &[u64; 64], front: u64, allowed: u16, met: &mut u64) -> bo
         return true;
     }
     let next = juniors_of(juniors, front);
-    *met = roleset::union(so_far, front);
-    walk_from(juniors, next, allowed - 1, met)
+    longer_chain(juniors, next, allowed - 1)
 }
 
-// The roles of a set and all that they inherit; cut off where a chain of more than 64 roles starts there.
-pub fn reach(juniors: &[u64; 64], from: u64) -> Walk
-    ensures { λ w. ⌜ w ≡ reach (tableOf (now (juniors .entry))) from ⌝ }
-{
-    let mut met = 0u64;
-    let cut = walk_from(juniors, from, 64, &mut met);
-    Walk { roles: met, cut }
-}
-
-// Does some role inherit itself? One walk from all 64 roles tells.
+// Does some role inherit itself? One walk from all 64 roles tells, since only a circle has a chain of more than 64.
 pub fn circular(juniors: &[u64; 64]) -> bool
     ensures { λ yes. ⌜ yes ≡ circular (tableOf (now (juniors .entry))) ⌝ }
 {
-    let w = reach(juniors, 0xffff_ffff_ffff_ffff);
-    w.cut
+    longer_chain(juniors, 0xffff_ffff_ffff_ffff, 64)
 }
 
 // Adds the role s to t at each place that the set `places` names.
@@ -89,9 +93,9 @@ pub fn turned(juniors: &[u64; 64]) -> [u64; 64]
     t
 }
 
-// The role r and all that inherit it; no role where r is beyond 63.
-pub fn at_or_above(juniors: &[u64; 64], r: Role) -> Walk
-    ensures { λ w. ⌜ w ≡ atOrAbove (tableOf (now (juniors .entry))) (r .number) ⌝ }
+// The role r and all that inherit it, whatever the lines; no role where r is beyond 63.
+pub fn at_or_above(juniors: &[u64; 64], r: Role) -> u64
+    ensures { λ w. ⌜ ReachesUp (tableOf (now (juniors .entry))) (r .number) w ⌝ }
 {
     let above = turned(juniors);
     let from = roleset::with(0, r.number);

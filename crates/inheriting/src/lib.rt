@@ -16,7 +16,7 @@ use state::reads::line_count;
 use state::stores::put_all_active;
 use state::stores::put_juniors;
 
-// The line from senior to junior stands from now on; 1, 2, 4, 6, 10, 12, 13.
+// The line from senior to junior stands from now on; 1, 2, 4, 6, 10, 12.
 pub fn inherit(state: &mut [u64; PLACES], senior: Role, junior: Role) -> Answer
     ensures { λ a. ⌜ told a (now (state .exit)) ≡ inherit (view (now (state .entry))) (senior .number) (junior .number) ⌝ }
 {
@@ -31,28 +31,24 @@ pub fn inherit(state: &mut [u64; PLACES], senior: Role, junior: Role) -> Answer
         return Answer::AlreadyThere;
     }
     let below = walking::reach(state, roleset::with(0, junior.number));
-    if roleset::has(below.roles, senior.number) {
+    if roleset::has(below, senior.number) {
         return Answer::InheritsItself;
     }
     let more = roleset::with(old, junior.number);
     let mut juniors = juniors_table(state);
     juniors[senior.number as usize] = more;
-    let asked = sweeps::ask_static(state, &juniors);
-    if asked.broken {
+    if sweeps::ask_static(state, &juniors) {
         return Answer::BreaksStatic;
     }
     let standing = line_count(state);
     if 512 <= standing {
         return Answer::TableFull;
     }
-    if either(below.cut, asked.cut) {
-        return Answer::ChainTooLong;
-    }
     put_juniors(state, senior, more, standing + 1);
     Answer::Done
 }
 
-// The line from senior to junior goes; then the sessions shed; 1, 2, 5, 13.
+// The line from senior to junior goes; then the sessions shed; 1, 2, 5.
 pub fn disinherit(state: &mut [u64; PLACES], senior: Role, junior: Role) -> Answer
     ensures { λ a. ⌜ told a (now (state .exit)) ≡ disinherit (view (now (state .entry))) (senior .number) (junior .number) ⌝ }
 {
@@ -71,12 +67,8 @@ pub fn disinherit(state: &mut [u64; PLACES], senior: Role, junior: Role) -> Answ
     juniors[senior.number as usize] = fewer;
     let assigned = assigned_table(state);
     let kept = sweeps::shed(&juniors, &assigned, state);
-    if kept.cut {
-        return Answer::ChainTooLong;
-    }
     let standing = less(line_count(state), 1);
-    let active = kept.active;
     put_juniors(state, senior, fewer, standing);
-    put_all_active(state, &active);
+    put_all_active(state, &kept);
     Answer::Done
 }

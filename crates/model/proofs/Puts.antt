@@ -17,6 +17,6 @@ module _ {A : Type 0} where
   put-other f i v k n = rw (ne-eqb k i n, put)
 
 -- what `assign` asks of the static rule, over the policy before it
-pub assigned-static : (m : Model) (u r : ℕ) → staticBroken (assigned m u r) u ≡ breaksSome (m .ssd) (reached m (with (m .assigned u) r) .roles)
+pub assigned-static : (m : Model) (u r : ℕ) → staticBroken (assigned m u r) u ≡ breaksSome (m .ssd) (reached m (with (m .assigned u) r))
 unfolding staticBroken assigned
-assigned-static m u r = ap (λ (x : ℕ). breaksSome (m .ssd) (reached m x .roles)) (put-same (m .assigned) u (with (m .assigned u) r))
+assigned-static m u r = ap (λ (x : ℕ). breaksSome (m .ssd) (reached m x)) (put-same (m .assigned) u (with (m .assigned u) r))

@@ -26,7 +26,7 @@ holds m roles p = not (isEmpty (common roles (m .holders p)))
 
 -- the user is assigned to the role or to one that inherits it
 abbrev pub authorisedBy : Model → ℕ → ℕ → Bool
-authorisedBy m r u = not (isEmpty (common (m .assigned u) (atOrAbove (m .juniors) r .roles)))
+authorisedBy m r u = not (isEmpty (common (m .assigned u) (atOrAbove (m .juniors) r)))
 
 unfoldable pub assignedUsers : Model → ℕ → List ℕ
 assignedUsers m r = members 256 (λ u. has (m .assigned u) r)
@@ -42,7 +42,7 @@ authRoles m u = members 64 (has (authorised m u))
 
 -- "`role-perms r`, `user-perms u` (both with inherited ones)"
 unfoldable pub rolePerms : Model → ℕ → List ℕ
-rolePerms m r = members 4096 (holds m (reached m (with none r) .roles))
+rolePerms m r = members 4096 (holds m (reached m (with none r)))
 
 unfoldable pub userPerms : Model → ℕ → List ℕ
 userPerms m u = members 4096 (holds m (authorised m u))
@@ -56,7 +56,7 @@ sessionPerms m s = members 4096 (holds m (effective m s))
 
 -- "The schema of RoleOperationsOnObject in document 000 tests the asked role alone; its text includes inherited roles, and the text decides."
 unfoldable pub roleOps : Model → ℕ → ℕ → List ℕ
-roleOps m r obj = members 16 (λ op. holds m (reached m (with none r) .roles) (permission op obj))
+roleOps m r obj = members 16 (λ op. holds m (reached m (with none r)) (permission op obj))
 
 unfoldable pub userOps : Model → ℕ → ℕ → List ℕ
 userOps m u obj = members 16 (λ op. holds m (authorised m u) (permission op obj))
@@ -72,13 +72,13 @@ setRoles kind m name = members 64 (has (setsOf kind m name .roles))
 unfoldable pub setCount : Kind → Model → ℕ → List ℕ
 setCount kind m name = (setsOf kind m name .card % 65536) ∷ []
 
--- ---- each question, with its refusals: 1, 2, 13, 15
+-- ---- each question, with its refusals: 1, 2, 15
 
--- A review: refused with 1 where a number is beyond its range, with 2 where what it names does not exist, with 13 where the walk is cut off, with 15
--- where "the lent output buffer is shorter than the whole result"; else it gives the list.
-abbrev pub review : Model → ℕ → Bool → Bool → Bool → List ℕ → Told
-review m room beyond missing cut list =
-    settle (1 when beyond ∷ 2 when missing ∷ 13 when cut ∷ 15 when ltb room (length list) ∷ []) m list m
+-- A review: refused with 1 where a number is beyond its range, with 2 where what it names does not exist, with 15 where "the
+-- lent output buffer is shorter than the whole result"; else it gives the list.
+abbrev pub review : Model → ℕ → Bool → Bool → List ℕ → Told
+review m room beyond missing list =
+    settle (1 when beyond ∷ 2 when missing ∷ 15 when ltb room (length list) ∷ []) m list m
 
 abbrev pub never : Bool
 never = false
@@ -86,16 +86,16 @@ never = false
 -- the question, asked with room for so many results
 unfoldable pub ask : Model → ℕ → Question → Told
 ask m room (Check s op obj) = check m (s .number) op obj
-ask m room (AssignedUsers r) = review m room (roleBeyond (r .number)) (roleMissing m (r .number)) never (assignedUsers m (r .number))
-ask m room (AssignedRoles u) = review m room (userBeyond (u .number)) (userMissing m (u .number)) never (assignedRoles m (u .number))
-ask m room (AuthUsers r) = review m room (roleBeyond (r .number)) (roleMissing m (r .number)) (atOrAbove (m .juniors) (r .number) .cut) (authUsers m (r .number))
-ask m room (AuthRoles u) = review m room (userBeyond (u .number)) (userMissing m (u .number)) (reached m (m .assigned (u .number)) .cut) (authRoles m (u .number))
-ask m room (RolePerms r) = review m room (roleBeyond (r .number)) (roleMissing m (r .number)) (reached m (with none (r .number)) .cut) (rolePerms m (r .number))
-ask m room (UserPerms u) = review m room (userBeyond (u .number)) (userMissing m (u .number)) (reached m (m .assigned (u .number)) .cut) (userPerms m (u .number))
-ask m room (SessionRoles s) = review m room (sessionBeyond (s .number)) (sessionMissing m (s .number)) never (sessionRoles m (s .number))
-ask m room (SessionPerms s) = review m room (sessionBeyond (s .number)) (sessionMissing m (s .number)) (reached m (m .sessions (s .number) .active) .cut) (sessionPerms m (s .number))
-ask m room (RoleOps r obj) = review m room (roleBeyond (r .number) || leb objects obj) (roleMissing m (r .number)) (reached m (with none (r .number)) .cut) (roleOps m (r .number) obj)
-ask m room (UserOps u obj) = review m room (userBeyond (u .number) || leb objects obj) (userMissing m (u .number)) (reached m (m .assigned (u .number)) .cut) (userOps m (u .number) obj)
-ask m room (Sets kind) = review m room never never never (setNames kind m)
-ask m room (SetRoles kind name) = review m room (setBeyond (name .number)) (setMissing kind m (name .number)) never (setRoles kind m (name .number))
-ask m room (SetCount kind name) = review m room (setBeyond (name .number)) (setMissing kind m (name .number)) never (setCount kind m (name .number))
+ask m room (AssignedUsers r) = review m room (roleBeyond (r .number)) (roleMissing m (r .number)) (assignedUsers m (r .number))
+ask m room (AssignedRoles u) = review m room (userBeyond (u .number)) (userMissing m (u .number)) (assignedRoles m (u .number))
+ask m room (AuthUsers r) = review m room (roleBeyond (r .number)) (roleMissing m (r .number)) (authUsers m (r .number))
+ask m room (AuthRoles u) = review m room (userBeyond (u .number)) (userMissing m (u .number)) (authRoles m (u .number))
+ask m room (RolePerms r) = review m room (roleBeyond (r .number)) (roleMissing m (r .number)) (rolePerms m (r .number))
+ask m room (UserPerms u) = review m room (userBeyond (u .number)) (userMissing m (u .number)) (userPerms m (u .number))
+ask m room (SessionRoles s) = review m room (sessionBeyond (s .number)) (sessionMissing m (s .number)) (sessionRoles m (s .number))
+ask m room (SessionPerms s) = review m room (sessionBeyond (s .number)) (sessionMissing m (s .number)) (sessionPerms m (s .number))
+ask m room (RoleOps r obj) = review m room (roleBeyond (r .number) || leb objects obj) (roleMissing m (r .number)) (roleOps m (r .number) obj)
+ask m room (UserOps u obj) = review m room (userBeyond (u .number) || leb objects obj) (userMissing m (u .number)) (userOps m (u .number) obj)
+ask m room (Sets kind) = review m room never never (setNames kind m)
+ask m room (SetRoles kind name) = review m room (setBeyond (name .number)) (setMissing kind m (name .number)) (setRoles kind m (name .number))
+ask m room (SetCount kind name) = review m room (setBeyond (name .number)) (setMissing kind m (name .number)) (setCount kind m (name .number))

@@ -6,22 +6,21 @@ use lib.Dec.{eqb, leb}
 use Rattle.roleset.specs.Bounded.{some, tally}
 use Rattle.roleset.specs.Roles.{has, common, count, with}
 use Rattle.hierarchy.specs.Walks.{reach}
-use Rattle.hierarchy.specs.declared.Walk.{Walk}
 use Rattle.model.specs.Model.{Model, RoleSet, Session, withSessions, standing}
 
 -- ---- inheritance
 
--- the roles of a set and all roles these inherit; cut off where a chain of more than 64 roles is met
-abbrev pub reached : Model → ℕ → Walk
+-- the roles of a set and all roles these inherit
+abbrev pub reached : Model → ℕ → ℕ
 reached m from = reach (m .juniors) from
 
 -- "Authorised: a user is authorised for an existing role if assigned to it or to a role that inherits it." The set of these roles
 abbrev pub authorised : Model → ℕ → ℕ
-authorised m u = reached m (m .assigned u) .roles
+authorised m u = reached m (m .assigned u)
 
 -- "Effective roles of a session: its active roles and all roles these inherit"
 abbrev pub effective : Model → ℕ → ℕ
-effective m s = reached m (m .sessions s .active) .roles
+effective m s = reached m (m .sessions s .active)
 
 -- ---- separation
 
@@ -59,14 +58,10 @@ keeping s held = record { live = s .live; owner = s .owner; active = common (s .
 
 -- "Shedding: every session keeps exactly those active roles for which its owner is still authorised. The session stays open, even with none."
 unfoldable pub shedded : (ℕ → ℕ) → (ℕ → ℕ) → Session → Session
-shedded juniors assigned s = elim (s .live) [ true ↦ keeping s (reach juniors (assigned (s .owner)) .roles) | false ↦ s ]
+shedded juniors assigned s = elim (s .live) [ true ↦ keeping s (reach juniors (assigned (s .owner))) | false ↦ s ]
 
 unfoldable pub shed : Model → Model
 shed m = withSessions m (λ k. shedded (m .juniors) (m .assigned) (m .sessions k))
-
--- shedding follows the inheritance of every open session's owner: a chain of more than 64 roles is met there
-unfoldable pub shedCut : Model → Bool
-shedCut m = some 64 (λ k. m .sessions k .live && reach (m .juniors) (m .assigned (m .sessions k .owner)) .cut)
 
 -- ---- how full the tables are: their own counts
 

@@ -1,12 +1,12 @@
--- The answers and the numbers 0 to 15 are one to one. Assumes nothing.
-use mathlib.Core.Path.{_≡_, refl, sym, ap, _∙_}
+-- Each answer has a number of its own, by which it is found again. Assumes nothing.
+use mathlib.Core.Bool.{Bool, true, false}
 use mathlib.Core.List.{List, [], _∷_}
-use Prim.Native.Nat.{ℕ, zero, suc, _+_, _<_}
-use native.Mathlib.Nat.{zero-add, le-of-suc-le-suc, not-suc-le-zero}
+use mathlib.Core.Path.{_≡_, refl, sym, ap, _∙_}
+use Prim.Native.Nat.{ℕ, _<_}
 use native.Mathlib.Omega.{arith}
-use lib.Dec.{lit<}
-use lib.ListN.{length, getD, List·getD-map}
-use Rattle.numbers.specs.Answers.{numberOf, answerOf, sheet}
+use lib.Dec.{eqb, lit<}
+use borrow.Author.Tests.{eqb-true, ne-eqb}
+use Rattle.numbers.specs.Answers.{numberOf, withNumber, answerOf, sheet}
 use Rattle.numbers.specs.declared.Answer.{Answer}
 use Rattle.numbers.specs.declared.Answer.the-variants.{
   Done,
@@ -22,13 +22,15 @@ use Rattle.numbers.specs.declared.Answer.the-variants.{
   BreaksStatic,
   BreaksDynamic,
   TableFull,
-  ChainTooLong,
   NotOfForm,
   BufferShort,
 }
+use Rattle.numbers.specs.declared.Named.{Named}
+use Rattle.numbers.specs.declared.Named.the-variants.{Nothing, Is}
 
--- an answer's number finds it again on the sheet
-pub answer-back : (a : Answer) → answerOf (numberOf a) ≡ a
+-- an answer's number finds it again
+pub answer-back : (a : Answer) → answerOf (numberOf a) ≡ Is a
+unfolding withNumber
 answer-back Done = refl
 answer-back BeyondRange = refl
 answer-back Missing = refl
@@ -42,36 +44,54 @@ answer-back NotAuthorised = refl
 answer-back BreaksStatic = refl
 answer-back BreaksDynamic = refl
 answer-back TableFull = refl
-answer-back ChainTooLong = refl
 answer-back NotOfForm = refl
 answer-back BufferShort = refl
 
+-- the answer that is named; Done where none is
+named : Named → Answer
+named Nothing = Done
+named (Is a) = a
+
 -- different answers have different numbers
 pub number-one-to-one : (a b : Answer) → numberOf a ≡ numberOf b → a ≡ b
-number-one-to-one a b e = sym (answer-back a) ∙ (ap answerOf e ∙ answer-back b)
+unfolding named
+number-one-to-one a b e = ap named (sym (answer-back a) ∙ (ap answerOf e ∙ answer-back b))
 
--- within a list it does not matter what stands past its end
-pub within : (l : List Answer) (n : ℕ) (d e : Answer) → n < length l → getD l n d ≡ getD l n e
-within [] n d e h = absurd (not-suc-le-zero h)
-within (a ∷ l) zero d e h = refl
-within (a ∷ l) (suc n) d e h = within l n d e (le-of-suc-le-suc h)
+-- no answer is none
+nothing-is : (a : Answer) → Nothing ≡ Is a → ⊥
+nothing-is a e = let z : _≡_ {A = ℕ} 0 1 = ap (λ (x : Named). elim x [ Nothing ↦ 0 | Is b ↦ 1 ]) e in omega arith
 
--- the numbers i, i + 1, .., k of them
-countFrom : ℕ → ℕ → List ℕ
-countFrom i zero = []
-countFrom i (suc k) = i ∷ countFrom (suc i) k
+found-number : (n : ℕ) (a : Answer) (l : List Answer) → withNumber n l ≡ Is a → numberOf a ≡ n
+unfolding withNumber named
+found-number n a [] h = absurd (nothing-is a h)
+found-number n a (x ∷ l) h = go (eqb (numberOf x) n) refl (found-number n a l)
+  where
+    go : (b : Bool) → eqb (numberOf x) n ≡ b → (withNumber n l ≡ Is a → numberOf a ≡ n) → numberOf a ≡ n
+    go true e ih = sym (ap (λ (y : Named). numberOf (named y)) (rw (e, withNumber) at h)) ∙ eqb-true (numberOf x) n e
+    go false e ih = ih (rw (e, withNumber) at h)
 
-counted : (k i n d : ℕ) → n < k → getD (countFrom i k) n d ≡ i + n
-unfolding countFrom
-counted zero i n d h = absurd (not-suc-le-zero h)
-counted (suc k) i zero d h = omega arith
-counted (suc k) i (suc n) d h = counted k (suc i) n d (le-of-suc-le-suc h) ∙ omega arith
+-- an answer that a number finds has this number
+pub number-back : (n : ℕ) (a : Answer) → answerOf n ≡ Is a → numberOf a ≡ n
+number-back n a e = found-number n a sheet e
 
--- the numbers of the sheet's answers are counted from 0, so a number of the sheet is that of its answer
-pub number-back : (n : ℕ) → n < 16 → numberOf (answerOf n) ≡ n
-unfolding countFrom
-number-back n h =
-    sym (List·getD-map numberOf sheet n NotOfForm) ∙ (counted 16 0 n 14 h ∙ zero-add n)
+-- where a number finds none, no answer has it
+pub nothing-named : (n : ℕ) → answerOf n ≡ Nothing → (a : Answer) → numberOf a ≡ n → ⊥
+nothing-named n e a h = nothing-is a (sym e ∙ (ap answerOf (sym h) ∙ answer-back a))
+
+-- a number that is an answer's finds it
+pub named-by : (a : Answer) (n : ℕ) → n ≡ numberOf a → Is a ≡ answerOf n
+named-by a n e = sym (ap answerOf e ∙ answer-back a)
+
+-- the number is that of none of these answers
+abbrev pub Unnamed : ℕ → List Answer → Type 0
+Unnamed n [] = Unit {0}
+Unnamed n (a ∷ rest) = (n ≡ numberOf a → ⊥) × Unnamed n rest
+
+-- so it finds none of them
+pub unnamed : (n : ℕ) (l : List Answer) → Unnamed n l → Nothing ≡ withNumber n l
+unfolding withNumber
+unnamed n [] u = refl
+unnamed n (a ∷ l) u = rw (ne-eqb (numberOf a) n (λ e. u .0 (sym e)), withNumber) (unnamed n l (u .1))
 
 -- there are no further numbers
 pub number-below : (a : Answer) → numberOf a < 16
@@ -88,6 +108,5 @@ number-below NotAuthorised = lit< tt
 number-below BreaksStatic = lit< tt
 number-below BreaksDynamic = lit< tt
 number-below TableFull = lit< tt
-number-below ChainTooLong = lit< tt
 number-below NotOfForm = lit< tt
 number-below BufferShort = lit< tt

@@ -1,8 +1,9 @@
 -- The answer sheet: the paper's number of each answer, with the paper's sentence beside it, and the answer of each number.
 -- Assumes nothing.
+use mathlib.Core.Bool.{true, false}
 use mathlib.Core.List.{List, [], _∷_}
 use Prim.Native.Nat.{ℕ}
-use lib.ListN.{getD}
+use lib.Dec.{eqb}
 use Rattle.numbers.specs.declared.Answer.{Answer}
 use Rattle.numbers.specs.declared.Answer.the-variants.{
   Done,
@@ -18,10 +19,11 @@ use Rattle.numbers.specs.declared.Answer.the-variants.{
   BreaksStatic,
   BreaksDynamic,
   TableFull,
-  ChainTooLong,
   NotOfForm,
   BufferShort,
 }
+use Rattle.numbers.specs.declared.Named.{Named}
+use Rattle.numbers.specs.declared.Named.the-variants.{Nothing, Is}
 
 abbrev pub numberOf : Answer → ℕ
 numberOf Done = 0  -- done
@@ -37,11 +39,10 @@ numberOf NotAuthorised = 9  -- the owner is not authorised for an asked role
 numberOf BreaksStatic = 10  -- an SSD rule would be broken for some user
 numberOf BreaksDynamic = 11  -- a DSD rule would be broken in some session
 numberOf TableFull = 12  -- the table that would grow is full
-numberOf ChainTooLong = 13  -- a chain of inheritance of more than 64 roles is met
 numberOf NotOfForm = 14  -- the text, list or file is not of the form
 numberOf BufferShort = 15  -- the lent output buffer is shorter than the whole result
 
--- the answers in the order of their numbers
+-- all the answers
 abbrev pub sheet : List Answer
 sheet =
     Done ∷
@@ -57,11 +58,15 @@ sheet =
     BreaksStatic ∷
     BreaksDynamic ∷
     TableFull ∷
-    ChainTooLong ∷
     NotOfForm ∷
     BufferShort ∷
     []
 
--- the answer with this number; a number that is not on the sheet is not of the form
-abbrev pub answerOf : ℕ → Answer
-answerOf n = getD sheet n NotOfForm
+-- the one of these answers that has the number, or none
+unfoldable pub withNumber : ℕ → List Answer → Named
+withNumber n [] = Nothing
+withNumber n (a ∷ rest) = elim (eqb (numberOf a) n) [ true ↦ Is a | false ↦ withNumber n rest ]
+
+-- the answer with this number, if there is one
+abbrev pub answerOf : ℕ → Named
+answerOf n = withNumber n sheet

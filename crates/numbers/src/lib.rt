@@ -22,7 +22,7 @@ pub struct SetName {
     pub number: u16,
 }
 
-// The answer sheet, 0 to 15 in this order. `numberOf` has the paper's sentence for each.
+// The answer sheet, in the order of the numbers. `numberOf` has each number, and the paper's sentence for it.
 pub enum Answer {
     Done,
     BeyondRange,
@@ -37,7 +37,6 @@ pub enum Answer {
     BreaksStatic,
     BreaksDynamic,
     TableFull,
-    ChainTooLong,
     NotOfForm,
     BufferShort,
 }
@@ -60,40 +59,38 @@ pub fn number_of(a: Answer) -> u16
         Answer::BreaksStatic => 10,
         Answer::BreaksDynamic => 11,
         Answer::TableFull => 12,
-        Answer::ChainTooLong => 13,
         Answer::NotOfForm => 14,
         Answer::BufferShort => 15,
     }
 }
 
-// The answers in the order of their numbers.
-const SHEET: [Answer; 16] = [
-    Answer::Done,
-    Answer::BeyondRange,
-    Answer::Missing,
-    Answer::OtherOwner,
-    Answer::AlreadyThere,
-    Answer::NotThere,
-    Answer::InheritsItself,
-    Answer::BadCardinality,
-    Answer::StandsInSet,
-    Answer::NotAuthorised,
-    Answer::BreaksStatic,
-    Answer::BreaksDynamic,
-    Answer::TableFull,
-    Answer::ChainTooLong,
-    Answer::NotOfForm,
-    Answer::BufferShort,
-];
+// What a number names: an answer, or none.
+pub enum Named {
+    Nothing,
+    Is(Answer),
+}
 
-// The answer with this number. A number that is not on the sheet is not of the form.
-pub fn answer_of(n: u16) -> Answer
-    ensures { λ a. ⌜ a ≡ answerOf n ⌝ }
+// The answer with this number, if there is one.
+pub fn answer_of(n: u16) -> Named
+    ensures { λ named. ⌜ named ≡ answerOf n ⌝ }
 {
-    if n < 16 {
-        SHEET[n as usize]
-    } else {
-        Answer::NotOfForm
+    match n {
+        0 => Named::Is(Answer::Done),
+        1 => Named::Is(Answer::BeyondRange),
+        2 => Named::Is(Answer::Missing),
+        3 => Named::Is(Answer::OtherOwner),
+        4 => Named::Is(Answer::AlreadyThere),
+        5 => Named::Is(Answer::NotThere),
+        6 => Named::Is(Answer::InheritsItself),
+        7 => Named::Is(Answer::BadCardinality),
+        8 => Named::Is(Answer::StandsInSet),
+        9 => Named::Is(Answer::NotAuthorised),
+        10 => Named::Is(Answer::BreaksStatic),
+        11 => Named::Is(Answer::BreaksDynamic),
+        12 => Named::Is(Answer::TableFull),
+        14 => Named::Is(Answer::NotOfForm),
+        15 => Named::Is(Answer::BufferShort),
+        _ => Named::Nothing,
     }
 }
 

@@ -1,7 +1,7 @@
 -- What the tests share: one after another, place by place until one fails, and place by place until one is found. Assumes nothing.
-use mathlib.Core.Bool.{Bool, true, false, not, _&&_}
+use mathlib.Core.Bool.{Bool, true, false, not}
 use mathlib.Core.List.{List}
-use mathlib.Core.Path.{_≡_, refl, sym, ap, subst, _∙_}
+use mathlib.Core.Path.{_≡_, refl, sym, subst, _∙_}
 use Prim.Native.Nat.{ℕ, _+_, _≤_, _<_}
 use native.Mathlib.Decide.{decLt}
 use native.Mathlib.Omega.{arith}
@@ -14,8 +14,6 @@ use Rattle.roleset.proofs.Laws.{has-none}
 use Rattle.hierarchy.specs.Lines.{tableOf}
 use Rattle.model.specs.Model.{absentSet, closedSession}
 use Rattle.state.specs.Stores.{Table}
-use Rattle.sweeps.specs.Sweeps.{Asks}
-use Rattle.sweeps.specs.declared.Asked.{Asked}
 use Rattle.policycheck.specs.Tests.{Tells, Inside, Backed, SetFine, SessionFine}
 
 -- ---- a test that is passed on
@@ -59,10 +57,6 @@ module _ {P : ℕ → Type 0} {n : ℕ} where
 -- a place that fails
 pub stopped : {P : ℕ → Type 0} {b : Bool} (k : ℕ) → (P k → b ≡ true) → b ≡ false → Tells false ((j : ℕ) → P j)
 stopped {b = b} k says e = tells-no (λ p. clash b (says (p k)) e)
-
--- where a rule that was asked is not broken, whether a walk was cut off is told
-pub unbroken-cut : {isBroken isCut : Bool} {x : Asked} → Asks isBroken isCut x → x .broken ≡ false → x .cut ≡ isCut
-unbroken-cut {isBroken} {isCut} a e = a .cut ∙ ap (λ (b : Bool). not b && isCut) (sym (a .broken) ∙ e)
 
 -- ---- a loop that looks for a place that passes a test
 

@@ -260,8 +260,8 @@ fn beyond(state: &[u64; PLACES], session: SessionRecord) -> bool
     if roleset::is_empty(session.active) {
         return false;
     }
-    let walk = walking::reach(state, held_by(state, session.owner));
-    !roleset::subset(session.active, walk.roles)
+    let authorised = walking::reach(state, held_by(state, session.owner));
+    !roleset::subset(session.active, authorised)
 }
 
 // Has some session such a role active?
@@ -308,15 +308,11 @@ pub fn broken(state: &[u64; PLACES]) -> Answer
     if unauthorised(state) {
         return Answer::NotAuthorised;
     }
-    let asked = sweeps::ask_static(state, &lines);
-    if asked.broken {
+    if sweeps::ask_static(state, &lines) {
         return Answer::BreaksStatic;
     }
     if breaks_dynamic(state) {
         return Answer::BreaksDynamic;
-    }
-    if asked.cut {
-        return Answer::ChainTooLong;
     }
     Answer::Done
 }

@@ -9,12 +9,11 @@ use borrow.Author.Tests.{ltb-false, le-ltb}
 use Rattle.roleset.specs.Roles.{has, subset, count}
 use Rattle.roleset.proofs.BoundedLaws.{clash, never, and-both, or-clear, some-false, some-none}
 use Rattle.roleset.proofs.Laws.{count-le, has-none, member-small, subset-true, subset-intro}
-use Rattle.hierarchy.proofs.CircleLaws.{never-cut, circular-acyclic, acyclic-circular}
+use Rattle.hierarchy.proofs.CircleLaws.{circular-acyclic, acyclic-circular}
 use Rattle.model.specs.Model.{Model, RoleSet, Session}
 use Rattle.model.specs.Sheet.{verdict}
 use Rattle.model.specs.Words.{authorised, staticBroken, dynamicBroken}
 use Rattle.model.specs.Sound.{SetShape, Shape, Sound}
-use Rattle.model.specs.commands.Inheriting.{usersCut}
 use Rattle.model.specs.commands.Sets.{badCardinality}
 use Rattle.sound.proofs.Sheet.{AllClear, clear-done, done-clear}
 use Rattle.sound.proofs.Breaking.{none-held}
@@ -106,7 +105,7 @@ module _ (m : Model) (f : Formed m) (e : verdict (rulesBroken m) ≡ 0) where
 -- ---- sound, so no rule broken
 
 pub sound-clear : (m : Model) → Sound m → verdict (rulesBroken m) ≡ 0
-unfolding rulesBroken unauthorised usersCut
+unfolding rulesBroken unauthorised
 sound-clear m s =
     let x = s .rules in
     clear-done (rulesBroken m) (
@@ -119,10 +118,7 @@ sound-clear m s =
             some-none 256 (staticBroken m) (λ u l. x .static u),
             (
               some-none 64 (dynamicBroken m) (λ k l. x .dynamic k),
-              (
-                some-none 256 _ (λ u l. never-cut (m .juniors) (x .acyclic) (m .assigned u)),
-                tt,
-              ),
+              tt,
             ),
           ),
         ),

@@ -1,5 +1,4 @@
--- The rules that a file of the form may break: "Then 6 (a line from a role to itself too), 7, 9, 10, 11 and 13, lowest first."
--- Assumes nothing.
+-- The rules that a file of the form may break: "Then 6 (a line from a role to itself too), 7, 9, 10, 11 .., lowest first." Assumes nothing.
 use mathlib.Core.Bool.{Bool, not, _&&_, _||_}
 use mathlib.Core.List.{List, [], _∷_}
 use Prim.Native.Nat.{ℕ}
@@ -9,7 +8,6 @@ use Rattle.hierarchy.specs.Walks.{circular}
 use Rattle.model.specs.Model.{Model, RoleSet}
 use Rattle.model.specs.Sheet.{Refusal, _when_}
 use Rattle.model.specs.Words.{authorised, staticBroken, dynamicBroken}
-use Rattle.model.specs.commands.Inheriting.{usersCut}
 use Rattle.model.specs.commands.Sets.{badCardinality}
 
 -- "a cardinality would be below 2 or above its set's size"
@@ -28,5 +26,4 @@ rulesBroken m =
     ∷ 9 when unauthorised m
     ∷ 10 when some 256 (staticBroken m)
     ∷ 11 when some 64 (dynamicBroken m)
-    ∷ 13 when usersCut m
     ∷ []

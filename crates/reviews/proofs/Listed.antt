@@ -42,9 +42,9 @@ pub auth-roles-listed : (m : Model) (u r : ℕ) → listed (authRoles m u) r ≡
 unfolding authRoles
 auth-roles-listed m u r = members-listed 64 (has (authorised m u)) r
 
-pub role-perms-listed : (m : Model) (r p : ℕ) → listed (rolePerms m r) p ≡ (ltb p 4096 && holds m (reached m (with none r) .roles) p)
+pub role-perms-listed : (m : Model) (r p : ℕ) → listed (rolePerms m r) p ≡ (ltb p 4096 && holds m (reached m (with none r)) p)
 unfolding rolePerms
-role-perms-listed m r p = members-listed 4096 (holds m (reached m (with none r) .roles)) p
+role-perms-listed m r p = members-listed 4096 (holds m (reached m (with none r))) p
 
 pub user-perms-listed : (m : Model) (u p : ℕ) → listed (userPerms m u) p ≡ (ltb p 4096 && holds m (authorised m u) p)
 unfolding userPerms
@@ -58,9 +58,9 @@ pub session-perms-listed : (m : Model) (s p : ℕ) → listed (sessionPerms m s)
 unfolding sessionPerms
 session-perms-listed m s p = members-listed 4096 (holds m (effective m s)) p
 
-pub role-ops-listed : (m : Model) (r obj op : ℕ) → listed (roleOps m r obj) op ≡ (ltb op 16 && holds m (reached m (with none r) .roles) (permission op obj))
+pub role-ops-listed : (m : Model) (r obj op : ℕ) → listed (roleOps m r obj) op ≡ (ltb op 16 && holds m (reached m (with none r)) (permission op obj))
 unfolding roleOps
-role-ops-listed m r obj op = members-listed 16 (λ k. holds m (reached m (with none r) .roles) (permission k obj)) op
+role-ops-listed m r obj op = members-listed 16 (λ k. holds m (reached m (with none r)) (permission k obj)) op
 
 pub user-ops-listed : (m : Model) (u obj op : ℕ) → listed (userOps m u obj) op ≡ (ltb op 16 && holds m (authorised m u) (permission op obj))
 unfolding userOps

@@ -20,15 +20,15 @@ use Rattle.reviews.proofs.Settling.{done-room}
 
 -- ---- the room
 
-review-fits : (m : Model) (room : ℕ) (beyond missing cut : Bool) (list : List ℕ) → length (review m room beyond missing cut list .results) ≤ room
+review-fits : (m : Model) (room : ℕ) (beyond missing : Bool) (list : List ℕ) → length (review m room beyond missing list .results) ≤ room
 unfolding settle
-review-fits m room beyond missing cut list = go (eqb (verdict rs) 0) refl
+review-fits m room beyond missing list = go (eqb (verdict rs) 0) refl
   where
     rs : List Refusal
-    rs = refusals beyond missing cut room (length list)
+    rs = refusals beyond missing room (length list)
 
     go : (b : Bool) → eqb (verdict rs) 0 ≡ b → length (settle rs m list m .results) ≤ room
-    go true e = rw (e, settle) (done-room beyond missing cut room (length list) (eqb-true (verdict rs) 0 e))
+    go true e = rw (e, settle) (done-room beyond missing room (length list) (eqb-true (verdict rs) 0 e))
     go false e = rw (e, settle) (omega arith)
 
 one-fits : (rs : List Refusal) (m : Model) (room n : ℕ) → 1 ≤ room → length (settle rs m (n ∷ []) m .results) ≤ room
@@ -43,19 +43,19 @@ one-fits rs m room n h = go (eqb (verdict rs) 0) refl
 pub results-fit : (m : Model) (room : ℕ) (q : Question) → 1 ≤ room → length (ask m room q .results) ≤ room
 unfolding ask check
 results-fit m room (Check s op obj) h = one-fits _ m room _ h
-results-fit m room (AssignedUsers r) h = review-fits m room _ _ _ (assignedUsers m (r .number))
-results-fit m room (AssignedRoles u) h = review-fits m room _ _ _ (assignedRoles m (u .number))
-results-fit m room (AuthUsers r) h = review-fits m room _ _ _ (authUsers m (r .number))
-results-fit m room (AuthRoles u) h = review-fits m room _ _ _ (authRoles m (u .number))
-results-fit m room (RolePerms r) h = review-fits m room _ _ _ (rolePerms m (r .number))
-results-fit m room (UserPerms u) h = review-fits m room _ _ _ (userPerms m (u .number))
-results-fit m room (SessionRoles s) h = review-fits m room _ _ _ (sessionRoles m (s .number))
-results-fit m room (SessionPerms s) h = review-fits m room _ _ _ (sessionPerms m (s .number))
-results-fit m room (RoleOps r obj) h = review-fits m room _ _ _ (roleOps m (r .number) obj)
-results-fit m room (UserOps u obj) h = review-fits m room _ _ _ (userOps m (u .number) obj)
-results-fit m room (Sets kind) h = review-fits m room _ _ _ (setNames kind m)
-results-fit m room (SetRoles kind name) h = review-fits m room _ _ _ (setRoles kind m (name .number))
-results-fit m room (SetCount kind name) h = review-fits m room _ _ _ (setCount kind m (name .number))
+results-fit m room (AssignedUsers r) h = review-fits m room _ _ (assignedUsers m (r .number))
+results-fit m room (AssignedRoles u) h = review-fits m room _ _ (assignedRoles m (u .number))
+results-fit m room (AuthUsers r) h = review-fits m room _ _ (authUsers m (r .number))
+results-fit m room (AuthRoles u) h = review-fits m room _ _ (authRoles m (u .number))
+results-fit m room (RolePerms r) h = review-fits m room _ _ (rolePerms m (r .number))
+results-fit m room (UserPerms u) h = review-fits m room _ _ (userPerms m (u .number))
+results-fit m room (SessionRoles s) h = review-fits m room _ _ (sessionRoles m (s .number))
+results-fit m room (SessionPerms s) h = review-fits m room _ _ (sessionPerms m (s .number))
+results-fit m room (RoleOps r obj) h = review-fits m room _ _ (roleOps m (r .number) obj)
+results-fit m room (UserOps u obj) h = review-fits m room _ _ (userOps m (u .number) obj)
+results-fit m room (Sets kind) h = review-fits m room _ _ (setNames kind m)
+results-fit m room (SetRoles kind name) h = review-fits m room _ _ (setRoles kind m (name .number))
+results-fit m room (SetCount kind name) h = review-fits m room _ _ (setCount kind m (name .number))
 
 -- In a buffer with a place or more, every question is told as the paper has it, `check` too.
 pub asked-with-room : (m : Model) (room : ℕ) (q : Question) → 1 ≤ room → fitted room (ask m room q) ≡ ask m room q

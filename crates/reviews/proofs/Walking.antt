@@ -8,8 +8,7 @@ use lib.Dec.{leb}
 use lib.ListN.{length}
 use borrow.Author.Tests.{leb-true}
 use Rattle.roleset.specs.Bounded.{members}
-use Rattle.hierarchy.specs.Walks.{reach}
-use Rattle.hierarchy.specs.declared.Walk.{Walk}
+use Rattle.hierarchy.specs.Walks.{reach, Reaches}
 use Rattle.model.specs.Model.{Model}
 use Rattle.model.specs.Questions.{review, holds}
 use Rattle.state.specs.Stores.{Table}
@@ -23,14 +22,14 @@ pub table-fits : {n : ℕ} {f : ℕ → ℕ} {table : List ℕ} → Table n f ta
 table-fits {n} t h = omega (arith, t .long, leb-true n 4096 h)
 
 -- the walk from a set of roles that the code has found
-pub walked : (juniors : ℕ → ℕ) {from held : ℕ} {w : Walk} → held ≡ from → w ≡ reach juniors held → reach juniors from ≡ w
-walked juniors e f = ap (reach juniors) (sym e) ∙ sym f
+pub walked : (juniors : ℕ → ℕ) {from held w : ℕ} → held ≡ from → Reaches juniors held w → reach juniors from ≡ w
+walked juniors e f = ap (reach juniors) (sym e) ∙ sym (f .is)
 
-module _ (m : Model) {b b′ mi mi′ : Bool} {v w : Walk} {before after : List ℕ} {x : Review} (e : b ≡ b′) (f : mi ≡ mi′) (g : v ≡ w) where
+module _ (m : Model) {b b′ mi mi′ : Bool} {v w : ℕ} {before after : List ℕ} {x : Review} (e : b ≡ b′) (f : mi ≡ mi′) (g : v ≡ w) where
   -- a list by the roles that are reached
-  pub told-walk : (list : ℕ → List ℕ) → Lists b′ mi′ (w .cut) (list (w .roles)) before after x → Reviewed (review m (length before) b mi (v .cut) (list (v .roles))) before after x
-  told-walk list = told-review m e f (ap (λ (w : Walk). w .cut) g) (λ h. ap (λ (w : Walk). list (w .roles)) g)
+  pub told-walk : (list : ℕ → List ℕ) → Lists b′ mi′ (list w) before after x → Reviewed (review m (length before) b mi (list v)) before after x
+  told-walk list = told-review m e f (λ h. ap list g)
 
   -- the permissions that these hold
-  pub told-perms : {table : List ℕ} → Table 4096 (m .holders) table → Lists b′ mi′ (w .cut) (meeting (w .roles) table) before after x → Reviewed (review m (length before) b mi (v .cut) (members 4096 (holds m (v .roles)))) before after x
-  told-perms {table} t = told-review m e f (ap (λ (w : Walk). w .cut) g) (λ h. meeting-members (w .roles) table 4096 _ (t .long) (λ k l. ap₂ (λ (w : Walk) (h : ℕ → ℕ). meets (w .roles) (h k)) g (sym (t .each))))
+  pub told-perms : {table : List ℕ} → Table 4096 (m .holders) table → Lists b′ mi′ (meeting w table) before after x → Reviewed (review m (length before) b mi (members 4096 (holds m v))) before after x
+  told-perms {table} t = told-review m e f (λ h. meeting-members w table 4096 _ (t .long) (λ k l. ap₂ (λ (w : ℕ) (h : ℕ → ℕ). meets w (h k)) g (sym (t .each))))

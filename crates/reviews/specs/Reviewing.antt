@@ -37,13 +37,13 @@ AskedAny m q before after x = Reviewed (fitted (length before) (ask m (length be
 
 -- ---- the parts that all reviews share
 
--- the refusals of a review that would give so many results: 1, 2, 13, 15
-abbrev pub refusals : Bool → Bool → Bool → ℕ → ℕ → List Refusal
-refusals beyond missing cut room results = 1 when beyond ∷ 2 when missing ∷ 13 when cut ∷ 15 when ltb room results ∷ []
+-- the refusals of a review that would give so many results: 1, 2, 15
+abbrev pub refusals : Bool → Bool → ℕ → ℕ → List Refusal
+refusals beyond missing room results = 1 when beyond ∷ 2 when missing ∷ 15 when ltb room results ∷ []
 
 -- whatever the model, the review of this list with these refusals
-abbrev pub Lists : Bool → Bool → Bool → List ℕ → List ℕ → List ℕ → Review → Type 0
-Lists beyond missing cut list before after x = (m : Model) → Reviewed (review m (length before) beyond missing cut list) before after x
+abbrev pub Lists : Bool → Bool → List ℕ → List ℕ → List ℕ → Review → Type 0
+Lists beyond missing list before after x = (m : Model) → Reviewed (review m (length before) beyond missing list) before after x
 
 -- some role is in both sets
 abbrev pub meets : ℕ → ℕ → Bool

@@ -1,5 +1,5 @@
 // The reviews: the questions whose answer is a list. Each finds the set of roles that it is about, by one walk at most, and lists by one shared pass.
-// The results stand at the front of the lent buffer. Its places past them are untouched, and so is all of it on a refusal; 1, 2, 13, 15.
+// The results stand at the front of the lent buffer. Its places past them are untouched, and so is all of it on a refusal; 1, 2, 15.
 ghost use Rattle.model.specs.declared.Question.the-variants.{AssignedUsers, AssignedRoles, AuthUsers, AuthRoles, RolePerms, UserPerms, SessionRoles, SessionPerms, RoleOps, UserOps, Sets, SetRoles, SetCount};
 ghost use Rattle.state.specs.View.{view};
 ghost use Rattle.reviews.specs.Reviewing.{Asked};
@@ -37,7 +37,6 @@ pub fn assigned_users(state: &[u64; PLACES], r: Role, out: &mut [u16]) -> Review
     listing::review(
         numbers::role_beyond(r),
         !has_role(state, r),
-        false,
         assigned(state),
         role,
         out,
@@ -49,13 +48,7 @@ pub fn assigned_roles(state: &[u64; PLACES], u: User, out: &mut [u16]) -> Review
     ensures { λ x. ⌜ Asked (view (now (state .entry))) (AssignedRoles u) (now (out .entry)) (now (out .exit)) x ⌝ }
 {
     let held = assigned_to(state, u);
-    listing::review_roles(
-        numbers::user_beyond(u),
-        !has_user(state, u),
-        false,
-        held,
-        out,
-    )
+    listing::review_roles(numbers::user_beyond(u), !has_user(state, u), held, out)
 }
 
 // The users that are authorised for the role: assigned to it or to one that inherits it.
@@ -67,9 +60,8 @@ pub fn auth_users(state: &[u64; PLACES], r: Role, out: &mut [u16]) -> Review
     listing::review(
         numbers::role_beyond(r),
         !has_role(state, r),
-        above.cut,
         assigned(state),
-        above.roles,
+        above,
         out,
     )
 }
@@ -79,12 +71,10 @@ pub fn auth_roles(state: &[u64; PLACES], u: User, out: &mut [u16]) -> Review
     ensures { λ x. ⌜ Asked (view (now (state .entry))) (AuthRoles u) (now (out .entry)) (now (out .exit)) x ⌝ }
 {
     let held = assigned_to(state, u);
-    let walk = reach(state, held);
-    let authorised = walk.roles;
+    let authorised = reach(state, held);
     listing::review_roles(
         numbers::user_beyond(u),
         !has_user(state, u),
-        walk.cut,
         authorised,
         out,
     )
@@ -94,13 +84,12 @@ pub fn auth_roles(state: &[u64; PLACES], u: User, out: &mut [u16]) -> Review
 pub fn role_perms(state: &[u64; PLACES], r: Role, out: &mut [u16]) -> Review
     ensures { λ x. ⌜ Asked (view (now (state .entry))) (RolePerms r) (now (out .entry)) (now (out .exit)) x ⌝ }
 {
-    let walk = reach(state, roleset::with(0, r.number));
+    let met = reach(state, roleset::with(0, r.number));
     listing::review(
         numbers::role_beyond(r),
         !has_role(state, r),
-        walk.cut,
         holders(state),
-        walk.roles,
+        met,
         out,
     )
 }
@@ -110,13 +99,12 @@ pub fn user_perms(state: &[u64; PLACES], u: User, out: &mut [u16]) -> Review
     ensures { λ x. ⌜ Asked (view (now (state .entry))) (UserPerms u) (now (out .entry)) (now (out .exit)) x ⌝ }
 {
     let held = assigned_to(state, u);
-    let walk = reach(state, held);
+    let met = reach(state, held);
     listing::review(
         numbers::user_beyond(u),
         !has_user(state, u),
-        walk.cut,
         holders(state),
-        walk.roles,
+        met,
         out,
     )
 }
@@ -129,7 +117,6 @@ pub fn session_roles(state: &[u64; PLACES], x: Session, out: &mut [u16]) -> Revi
     listing::review_roles(
         numbers::session_beyond(x),
         !session.live,
-        false,
         session.active,
         out,
     )
@@ -140,13 +127,12 @@ pub fn session_perms(state: &[u64; PLACES], x: Session, out: &mut [u16]) -> Revi
     ensures { λ a. ⌜ Asked (view (now (state .entry))) (SessionPerms x) (now (out .entry)) (now (out .exit)) a ⌝ }
 {
     let session = session_at(state, x);
-    let walk = reach(state, session.active);
+    let met = reach(state, session.active);
     listing::review(
         numbers::session_beyond(x),
         !session.live,
-        walk.cut,
         holders(state),
-        walk.roles,
+        met,
         out,
     )
 }
@@ -155,14 +141,13 @@ pub fn session_perms(state: &[u64; PLACES], x: Session, out: &mut [u16]) -> Revi
 pub fn role_ops(state: &[u64; PLACES], r: Role, obj: u16, out: &mut [u16]) -> Review
     ensures { λ x. ⌜ Asked (view (now (state .entry))) (RoleOps r obj) (now (out .entry)) (now (out .exit)) x ⌝ }
 {
-    let walk = reach(state, roleset::with(0, r.number));
+    let met = reach(state, roleset::with(0, r.number));
     listing::review_ops(
         either(numbers::role_beyond(r), 256 <= obj),
         !has_role(state, r),
-        walk.cut,
         state,
         obj,
-        walk.roles,
+        met,
         out,
     )
 }
@@ -172,14 +157,13 @@ pub fn user_ops(state: &[u64; PLACES], u: User, obj: u16, out: &mut [u16]) -> Re
     ensures { λ x. ⌜ Asked (view (now (state .entry))) (UserOps u obj) (now (out .entry)) (now (out .exit)) x ⌝ }
 {
     let held = assigned_to(state, u);
-    let walk = reach(state, held);
+    let met = reach(state, held);
     listing::review_ops(
         either(numbers::user_beyond(u), 256 <= obj),
         !has_user(state, u),
-        walk.cut,
         state,
         obj,
-        walk.roles,
+        met,
         out,
     )
 }
@@ -189,7 +173,7 @@ pub fn set_names(state: &[u64; PLACES], kind: Kind, out: &mut [u16]) -> Review
     ensures { λ x. ⌜ Asked (view (now (state .entry))) (Sets kind) (now (out .entry)) (now (out .exit)) x ⌝ }
 {
     let table = listing::there(state, kind);
-    listing::review(false, false, false, &table, 1, out)
+    listing::review(false, false, &table, 1, out)
 }
 
 // The roles of the set.
@@ -197,7 +181,7 @@ pub fn set_roles(state: &[u64; PLACES], kind: Kind, name: SetName, out: &mut [u1
     ensures { λ x. ⌜ Asked (view (now (state .entry))) (SetRoles kind name) (now (out .entry)) (now (out .exit)) x ⌝ }
 {
     let set = set_named(state, kind, name);
-    listing::review_roles(numbers::set_beyond(name), !set.there, false, set.roles, out)
+    listing::review_roles(numbers::set_beyond(name), !set.there, set.roles, out)
 }
 
 // The cardinality of the set, in sixteen bits.
@@ -208,7 +192,6 @@ pub fn set_count(state: &[u64; PLACES], kind: Kind, name: SetName, out: &mut [u1
     listing::review_one(
         numbers::set_beyond(name),
         !set.there,
-        false,
         (set.card % 65536) as u16,
         out,
     )

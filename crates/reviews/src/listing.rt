@@ -60,18 +60,15 @@ fn write(table: &[u64], roles: u64, out: &mut [u16])
     }
 }
 
-// The refusal of a review that would give so many results in a buffer with so much room; 1, 2, 13, 15.
-fn refusal(beyond: bool, missing: bool, cut: bool, room: usize, results: u16) -> Answer
-    ensures { λ a. ⌜ numberOf a ≡ verdict (refusals beyond missing cut room results) ⌝ }
+// The refusal of a review that would give so many results in a buffer with so much room; 1, 2, 15.
+fn refusal(beyond: bool, missing: bool, room: usize, results: u16) -> Answer
+    ensures { λ a. ⌜ numberOf a ≡ verdict (refusals beyond missing room results) ⌝ }
 {
     if beyond {
         return Answer::BeyondRange;
     }
     if missing {
         return Answer::Missing;
-    }
-    if cut {
-        return Answer::ChainTooLong;
     }
     if room < results as usize {
         Answer::BufferShort
@@ -84,16 +81,15 @@ fn refusal(beyond: bool, missing: bool, cut: bool, room: usize, results: u16) ->
 pub(crate) fn review(
     beyond: bool,
     missing: bool,
-    cut: bool,
     table: &[u64],
     roles: u64,
     out: &mut [u16],
 ) -> Review
     requires { ⌜ length (now table) ≤ 4096 ⌝ }
-    ensures { λ x. ⌜ Lists beyond missing cut (meeting roles (now (table .entry))) (now (out .entry)) (now (out .exit)) x ⌝ }
+    ensures { λ x. ⌜ Lists beyond missing (meeting roles (now (table .entry))) (now (out .entry)) (now (out .exit)) x ⌝ }
 {
     let results = count(table, roles);
-    let answer = refusal(beyond, missing, cut, out.len(), results);
+    let answer = refusal(beyond, missing, out.len(), results);
     if numbers::is_done(answer) {
         write(table, roles, out);
         Review {
@@ -106,16 +102,10 @@ pub(crate) fn review(
 }
 
 // The review that gives one number.
-pub(crate) fn review_one(
-    beyond: bool,
-    missing: bool,
-    cut: bool,
-    number: u16,
-    out: &mut [u16],
-) -> Review
-    ensures { λ x. ⌜ Lists beyond missing cut (number ∷ []) (now (out .entry)) (now (out .exit)) x ⌝ }
+pub(crate) fn review_one(beyond: bool, missing: bool, number: u16, out: &mut [u16]) -> Review
+    ensures { λ x. ⌜ Lists beyond missing (number ∷ []) (now (out .entry)) (now (out .exit)) x ⌝ }
 {
-    let answer = refusal(beyond, missing, cut, out.len(), 1);
+    let answer = refusal(beyond, missing, out.len(), 1);
     if numbers::is_done(answer) {
         out[0] = number;
         Review { answer, count: 1 }
@@ -138,17 +128,11 @@ fn singles() -> [u64; 64]
 }
 
 // The review whose list is the roles of a set.
-pub(crate) fn review_roles(
-    beyond: bool,
-    missing: bool,
-    cut: bool,
-    roles: u64,
-    out: &mut [u16],
-) -> Review
-    ensures { λ x. ⌜ Lists beyond missing cut (members 64 (has roles)) (now (out .entry)) (now (out .exit)) x ⌝ }
+pub(crate) fn review_roles(beyond: bool, missing: bool, roles: u64, out: &mut [u16]) -> Review
+    ensures { λ x. ⌜ Lists beyond missing (members 64 (has roles)) (now (out .entry)) (now (out .exit)) x ⌝ }
 {
     let table = singles();
-    review(beyond, missing, cut, &table, roles, out)
+    review(beyond, missing, &table, roles, out)
 }
 
 // For each operation the roles that hold it on the object.
@@ -168,16 +152,15 @@ fn holders_on(state: &[u64; PLACES], obj: u16) -> [u64; 16]
 pub(crate) fn review_ops(
     beyond: bool,
     missing: bool,
-    cut: bool,
     state: &[u64; PLACES],
     obj: u16,
     roles: u64,
     out: &mut [u16],
 ) -> Review
-    ensures { λ x. ⌜ Lists beyond missing cut (members 16 (λ op. holds (view (now (state .entry))) roles (permission op obj))) (now (out .entry)) (now (out .exit)) x ⌝ }
+    ensures { λ x. ⌜ Lists beyond missing (members 16 (λ op. holds (view (now (state .entry))) roles (permission op obj))) (now (out .entry)) (now (out .exit)) x ⌝ }
 {
     let table = holders_on(state, obj);
-    review(beyond, missing, cut, &table, roles, out)
+    review(beyond, missing, &table, roles, out)
 }
 
 // Role 0 in the place of each set of this kind that is there, and no role in the other places.

@@ -99,7 +99,7 @@ fn put_without<'a>(
     ungrant_all(state, r);
 }
 
-// The role's assignments, grants and direct lines at either end go, and the role itself; then the sessions shed; 1, 2, 8, 13.
+// The role's assignments, grants and direct lines at either end go, and the role itself; then the sessions shed; 1, 2, 8.
 pub fn norole(state: &mut [u64; PLACES], r: Role) -> Answer
     ensures { λ a. ⌜ told a (now (state .exit)) ≡ norole (view (now (state .entry))) (r .number) ⌝ }
 {
@@ -123,10 +123,7 @@ pub fn norole(state: &mut [u64; PLACES], r: Role) -> Answer
     let mut assigned = assigned_table(state);
     let held = sweeps::strip(&mut assigned, r);
     let kept = sweeps::shed(&juniors, &assigned, state);
-    if kept.cut {
-        return Answer::ChainTooLong;
-    }
     put_without(state, r, &juniors, above + below, &assigned, held);
-    put_all_active(state, &kept.active);
+    put_all_active(state, &kept);
     Answer::Done
 }

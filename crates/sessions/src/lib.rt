@@ -40,7 +40,7 @@ fn not_opened(answer: Answer) -> Opened
     }
 }
 
-// Opens the lowest free session for the user, with the listed roles active; 14, 1, 2, 9, 11, 12, 13.
+// Opens the lowest free session for the user, with the listed roles active; 14, 1, 2, 9, 11, 12.
 pub fn session(state: &mut [u64; PLACES], u: User, list: &[u16]) -> Opened
     ensures { λ o. ⌜ Opens (session (view (now (state .entry))) (u .number) (now (list .entry))) o (now (state .exit)) ⌝ }
 {
@@ -57,8 +57,8 @@ pub fn session(state: &mut [u64; PLACES], u: User, list: &[u16]) -> Opened
     ) {
         return not_opened(Answer::Missing);
     }
-    let walk = reach(state, assigned_to(state, u));
-    if !roleset::subset(asked.roles, walk.roles) {
+    let authorised = reach(state, assigned_to(state, u));
+    if !roleset::subset(asked.roles, authorised) {
         return not_opened(Answer::NotAuthorised);
     }
     if breaks_some(state, Kind::Dynamic, asked.roles) {
@@ -67,9 +67,6 @@ pub fn session(state: &mut [u64; PLACES], u: User, list: &[u16]) -> Opened
     let free = sweeps::lowest_free(state);
     if numbers::session_beyond(free) {
         return not_opened(Answer::TableFull);
-    }
-    if walk.cut {
-        return not_opened(Answer::ChainTooLong);
     }
     open_session(state, free, u, asked.roles);
     Opened {
@@ -98,7 +95,7 @@ fn first_refusals(state: &[u64; PLACES], u: User, x: Session, r: Role) -> Answer
     Answer::Done
 }
 
-// The role becomes active in the session; 1, 2, 3, 4, 9, 11, 13.
+// The role becomes active in the session; 1, 2, 3, 4, 9, 11.
 pub fn activate(state: &mut [u64; PLACES], u: User, x: Session, r: Role) -> Answer
     ensures { λ a. ⌜ told a (now (state .exit)) ≡ activate (view (now (state .entry))) (u .number) (x .number) (r .number) ⌝ }
 {
@@ -111,16 +108,13 @@ pub fn activate(state: &mut [u64; PLACES], u: User, x: Session, r: Role) -> Answ
         return Answer::AlreadyThere;
     }
     let assigned = assigned_to(state, u);
-    let walk = reach(state, assigned);
-    if !roleset::has(walk.roles, r.number) {
+    let authorised = reach(state, assigned);
+    if !roleset::has(authorised, r.number) {
         return Answer::NotAuthorised;
     }
     let active = roleset::with(old.active, r.number);
     if breaks_some(state, Kind::Dynamic, active) {
         return Answer::BreaksDynamic;
-    }
-    if walk.cut {
-        return Answer::ChainTooLong;
     }
     put_active(state, x, active);
     Answer::Done

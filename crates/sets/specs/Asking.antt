@@ -2,9 +2,9 @@
 use mathlib.Core.List.{List, [], _∷_}
 use Rattle.model.specs.Model.{Model, RoleSet}
 use Rattle.model.specs.Sheet.{Refusal, _when_}
-use Rattle.model.specs.commands.Sets.{broken, ruleNumber, askingCut}
+use Rattle.model.specs.commands.Sets.{broken, ruleNumber}
 use Rattle.model.specs.declared.Kind.{Kind}
 
--- the last refusals of a command that would store the set: its rule would be broken, or could not be asked
+-- the last refusal of a command that would store the set: its rule would be broken
 abbrev pub ruleRefusals : Kind → Model → RoleSet → List Refusal
-ruleRefusals kind m set = ruleNumber kind when broken kind m set ∷ 13 when askingCut kind m ∷ []
+ruleRefusals kind m set = ruleNumber kind when broken kind m set ∷ []

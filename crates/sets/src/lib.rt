@@ -29,21 +29,17 @@ fn rule_answer(kind: Kind) -> Answer
     }
 }
 
-// The last refusals of a command that would store this set: its rule would be broken; 10 or 11, 13.
+// The last refusal of a command that would store this set: its rule would be broken; 10 or 11.
 fn rule_refusal(state: &[u64; PLACES], kind: Kind, set: RoleSet) -> Answer
     ensures { λ a. ⌜ numberOf a ≡ verdict (ruleRefusals kind (view (now (state .entry))) set) ⌝ }
 {
-    let rule = sweeps::ask_set(state, kind, set);
-    if rule.broken {
+    if sweeps::ask_set(state, kind, set) {
         return rule_answer(kind);
-    }
-    if rule.cut {
-        return Answer::ChainTooLong;
     }
     Answer::Done
 }
 
-// A new set of roles with a cardinality; 14, 1, 2, 4, 7, 10 or 11, 13.
+// A new set of roles with a cardinality; 14, 1, 2, 4, 7, 10 or 11.
 pub fn make_set(
     state: &mut [u64; PLACES],
     kind: Kind,
@@ -99,7 +95,7 @@ pub fn drop_set(state: &mut [u64; PLACES], kind: Kind, name: SetName) -> Answer
     Answer::Done
 }
 
-// The role becomes a member of the set; 1, 2, 4, 10 or 11, 13.
+// The role becomes a member of the set; 1, 2, 4, 10 or 11.
 pub fn add_member(state: &mut [u64; PLACES], kind: Kind, name: SetName, r: Role) -> Answer
     ensures { λ a. ⌜ told a (now (state .exit)) ≡ addMember kind (view (now (state .entry))) (name .number) (r .number) ⌝ }
 {
@@ -149,7 +145,7 @@ pub fn drop_member(state: &mut [u64; PLACES], kind: Kind, name: SetName, r: Role
     Answer::Done
 }
 
-// The set takes another cardinality; 1, 2, 7, 10 or 11, 13.
+// The set takes another cardinality; 1, 2, 7, 10 or 11.
 pub fn set_cardinality(state: &mut [u64; PLACES], kind: Kind, name: SetName, n: u16) -> Answer
     ensures { λ a. ⌜ told a (now (state .exit)) ≡ setCardinality kind (view (now (state .entry))) (name .number) n ⌝ }
 {

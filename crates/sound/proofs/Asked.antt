@@ -34,7 +34,7 @@ one-asked n test i l others = agree (test i) (some n test) (some-intro n test i 
 pub assign-asks-all : (m : Model) → Sound m → (u r : ℕ) → m .users u ≡ true → staticBroken (assigned m u r) u ≡ some 256 (staticBroken (assigned m u r))
 unfolding staticBroken assigned
 assign-asks-all m s u r user = one-asked 256 (staticBroken (assigned m u r)) u (s .shape .users u user)
-    (λ k d. ap (λ (set : ℕ). breaksSome (m .ssd) (reach (m .juniors) set .roles)) (put-other (m .assigned) u (with (m .assigned u) r) k d) ∙ s .rules .static k)
+    (λ k d. ap (λ (set : ℕ). breaksSome (m .ssd) (reach (m .juniors) set)) (put-other (m .assigned) u (with (m .assigned u) r) k d) ∙ s .rules .static k)
 
 -- One session changed: the dynamic rule would be broken in it exactly where it would be in some session.
 pub session-asks-all : (m : Model) → Sound m → (n k : ℕ) (new : Session) → k < n → dynamicBroken (sessionSet m k new) k ≡ some n (dynamicBroken (sessionSet m k new))

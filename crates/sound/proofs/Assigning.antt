@@ -36,7 +36,7 @@ assign-sound m u r s =
     (existing-at m (m .assigned) u r (s .shape .assigned) (not-false (has (m .roles) r) (there .1)))
     more
     (omega arith)
-    (put-all (λ k set. breaksSome (m .ssd) (reach (m .juniors) set .roles) ≡ false) (m .assigned) u (with (m .assigned u) r) (subst (λ (set : ℕ). breaksSome (m .ssd) (reach (m .juniors) set .roles) ≡ false) (put-same (m .assigned) u (with (m .assigned u) r)) (c .1 .1 .1 .0)) (λ k d. s .rules .static k)))
+    (put-all (λ k set. breaksSome (m .ssd) (reach (m .juniors) set) ≡ false) (m .assigned) u (with (m .assigned u) r) (subst (λ (set : ℕ). breaksSome (m .ssd) (reach (m .juniors) set) ≡ false) (put-same (m .assigned) u (with (m .assigned u) r)) (c .1 .1 .1 .0)) (λ k d. s .rules .static k)))
 
 -- `grant op obj r` keeps a sound model sound.
 pub grant-sound : (m : Model) (op obj r : ℕ) → Sound m → Sound (grant m op obj r .after)

@@ -12,10 +12,9 @@ use Rattle.hierarchy.specs.Lines.{line, Inherits, Small, AtOrAbove}
 use Rattle.hierarchy.specs.Lines.Inherits.{one, more}
 use Rattle.hierarchy.specs.Walks.{reach}
 use Rattle.hierarchy.proofs.WalkLaws.{reach-sound, reach-small}
-use Rattle.hierarchy.proofs.CircleLaws.{never-cut}
 use Rattle.model.specs.Model.{Model, RoleSet, Session, absentSet, closedSession, put}
 use Rattle.model.specs.Words.{reached}
-use Rattle.model.specs.Sound.{Existing, SetShape, SessionShape, Shape, Sound}
+use Rattle.model.specs.Sound.{Existing, SetShape, SessionShape, Shape}
 use Rattle.sound.proofs.Put.{put-all}
 use Rattle.sound.proofs.Members.{with-old, with-member, without-member}
 
@@ -89,7 +88,7 @@ module _ (m : Model) (x : Shape m) where
   lines-small = record { within = λ s j e. (role-small s (x .seniors s j e), role-small j (x .juniors s .exist j e)) }
 
   -- The roles reached from existing roles exist.
-  pub reached-exist : (from : ℕ) → Existing m from → Existing m (reached m from .roles)
+  pub reached-exist : (from : ℕ) → Existing m from → Existing m (reached m from)
   reached-exist from e =
       record {
         small = reach-small (m .juniors) from;
@@ -113,12 +112,8 @@ module _ (m : Model) (x : Shape m) where
   closed-idle s e r = ap (λ (y : Session). has (y .active) r) (x .sessions s .closed e) ∙ has-none r
 
 -- From no role none is reached.
-pub nothing-reached : (lines : ℕ → ℕ) (from : ℕ) → ((r : ℕ) → has from r ≡ false) → (r : ℕ) → has (reach lines from .roles) r ≡ false
-nothing-reached lines from h r = never (has (reach lines from .roles) r) (λ e. let u = reach-sound lines from r e in clash (has from (u .role)) (u .member) (h (u .role)))
-
--- In a sound model no walk is cut off: 13 is never to be answered.
-pub sound-never-cut : (m : Model) → Sound m → (from : ℕ) → reached m from .cut ≡ false
-sound-never-cut m s from = never-cut (m .juniors) (s .rules .acyclic) from
+pub nothing-reached : (lines : ℕ → ℕ) (from : ℕ) → ((r : ℕ) → has from r ≡ false) → (r : ℕ) → has (reach lines from) r ≡ false
+nothing-reached lines from h r = never (has (reach lines from) r) (λ e. let u = reach-sound lines from r e in clash (has from (u .role)) (u .member) (h (u .role)))
 
 -- ---- a table of sets of existing roles, with a role more at one place
 

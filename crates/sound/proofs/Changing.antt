@@ -161,7 +161,7 @@ module _ (m : Model) (s : Sound m) where
   -- ---- parts that shrink
 
   -- Fewer lines, assignments, grants and active roles, where every active role is one its owner is still authorised for.
-  pub fewer-sound : (m′ : Model) → Shape (shrunk m m′) → Counted (shrunk m m′) → ((a j : ℕ) → line (m′ .juniors) a j ≡ true → line (m .juniors) a j ≡ true) → ((u r : ℕ) → has (m′ .assigned u) r ≡ true → has (m .assigned u) r ≡ true) → ((p r : ℕ) → has (m′ .holders p) r ≡ true → has (m .holders p) r ≡ true) → ((k r : ℕ) → has (m′ .sessions k .active) r ≡ true → has (m .sessions k .active) r ≡ true) → ((k r : ℕ) → has (m′ .sessions k .active) r ≡ true → has (reach (m′ .juniors) (m′ .assigned (m′ .sessions k .owner)) .roles) r ≡ true) → Sound (shrunk m m′)
+  pub fewer-sound : (m′ : Model) → Shape (shrunk m m′) → Counted (shrunk m m′) → ((a j : ℕ) → line (m′ .juniors) a j ≡ true → line (m .juniors) a j ≡ true) → ((u r : ℕ) → has (m′ .assigned u) r ≡ true → has (m .assigned u) r ≡ true) → ((p r : ℕ) → has (m′ .holders p) r ≡ true → has (m .holders p) r ≡ true) → ((k r : ℕ) → has (m′ .sessions k .active) r ≡ true → has (m .sessions k .active) r ≡ true) → ((k r : ℕ) → has (m′ .sessions k .active) r ≡ true → has (reach (m′ .juniors) (m′ .assigned (m′ .sessions k .owner))) r ≡ true) → Sound (shrunk m m′)
   unfolding staticBroken dynamicBroken assignments grants linesStanding
   fewer-sound m′ shape counted lines assigned holders actives still =
       record {

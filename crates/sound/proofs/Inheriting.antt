@@ -24,7 +24,7 @@ use Rattle.sound.proofs.Put.{put-all}
 use Rattle.sound.proofs.Members.{or-no, with-new, with-member}
 use Rattle.sound.proofs.Counting.{one-more}
 use Rattle.sound.proofs.Breaking.{none-held}
-use Rattle.sound.proofs.Carried.{existing-at, old-at, new-at, lines-small, nobody-assigned, no-user-beyond, nothing-reached, sound-never-cut}
+use Rattle.sound.proofs.Carried.{existing-at, old-at, new-at, lines-small, nobody-assigned, no-user-beyond, nothing-reached}
 use Rattle.sound.proofs.Changing.{lines-changed}
 
 -- "equal, or the junior inherits the senior": what `inherit` asks is that.
@@ -42,7 +42,7 @@ circle-exact m s senior junior small = (to, back)
         start a (inr p) d = subst (λ (x : ℕ). AtOrAbove (m .juniors) x senior) p d
 
     back : AtOrAbove (m .juniors) junior senior → wouldCircle m senior junior ≡ true
-    back d = reach-complete (m .juniors) from (lines-small m (s .shape)) (sound-never-cut m s from) senior (record { role = junior; small = small; member = with-new none junior small; down = d })
+    back d = reach-complete (m .juniors) from (lines-small m (s .shape)) senior (record { role = junior; small = small; member = with-new none junior small; down = d })
 
 -- A line between two roles that makes no circle leaves none.
 pub lined-acyclic : (m : Model) → Sound m → (senior junior : ℕ) → junior < 64 → wouldCircle m senior junior ≡ false → Acyclic (lined m senior junior .juniors)
@@ -50,8 +50,8 @@ unfolding lined
 lined-acyclic m s senior junior small e = add-acyclic (new-at m (m .juniors) senior junior (s .shape .juniors)) (λ d. clash (wouldCircle m senior junior) (circle-exact m s senior junior small .1 d) e) (s .rules .acyclic)
 
 -- A number that is no user's breaks no static rule, whatever the lines.
-pub static-beyond : (m : Model) → Shape m → (lines : ℕ → ℕ) (u : ℕ) → 256 ≤ u → breaksSome (m .ssd) (reach lines (m .assigned u) .roles) ≡ false
-static-beyond m x lines u l = none-held (m .ssd) (reach lines (m .assigned u) .roles) (λ n. x .ssd n .atLeast) (nothing-reached lines (m .assigned u) (nobody-assigned m x u (no-user-beyond m x u l)))
+pub static-beyond : (m : Model) → Shape m → (lines : ℕ → ℕ) (u : ℕ) → 256 ≤ u → breaksSome (m .ssd) (reach lines (m .assigned u)) ≡ false
+static-beyond m x lines u l = none-held (m .ssd) (reach lines (m .assigned u)) (λ n. x .ssd n .atLeast) (nothing-reached lines (m .assigned u) (nobody-assigned m x u (no-user-beyond m x u l)))
 
 -- `inherit senior junior` keeps a sound model sound.
 pub inherit-sound : (m : Model) (senior junior : ℕ) → Sound m → Sound (inherit m senior junior .after)

@@ -1,52 +1,28 @@
--- On a sound model each command answers by its list in the paper: 10 where the rule would be broken "for some user", 11 "in some session",
--- 12 where the table itself is full, and 13 never, since no walk meets a chain of more than 64 roles. Assumes nothing.
-use mathlib.Core.Bool.{true, false, not, _||_, and-false}
+-- On a sound model each command answers by its list in the paper: 10 where the rule would be broken "for some user", 11 "in some session", and
+-- 12 where the table itself is full. Of the other commands the list in the model is that of the paper itself. Assumes nothing.
+use mathlib.Core.Bool.{true, false, not, _||_}
 use mathlib.Core.List.{List, [], _∷_}
 use mathlib.Core.Path.{_≡_, refl, ap}
 use Prim.Native.Nat.{ℕ}
 use lib.Dec.{leb}
 use borrow.Author.Tests.{leb-false, not-false}
-use Rattle.roleset.specs.Bounded.{some, bit}
-use Rattle.roleset.specs.Roles.{has, with, none, subset}
-use Rattle.roleset.proofs.BoundedLaws.{some-none}
+use Rattle.roleset.specs.Bounded.{some}
+use Rattle.roleset.specs.Roles.{has, with, subset}
 use Rattle.numbers.specs.Ranges.{mostAssignments, mostGrants, mostLines, sessions}
-use Rattle.hierarchy.specs.Lines.{Acyclic}
-use Rattle.hierarchy.proofs.InheritsLaws.{remove-acyclic}
-use Rattle.hierarchy.proofs.CircleLaws.{never-cut}
 use Rattle.model.specs.Model.{Model, put}
 use Rattle.model.specs.Sheet.{_when_, settle}
-use Rattle.model.specs.Words.{reached, authorised, staticBroken, dynamicBroken, permission, assignments, grants, linesStanding, sessionsOpen, shed, shedCut}
+use Rattle.model.specs.Words.{authorised, staticBroken, dynamicBroken, permission, assignments, grants, linesStanding, sessionsOpen}
 use Rattle.model.specs.Lists.{ascending, someFrom, setOf}
 use Rattle.model.specs.Sound.{Sound}
 use Rattle.model.specs.commands.Naming.{userBeyond, roleBeyond, sessionBeyond, setBeyond, permissionBeyond, userMissing, roleMissing, sessionMissing}
-use Rattle.model.specs.commands.Users.{inSet, withoutRole, norole}
-use Rattle.model.specs.commands.Assigning.{assigned, assign, deassigned, deassign, granted, grant}
-use Rattle.model.specs.commands.Inheriting.{lined, unlined, wouldCircle, usersCut, inherit, disinherit}
-use Rattle.model.specs.commands.Sets.{setsOf, withSets, ruleNumber, askingCut, badCardinality, aSet, setMissing, makeSet, addMember, setCardinality}
-use Rattle.model.specs.commands.Sessions.{lowestFree, opened, session, activeSet, notOwner, activate, permitted, check}
+use Rattle.model.specs.commands.Assigning.{assigned, assign, granted, grant}
+use Rattle.model.specs.commands.Inheriting.{lined, wouldCircle, inherit}
+use Rattle.model.specs.commands.Sets.{setsOf, withSets, ruleNumber, badCardinality, aSet, setMissing, makeSet, addMember, setCardinality}
+use Rattle.model.specs.commands.Sessions.{lowestFree, opened, session, activeSet, notOwner, activate}
 use Rattle.model.specs.declared.Kind.{Kind}
-use Rattle.model.specs.declared.Kind.the-variants.{Static, Dynamic}
 use Rattle.sound.proofs.Sheet.{alike-settle}
-use Rattle.sound.proofs.Members.{or-no, fewer-at, stripped-fewer}
-use Rattle.sound.proofs.Carried.{sound-never-cut}
-use Rattle.sound.proofs.Inheriting.{lined-acyclic}
+use Rattle.sound.proofs.Members.{or-no}
 use Rattle.sound.proofs.Asked.{assign-asks-all, opened-asks-all, activate-asks-all, ruleBroken, set-asks-all}
-
--- ---- no walk is cut off
-
--- Without a circle shedding follows no chain too far,
-pub shed-never-cut : (m : Model) → Acyclic (m .juniors) → shedCut m ≡ false
-unfolding shedCut
-shed-never-cut m a = some-none 64 _ (λ k l. rw (never-cut (m .juniors) a (m .assigned (m .sessions k .owner))) (and-false (m .sessions k .live)))
-
--- and neither does asking every user.
-pub users-never-cut : (m : Model) → Acyclic (m .juniors) → usersCut m ≡ false
-unfolding usersCut
-users-never-cut m a = some-none 256 _ (λ u l. never-cut (m .juniors) a (m .assigned u))
-
-asking-never-cut : (kind : Kind) (m : Model) → Sound m → askingCut kind m ≡ false
-asking-never-cut Static m s = users-never-cut m (s .rules .acyclic)
-asking-never-cut Dynamic m s = refl
 
 -- ---- assignments and lines
 
@@ -55,14 +31,7 @@ pub assign-listed : (m : Model) (u r : ℕ) → Sound m → assign m u r ≡ set
 unfolding assign
 assign-listed m u r s =
     alike-settle _ _ m [] (assigned m u r)
-    (refl, refl, λ c1. (refl, refl, λ c2. (refl, refl, λ c4. (refl, assign-asks-all m s u r (not-false (m .users u) (or-no (userMissing m u) (roleMissing m r) c2 .0)), λ c10. (refl, ap (leb mostAssignments) (s .counted .assigned), λ c12. (sound-never-cut m s (with (m .assigned u) r), tt))))))
-
--- "`deassign u r`: 1, 2, 5, then sheds."
-pub deassign-listed : (m : Model) (u r : ℕ) → Sound m → deassign m u r ≡ settle (1 when (userBeyond u || roleBeyond r) ∷ 2 when (userMissing m u || roleMissing m r) ∷ 5 when not (has (m .assigned u) r) ∷ []) m [] (shed (deassigned m u r))
-unfolding deassign deassigned
-deassign-listed m u r s =
-    alike-settle _ _ m [] (shed (deassigned m u r))
-    (refl, refl, λ c1. (refl, refl, λ c2. (refl, refl, λ c5. (shed-never-cut (deassigned m u r) (s .rules .acyclic), tt))))
+    (refl, refl, λ c1. (refl, refl, λ c2. (refl, refl, λ c4. (refl, assign-asks-all m s u r (not-false (m .users u) (or-no (userMissing m u) (roleMissing m r) c2 .0)), λ c10. (refl, ap (leb mostAssignments) (s .counted .assigned), λ c12. tt)))))
 
 -- "`grant op obj r`: 1, 2, 4, 12."
 pub grant-listed : (m : Model) (op obj r : ℕ) → Sound m → grant m op obj r ≡ settle (1 when (permissionBeyond op obj || roleBeyond r) ∷ 2 when roleMissing m r ∷ 4 when has (m .holders (permission op obj)) r ∷ 12 when leb mostGrants (grants m) ∷ []) m [] (granted m (permission op obj) r)
@@ -76,24 +45,7 @@ pub inherit-listed : (m : Model) (senior junior : ℕ) → Sound m → inherit m
 unfolding inherit
 inherit-listed m senior junior s =
     alike-settle _ _ m [] (lined m senior junior)
-    (refl, refl, λ c1. (refl, refl, λ c2. (refl, refl, λ c4. (refl, refl, λ c6. (refl, refl, λ c10. (refl, ap (leb mostLines) (s .counted .lined), λ c12. (uncut c1 c6, tt)))))))
-  where
-    uncut : (roleBeyond senior || roleBeyond junior) ≡ false → wouldCircle m senior junior ≡ false → (reached m (with none junior) .cut || usersCut (lined m senior junior)) ≡ false
-    uncut c1 c6 = rw (sound-never-cut m s (with none junior)) (users-never-cut (lined m senior junior) (lined-acyclic m s senior junior (leb-false 64 junior (or-no (roleBeyond senior) (roleBeyond junior) c1 .1)) c6))
-
--- "`disinherit senior junior`: 1, 2, 5, then sheds."
-pub disinherit-listed : (m : Model) (senior junior : ℕ) → Sound m → disinherit m senior junior ≡ settle (1 when (roleBeyond senior || roleBeyond junior) ∷ 2 when (roleMissing m senior || roleMissing m junior) ∷ 5 when not (has (m .juniors senior) junior) ∷ []) m [] (shed (unlined m senior junior))
-unfolding disinherit unlined
-disinherit-listed m senior junior s =
-    alike-settle _ _ m [] (shed (unlined m senior junior))
-    (refl, refl, λ c1. (refl, refl, λ c2. (refl, refl, λ c5. (shed-never-cut (unlined m senior junior) (remove-acyclic (fewer-at (m .juniors) senior junior) (s .rules .acyclic)), tt))))
-
--- "`norole r`: .. then sheds; 1, 2, 8."
-pub norole-listed : (m : Model) (r : ℕ) → Sound m → norole m r ≡ settle (1 when roleBeyond r ∷ 2 when roleMissing m r ∷ 8 when (inSet (m .ssd) r || inSet (m .dsd) r) ∷ []) m [] (shed (withoutRole m r))
-unfolding norole withoutRole
-norole-listed m r s =
-    alike-settle _ _ m [] (shed (withoutRole m r))
-    (refl, refl, λ c1. (refl, refl, λ c2. (refl, refl, λ c8. (shed-never-cut (withoutRole m r) (remove-acyclic (stripped-fewer (m .juniors) r) (s .rules .acyclic)), tt))))
+    (refl, refl, λ c1. (refl, refl, λ c2. (refl, refl, λ c4. (refl, refl, λ c6. (refl, refl, λ c10. (refl, ap (leb mostLines) (s .counted .lined), λ c12. tt))))))
 
 -- ---- sets, of both kinds
 
@@ -102,21 +54,21 @@ pub makeSet-listed : (kind : Kind) (m : Model) (name n : ℕ) (list : List ℕ) 
 unfolding makeSet
 makeSet-listed kind m name n list s =
     alike-settle _ _ m [] (withSets kind m (put (setsOf kind m) name (aSet n (setOf list))))
-    (refl, refl, λ c14. (refl, refl, λ c1. (refl, refl, λ c2. (refl, refl, λ c4. (refl, refl, λ c7. (refl, set-asks-all kind m s name (aSet n (setOf list)) (leb-false 16 name (or-no (setBeyond name) (someFrom 64 list) c1 .0)), λ c. (asking-never-cut kind m s, tt)))))))
+    (refl, refl, λ c14. (refl, refl, λ c1. (refl, refl, λ c2. (refl, refl, λ c4. (refl, refl, λ c7. (refl, set-asks-all kind m s name (aSet n (setOf list)) (leb-false 16 name (or-no (setBeyond name) (someFrom 64 list) c1 .0)), λ c. tt))))))
 
 -- "`ssd-add name r`: 1, 2, 4, 10."
 pub addMember-listed : (kind : Kind) (m : Model) (name r : ℕ) → Sound m → addMember kind m name r ≡ settle (1 when (setBeyond name || roleBeyond r) ∷ 2 when (setMissing kind m name || roleMissing m r) ∷ 4 when has (setsOf kind m name .roles) r ∷ ruleNumber kind when ruleBroken kind (withSets kind m (put (setsOf kind m) name (aSet (setsOf kind m name .card) (with (setsOf kind m name .roles) r)))) ∷ []) m [] (withSets kind m (put (setsOf kind m) name (aSet (setsOf kind m name .card) (with (setsOf kind m name .roles) r))))
 unfolding addMember
 addMember-listed kind m name r s =
     alike-settle _ _ m [] _
-    (refl, refl, λ c1. (refl, refl, λ c2. (refl, refl, λ c4. (refl, set-asks-all kind m s name (aSet (setsOf kind m name .card) (with (setsOf kind m name .roles) r)) (leb-false 16 name (or-no (setBeyond name) (roleBeyond r) c1 .0)), λ c. (asking-never-cut kind m s, tt)))))
+    (refl, refl, λ c1. (refl, refl, λ c2. (refl, refl, λ c4. (refl, set-asks-all kind m s name (aSet (setsOf kind m name .card) (with (setsOf kind m name .roles) r)) (leb-false 16 name (or-no (setBeyond name) (roleBeyond r) c1 .0)), λ c. tt))))
 
 -- "`ssd-card name n`: 1, 2, 7, 10."
 pub setCardinality-listed : (kind : Kind) (m : Model) (name n : ℕ) → Sound m → setCardinality kind m name n ≡ settle (1 when setBeyond name ∷ 2 when setMissing kind m name ∷ 7 when badCardinality n (setsOf kind m name .roles) ∷ ruleNumber kind when ruleBroken kind (withSets kind m (put (setsOf kind m) name (aSet n (setsOf kind m name .roles)))) ∷ []) m [] (withSets kind m (put (setsOf kind m) name (aSet n (setsOf kind m name .roles))))
 unfolding setCardinality
 setCardinality-listed kind m name n s =
     alike-settle _ _ m [] _
-    (refl, refl, λ c1. (refl, refl, λ c2. (refl, refl, λ c7. (refl, set-asks-all kind m s name (aSet n (setsOf kind m name .roles)) (leb-false 16 name c1), λ c. (asking-never-cut kind m s, tt)))))
+    (refl, refl, λ c1. (refl, refl, λ c2. (refl, refl, λ c7. (refl, set-asks-all kind m s name (aSet n (setsOf kind m name .roles)) (leb-false 16 name c1), λ c. tt))))
 
 -- ---- sessions
 
@@ -125,21 +77,14 @@ pub session-listed : (m : Model) (u : ℕ) (list : List ℕ) → Sound m → ses
 unfolding session
 session-listed m u list s =
     alike-settle _ _ m (lowestFree m ∷ []) (opened m u (setOf list))
-    (refl, refl, λ c14. (refl, refl, λ c1. (refl, refl, λ c2. (refl, refl, λ c9. (refl, opened-asks-all m s u (setOf list), λ c11. (refl, refl, λ c12. (sound-never-cut m s (m .assigned u), tt)))))))
+    (refl, refl, λ c14. (refl, refl, λ c1. (refl, refl, λ c2. (refl, refl, λ c9. (refl, opened-asks-all m s u (setOf list), λ c11. (refl, refl, λ c12. tt))))))
 
 -- "`activate u s r`: 1, 2, 3, 4, 9, 11."
 pub activate-listed : (m : Model) (u k r : ℕ) → Sound m → activate m u k r ≡ settle (1 when (userBeyond u || (sessionBeyond k || roleBeyond r)) ∷ 2 when (userMissing m u || (sessionMissing m k || roleMissing m r)) ∷ 3 when notOwner m u k ∷ 4 when has (m .sessions k .active) r ∷ 9 when not (has (authorised m u) r) ∷ 11 when some 64 (dynamicBroken (activeSet m k (with (m .sessions k .active) r))) ∷ []) m [] (activeSet m k (with (m .sessions k .active) r))
 unfolding activate
 activate-listed m u k r s =
     alike-settle _ _ m [] (activeSet m k (with (m .sessions k .active) r))
-    (refl, refl, λ c1. (refl, refl, λ c2. (refl, refl, λ c3. (refl, refl, λ c4. (refl, refl, λ c9. (refl, activate-asks-all m s k r (live c2), λ c11. (sound-never-cut m s (m .assigned u), tt)))))))
+    (refl, refl, λ c1. (refl, refl, λ c2. (refl, refl, λ c3. (refl, refl, λ c4. (refl, refl, λ c9. (refl, activate-asks-all m s k r (live c2), λ c11. tt))))))
   where
     live : (userMissing m u || (sessionMissing m k || roleMissing m r)) ≡ false → m .sessions k .live ≡ true
     live c2 = not-false (m .sessions k .live) (or-no (sessionMissing m k) (roleMissing m r) (or-no (userMissing m u) (sessionMissing m k || roleMissing m r) c2 .1) .0)
-
--- "`check s op obj`: refusals 1 and 2, else answer 0 with the result 1 for yes or 0 for no."
-pub check-listed : (m : Model) (k op obj : ℕ) → Sound m → check m k op obj ≡ settle (1 when (sessionBeyond k || permissionBeyond op obj) ∷ 2 when sessionMissing m k ∷ []) m (bit (permitted m k (permission op obj)) ∷ []) m
-unfolding check
-check-listed m k op obj s =
-    alike-settle _ _ m (bit (permitted m k (permission op obj)) ∷ []) m
-    (refl, refl, λ c1. (refl, refl, λ c2. (sound-never-cut m s (m .sessions k .active), tt)))

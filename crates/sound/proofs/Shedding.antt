@@ -26,7 +26,7 @@ use Rattle.sound.proofs.Carried.{existing-none, existing-in, set-in, se
 use Rattle.sound.proofs.Changing.{fewer-sound}
 
 -- What holds of a live session that keeps only some roles, and of one that is not live, holds of the session that has shed.
-pub shedded-all : (P : Session → Type 0) (juniors assigned : ℕ → ℕ) (x : Session) → (x .live ≡ true → P (keeping x (reach juniors (assigned (x .owner)) .roles))) → (x .live ≡ false → P x) → P (shedded juniors assigned x)
+pub shedded-all : (P : Session → Type 0) (juniors assigned : ℕ → ℕ) (x : Session) → (x .live ≡ true → P (keeping x (reach juniors (assigned (x .owner))))) → (x .live ≡ false → P x) → P (shedded juniors assigned x)
 unfolding shedded
 shedded-all P juniors assigned x live closed = go (x .live) refl
   where
@@ -81,14 +81,14 @@ module _ (m m′ : Model) where
         x : Shape m
         x = s .shape
 
-        authorised-exist : (u r : ℕ) → has (reach (m′ .juniors) (m′ .assigned u) .roles) r ≡ true → has (m′ .roles) r ≡ true
+        authorised-exist : (u r : ℕ) → has (reach (m′ .juniors) (m′ .assigned u)) r ≡ true → has (m′ .roles) r ≡ true
         authorised-exist u r h =
             let under = reach-sound (m′ .juniors) (m′ .assigned u) r h in
             below-exists (m′ .juniors) (m′ .roles) (λ a b. t .juniors-left a .exist b) (under .down) (t .assigned-left u .exist (under .role) (under .member))
 
-        live : (k : ℕ) → SessionShape m k (m .sessions k) → m .sessions k .live ≡ true → SessionShape after k (keeping (m .sessions k) (reach (m′ .juniors) (m′ .assigned (m .sessions k .owner)) .roles))
+        live : (k : ℕ) → SessionShape m k (m .sessions k) → m .sessions k .live ≡ true → SessionShape after k (keeping (m .sessions k) (reach (m′ .juniors) (m′ .assigned (m .sessions k .owner))))
         live k y l =
-            let held = reach (m′ .juniors) (m′ .assigned (m .sessions k .owner)) .roles in
+            let held = reach (m′ .juniors) (m′ .assigned (m .sessions k .owner)) in
             record { closed = λ e. clash (m .sessions k .live) l e; numbered = y .numbered; owned = y .owned; active = record { small = common-small (m .sessions k .active) held; exist = λ r h. authorised-exist (m .sessions k .owner) r (common-member (m .sessions k .active) held r h .2) } }
 
     -- and is sound: a rule that held before still does, and shedding leaves no active role without its authorisation.
@@ -98,8 +98,8 @@ module _ (m m′ : Model) where
         fewer-sound m s (shed (left m m′)) shed-shape
         (record { assigned = t .counted .assigned; granted = t .counted .granted; lined = t .counted .lined })
         (t .lines) (t .assigned-before) (t .held-before)
-        (λ k r. shedded-all (λ y. has (y .active) r ≡ true → has (m .sessions k .active) r ≡ true) (m′ .juniors) (m′ .assigned) (m .sessions k) (λ l h. common-member (m .sessions k .active) (reach (m′ .juniors) (m′ .assigned (m .sessions k .owner)) .roles) r h .1) (λ l h. h))
-        (λ k r. shedded-all (λ y. has (y .active) r ≡ true → has (reach (m′ .juniors) (m′ .assigned (y .owner)) .roles) r ≡ true) (m′ .juniors) (m′ .assigned) (m .sessions k) (λ l h. common-member (m .sessions k .active) (reach (m′ .juniors) (m′ .assigned (m .sessions k .owner)) .roles) r h .2) (λ l h. clash (has (m .sessions k .active) r) h (closed-idle m (s .shape) k l r)))
+        (λ k r. shedded-all (λ y. has (y .active) r ≡ true → has (m .sessions k .active) r ≡ true) (m′ .juniors) (m′ .assigned) (m .sessions k) (λ l h. common-member (m .sessions k .active) (reach (m′ .juniors) (m′ .assigned (m .sessions k .owner))) r h .1) (λ l h. h))
+        (λ k r. shedded-all (λ y. has (y .active) r ≡ true → has (reach (m′ .juniors) (m′ .assigned (y .owner))) r ≡ true) (m′ .juniors) (m′ .assigned) (m .sessions k) (λ l h. common-member (m .sessions k .active) (reach (m′ .juniors) (m′ .assigned (m .sessions k .owner))) r h .2) (λ l h. clash (has (m .sessions k .active) r) h (closed-idle m (s .shape) k l r)))
 
 -- ---- the commands
 

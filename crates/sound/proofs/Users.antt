@@ -98,9 +98,9 @@ module _ (m : Model) (u : ℕ) (s : Sound m) where
       (put-all (λ k set. (r : ℕ) → has set r ≡ true → has (m .assigned k) r ≡ true) (m .assigned) u none (λ r e. clash (has 0 r) e (has-none r)) (λ k d r e. e))
       (λ p r e. e)
       (λ k r. ended-all (λ y. has (y .active) r ≡ true → has (m .sessions k .active) r ≡ true) u (m .sessions k) (λ e. clash (has 0 r) e (has-none r)) (λ e h. h))
-      (λ k r. ended-all (λ y. has (y .active) r ≡ true → has (reach (m .juniors) (put (m .assigned) u none (y .owner)) .roles) r ≡ true) u (m .sessions k) (λ e. clash (has 0 r) e (has-none r)) (λ e h. still k r e h (m .sessions k .live) refl))
+      (λ k r. ended-all (λ y. has (y .active) r ≡ true → has (reach (m .juniors) (put (m .assigned) u none (y .owner))) r ≡ true) u (m .sessions k) (λ e. clash (has 0 r) e (has-none r)) (λ e h. still k r e h (m .sessions k .live) refl))
     where
-      still : (k r : ℕ) → (m .sessions k .live && eqb (m .sessions k .owner) u) ≡ false → has (m .sessions k .active) r ≡ true → (b : Bool) → m .sessions k .live ≡ b → has (reach (m .juniors) (put (m .assigned) u none (m .sessions k .owner)) .roles) r ≡ true
+      still : (k r : ℕ) → (m .sessions k .live && eqb (m .sessions k .owner) u) ≡ false → has (m .sessions k .active) r ≡ true → (b : Bool) → m .sessions k .live ≡ b → has (reach (m .juniors) (put (m .assigned) u none (m .sessions k .owner))) r ≡ true
       still k r e h true l = rw (put-other (m .assigned) u none (m .sessions k .owner) (other-owner k e l)) (s .rules .active k r h)
       still k r e h false l = clash (has (m .sessions k .active) r) h (closed-idle m (s .shape) k l r)
 

@@ -10,8 +10,7 @@ use borrow.Author.Tests.{not-true, eqb-true, leb-false}
 use Rattle.roleset.specs.Roles.{has, common, count, isEmpty, subset}
 use Rattle.roleset.proofs.BoundedLaws.{clash, never, not-yes, or-cases, tally-le}
 use Rattle.roleset.proofs.Laws.{member-small, has-those, those-member, subset-true, subset-intro, isEmpty-true, isEmpty-false}
-use Rattle.hierarchy.specs.Lines.{Inherits, Acyclic, AtOrAbove}
-use Rattle.hierarchy.proofs.CircleLaws.{never-cut}
+use Rattle.hierarchy.specs.Lines.{Inherits, AtOrAbove}
 use Rattle.hierarchy.proofs.WalkLaws.{reach-sound, reach-complete, reach-small}
 use Rattle.model.specs.Model.{Model}
 use Rattle.model.specs.Words.{reached, authorised, effective, breaksSome, counted, staticBroken, dynamicBroken, shed, sessionsOpen}
@@ -34,34 +33,34 @@ use Rattle.sound.proofs.Shedding.{shedded-all}
 abbrev pub InOrBelow : Model → ℕ → ℕ → Type 0
 InOrBelow m from r = (has from r ≡ true) ⊎ ((a : ℕ) × (has from a ≡ true) × Inherits (m .juniors) a r)
 
--- Where no role inherits itself, the roles reached from a set of existing roles are the existing roles that are in it or inherited by one in it.
-pub reached-exact : (m : Model) → Shape m → Acyclic (m .juniors) → (from : ℕ) → Existing m from → (r : ℕ) → (has (reached m from .roles) r ≡ true) ↔ ((has (m .roles) r ≡ true) × InOrBelow m from r)
-reached-exact m x acyclic from e r = (to, back)
+-- The roles reached from a set of existing roles are the existing roles that are in it or inherited by one in it.
+pub reached-exact : (m : Model) → Shape m → (from : ℕ) → Existing m from → (r : ℕ) → (has (reached m from) r ≡ true) ↔ ((has (m .roles) r ≡ true) × InOrBelow m from r)
+reached-exact m x from e r = (to, back)
   where
-    to : has (reached m from .roles) r ≡ true → (has (m .roles) r ≡ true) × InOrBelow m from r
+    to : has (reached m from) r ≡ true → (has (m .roles) r ≡ true) × InOrBelow m from r
     to h = let u = reach-sound (m .juniors) from r h in (reached-exist m x from e .exist r h, side (u .role) (u .member) (u .down))
       where
         side : (a : ℕ) → has from a ≡ true → AtOrAbove (m .juniors) a r → InOrBelow m from r
         side a h (inl p) = inl (rw p at h)
         side a h (inr p) = inr (a, h, p)
 
-    met : (a : ℕ) → has from a ≡ true → AtOrAbove (m .juniors) a r → has (reached m from .roles) r ≡ true
-    met a h p = reach-complete (m .juniors) from (lines-small m x) (never-cut (m .juniors) acyclic from) r (record { role = a; small = member-small from a (e .small) h; member = h; down = p })
+    met : (a : ℕ) → has from a ≡ true → AtOrAbove (m .juniors) a r → has (reached m from) r ≡ true
+    met a h p = reach-complete (m .juniors) from (lines-small m x) r (record { role = a; small = member-small from a (e .small) h; member = h; down = p })
 
-    back : (has (m .roles) r ≡ true) × InOrBelow m from r → has (reached m from .roles) r ≡ true
+    back : (has (m .roles) r ≡ true) × InOrBelow m from r → has (reached m from) r ≡ true
     back p = side (p .1)
       where
-        side : InOrBelow m from r → has (reached m from .roles) r ≡ true
+        side : InOrBelow m from r → has (reached m from) r ≡ true
         side (inl h) = met r h (inl refl)
         side (inr q) = met (q .0) (q .1) (inr (q .2))
 
 -- "Authorised: a user is authorised for an existing role if assigned to it or to a role that inherits it."
 pub authorised-exact : (m : Model) → Sound m → (u r : ℕ) → (has (authorised m u) r ≡ true) ↔ ((has (m .roles) r ≡ true) × InOrBelow m (m .assigned u) r)
-authorised-exact m s u r = reached-exact m (s .shape) (s .rules .acyclic) (m .assigned u) (s .shape .assigned u) r
+authorised-exact m s u r = reached-exact m (s .shape) (m .assigned u) (s .shape .assigned u) r
 
 -- "Effective roles of a session: its active roles and all roles these inherit"
 pub effective-exact : (m : Model) → Sound m → (k r : ℕ) → (has (effective m k) r ≡ true) ↔ ((has (m .roles) r ≡ true) × InOrBelow m (m .sessions k .active) r)
-effective-exact m s k r = reached-exact m (s .shape) (s .rules .acyclic) (m .sessions k .active) (s .shape .sessions k .active) r
+effective-exact m s k r = reached-exact m (s .shape) (m .sessions k .active) (s .shape .sessions k .active) r
 
 -- ---- permissions
 

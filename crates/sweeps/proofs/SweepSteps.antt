@@ -9,24 +9,22 @@ use lib.Dec.{eqb}
 use Rattle.roleset.specs.Roles.{common}
 use Rattle.roleset.proofs.BoundedLaws.{last-or-below}
 use Rattle.hierarchy.specs.Walks.{reach}
-use Rattle.hierarchy.specs.declared.Walk.{Walk}
 use Rattle.model.specs.Model.{Model, Session, closedSession, put, withSessions}
 use Rattle.model.specs.Words.{shedded}
 use Rattle.model.specs.commands.Sessions.{sessionSet}
 use Rattle.model.specs.commands.Users.{endedOf, allEnded}
 use Rattle.model.proofs.Puts.{put-same, put-other}
-use Rattle.sweeps.specs.Sweeps.{Keeps}
 
 module _ (juniors assigned : ℕ → ℕ) (s : Session) where
   -- a live session keeps what its owner's walk meets
-  pub keeps-live : (w : Walk) (x : ℕ) → s .live ≡ true → w ≡ reach juniors (assigned (s .owner)) → x ≡ common (s .active) (w .roles) → Keeps juniors assigned s (record { roles = x; cut = w .cut })
+  pub keeps-live : (w x : ℕ) → s .live ≡ true → w ≡ reach juniors (assigned (s .owner)) → x ≡ common (s .active) w → x ≡ shedded juniors assigned s .active
   unfolding shedded
-  keeps-live w x h e f = record { roles = f ∙ rw (e, shedded, h); cut = rw (h, e) }
+  keeps-live w x h e f = f ∙ rw (e, shedded, h)
 
   -- any other is as it was
-  pub keeps-dead : s .live ≡ false → Keeps juniors assigned s (record { roles = s .active; cut = false })
+  pub keeps-dead : s .live ≡ false → s .active ≡ shedded juniors assigned s .active
   unfolding shedded
-  keeps-dead h = record { roles = rw (shedded, h); cut = rw h }
+  keeps-dead h = rw (shedded, h)
 
 -- a live session of the user ends; one that is not live, or another's, is as it was
 pub end-own : (u : ℕ) (s : Session) → s .live ≡ true → eqb (s .owner) u ≡ true → closedSession ≡ endedOf u s

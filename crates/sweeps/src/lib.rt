@@ -4,10 +4,11 @@ ghost use Rattle.hierarchy.specs.Lines.{tableOf};
 ghost use Rattle.model.specs.Model.{Session};
 ghost use Rattle.model.specs.Words.{shedded};
 ghost use Rattle.model.specs.commands.Sessions.{lowestFree};
+ghost use Rattle.model.specs.commands.Sets.{broken};
 ghost use Rattle.model.specs.commands.Users.{allEnded};
+ghost use Rattle.model.specs.declared.Kind.the-variants.{Static, Dynamic};
 ghost use Rattle.state.specs.View.{part, view};
-ghost use Rattle.sweeps.specs.Sweeps.{AsksStatic, AsksSet, asksUsers, asksSessions, Keeps, ShedsAll, Strips};
-use hierarchy::Walk;
+ghost use Rattle.sweeps.specs.Sweeps.{asksStatic, ShedsAll, Strips};
 use model::Kind;
 use model::RoleSet;
 use model::SessionRecord;
@@ -17,84 +18,55 @@ use numbers::User;
 use separation::breaks;
 use separation::breaks_some;
 use state::PLACES;
-use state::naming::either;
 use state::reads::assigned_to;
 use state::reads::session_at;
 use state::stores::close_session;
 
-// What asking a rule finds: whether it is broken, and where it is not, whether a walk was cut off.
-pub struct Asked {
-    pub broken: bool,
-    pub cut: bool,
-}
-
-// The active roles that are left to each session, and whether a walk was cut off.
-pub struct Kept {
-    pub active: [u64; 64],
-    pub cut: bool,
-}
-
 // Is the static rule broken for some user, with these lines? The first user that breaks it ends the sweep. What no role breaks, a user with no roles does not break, and is not walked for.
-pub fn ask_static<'a>(state: &'a [u64; PLACES], juniors: &'a [u64; 64]) -> Asked
-    ensures { λ x. ⌜ AsksStatic (view (now (state .entry))) (tableOf (now (juniors .entry))) x ⌝ }
+pub fn ask_static<'a>(state: &'a [u64; PLACES], juniors: &'a [u64; 64]) -> bool
+    ensures { λ b. ⌜ b ≡ asksStatic (view (now (state .entry))) (tableOf (now (juniors .entry))) ⌝ }
 {
     if breaks_some(state, Kind::Static, 0) {
-        return Asked {
-            broken: true,
-            cut: false,
-        };
+        return true;
     }
-    let mut cut = false;
     let mut u: u16 = 0;
     while u < 256 {
         let held = assigned_to(state, User { number: u });
         u += 1;
         if held != 0 {
-            let walk = hierarchy::reach(juniors, held);
-            if breaks_some(state, Kind::Static, walk.roles) {
-                return Asked {
-                    broken: true,
-                    cut: false,
-                };
+            let authorised = hierarchy::reach(juniors, held);
+            if breaks_some(state, Kind::Static, authorised) {
+                return true;
             }
-            cut = either(cut, walk.cut);
         }
     }
-    Asked { broken: false, cut }
+    false
 }
 
 // Does some user break the rule of the set by the roles that it is authorised for?
-fn ask_users(state: &[u64; PLACES], set: RoleSet) -> Asked
-    ensures { λ x. ⌜ asksUsers (view (now (state .entry))) set x ⌝ }
+fn ask_users(state: &[u64; PLACES], set: RoleSet) -> bool
+    ensures { λ b. ⌜ b ≡ broken Static (view (now (state .entry))) set ⌝ }
 {
     if breaks(set, 0) {
-        return Asked {
-            broken: true,
-            cut: false,
-        };
+        return true;
     }
-    let mut cut = false;
     let mut u: u16 = 0;
     while u < 256 {
         let held = assigned_to(state, User { number: u });
         u += 1;
         if held != 0 {
-            let walk = walking::reach(state, held);
-            if breaks(set, walk.roles) {
-                return Asked {
-                    broken: true,
-                    cut: false,
-                };
+            let authorised = walking::reach(state, held);
+            if breaks(set, authorised) {
+                return true;
             }
-            cut = either(cut, walk.cut);
         }
     }
-    Asked { broken: false, cut }
+    false
 }
 
 // Does some session break the rule of the set by its active roles?
 fn ask_sessions(state: &[u64; PLACES], set: RoleSet) -> bool
-    ensures { λ b. ⌜ b ≡ asksSessions (view (now (state .entry))) set ⌝ }
+    ensures { λ b. ⌜ b ≡ broken Dynamic (view (now (state .entry))) set ⌝ }
 {
     let mut k: u16 = 0;
     while k < 64 {
@@ -108,56 +80,47 @@ fn ask_sessions(state: &[u64; PLACES], set: RoleSet) -> bool
 }
 
 // Is the rule of the set broken? A static one is asked of the roles that each user is authorised for, a dynamic one of those that each session has active.
-pub fn ask_set(state: &[u64; PLACES], kind: Kind, set: RoleSet) -> Asked
-    ensures { λ x. ⌜ AsksSet kind (view (now (state .entry))) set x ⌝ }
+pub fn ask_set(state: &[u64; PLACES], kind: Kind, set: RoleSet) -> bool
+    ensures { λ b. ⌜ b ≡ broken kind (view (now (state .entry))) set ⌝ }
 {
     match kind {
         Kind::Static => ask_users(state, set),
-        Kind::Dynamic => {
-            let broken = ask_sessions(state, set);
-            Asked { broken, cut: false }
-        }
+        Kind::Dynamic => ask_sessions(state, set),
     }
 }
 
-// What one session keeps of its active roles, and whether its owner's walk was cut off; a closed one stays as it is.
-fn left_to<'a>(juniors: &'a [u64; 64], assigned: &'a [u64; 256], session: SessionRecord) -> Walk
-    ensures { λ w. ⌜ Keeps (tableOf (now (juniors .entry))) (part (now (assigned .entry)) 0 256) session w ⌝ }
+// What one session keeps of its active roles; a closed one stays as it is.
+fn left_to<'a>(juniors: &'a [u64; 64], assigned: &'a [u64; 256], session: SessionRecord) -> u64
+    ensures { λ x. ⌜ x ≡ shedded (tableOf (now (juniors .entry))) (part (now (assigned .entry)) 0 256) session .active ⌝ }
 {
     if !session.live {
-        return Walk {
-            roles: session.active,
-            cut: false,
-        };
+        return session.active;
     }
     let mut held = 0u64;
     let owner = session.owner;
     if owner < 256 {
         held = assigned[owner as usize];
     }
-    let walk = hierarchy::reach(juniors, held);
-    let roles = roleset::common(session.active, walk.roles);
-    Walk {
-        roles,
-        cut: walk.cut,
-    }
+    let authorised = hierarchy::reach(juniors, held);
+    roleset::common(session.active, authorised)
 }
 
-// Every session keeps exactly those active roles for which its owner is still authorised, with these lines and these assignments.
-pub fn shed<'a>(juniors: &'a [u64; 64], assigned: &'a [u64; 256], state: &'a [u64; PLACES]) -> Kept
-    ensures { λ x. ⌜ ShedsAll (tableOf (now (juniors .entry))) (part (now (assigned .entry)) 0 256) (view (now (state .entry)) .sessions) x ⌝ }
+// Every session keeps exactly those active roles for which its owner is still authorised, with these lines and these assignments: what each has active then.
+pub fn shed<'a>(
+    juniors: &'a [u64; 64],
+    assigned: &'a [u64; 256],
+    state: &'a [u64; PLACES],
+) -> [u64; 64]
+    ensures { λ kept. ⌜ ShedsAll (tableOf (now (juniors .entry))) (part (now (assigned .entry)) 0 256) (view (now (state .entry)) .sessions) kept ⌝ }
 {
     let mut active = [0u64; 64];
-    let mut cut = false;
     let mut k: u16 = 0;
     while k < 64 {
         let session = session_at(state, Session { number: k });
-        let left = left_to(juniors, assigned, session);
-        active[k as usize] = left.roles;
-        cut = either(left.cut, cut);
+        active[k as usize] = left_to(juniors, assigned, session);
         k += 1;
     }
-    Kept { active, cut }
+    active
 }
 
 // The sessions of the user end; another's stay.

@@ -40,7 +40,7 @@ quick-is m roles = members-ext 4096 (holds m roles) _ (λ p l. go p (eqb (m .hol
 -- ---- the three questions
 
 abbrev pub roleTold : ℕ → Model → Told
-roleTold r m = review m room (roleBeyond r) (roleMissing m r) (reached m (with none r) .cut) (quick (m .holders) (reached m (with none r) .roles))
+roleTold r m = review m room (roleBeyond r) (roleMissing m r) (reached m (with none r) .cut) (quick (m .holders) (reached m (with none r)))
 
 abbrev pub userTold : ℕ → Model → Told
 userTold u m = review m room (userBeyond u) (userMissing m u) (reached m (m .assigned u) .cut) (quick (m .holders) (authorised m u))
@@ -50,7 +50,7 @@ sessionTold s m = review m room (sessionBeyond s) (sessionMissing m s) (reached 
 
 pub role-told : (r : ℕ) (m : Model) → ask m room (RolePerms (record { number = r })) ≡ roleTold r m
 unfolding ask rolePerms
-role-told r m = ap (λ (l : List ℕ). review m room (roleBeyond r) (roleMissing m r) (reached m (with none r) .cut) l) (quick-is m (reached m (with none r) .roles))
+role-told r m = ap (λ (l : List ℕ). review m room (roleBeyond r) (roleMissing m r) (reached m (with none r) .cut) l) (quick-is m (reached m (with none r)))
 
 pub user-told : (u : ℕ) (m : Model) → ask m room (UserPerms (record { number = u })) ≡ userTold u m
 unfolding ask userPerms

@@ -1,11 +1,9 @@
 // The walk over the lines of the lent state. A plain reference to the array, and not to a part of it: so the compiler makes a loop of the walk.
 ghost use mathlib.Core.Path.{_≡_};
 ghost use Rattle.roleset.specs.Roles.{union};
-ghost use Rattle.hierarchy.specs.Walks.{juniorsOf, walk};
-ghost use Rattle.model.specs.Words.{reached};
+ghost use Rattle.hierarchy.specs.Walks.{juniorsOf, walk, Reaches};
 ghost use Rattle.state.specs.Places.{juniorsAt};
 ghost use Rattle.state.specs.View.{part, view};
-use hierarchy::Walk;
 use state::JUNIORS;
 use state::PLACES;
 
@@ -23,27 +21,24 @@ fn juniors_of(state: &[u64; PLACES], front: u64) -> u64
     met
 }
 
-// Adds to `met` the roles of the front and all that they inherit, in chains of at most `allowed` roles; was it cut off where a longer chain is met? The roles met are lent, so that the call is the last step.
-fn walk_from(state: &[u64; PLACES], front: u64, allowed: u16, met: &mut u64) -> bool
-    ensures { λ cut. ⌜ (now (met .exit) ≡ union (now (met .entry)) (walk (part (now (state .entry)) juniorsAt 64) allowed front .roles)) × (cut ≡ walk (part (now (state .entry)) juniorsAt 64) allowed front .cut) ⌝ }
+// The roles met so far, those of the front and all that these inherit, in chains of at most `allowed` roles. The call is the last step.
+fn walk_from(state: &[u64; PLACES], front: u64, allowed: u16, met: u64) -> u64
+    ensures { λ w. ⌜ w ≡ union met (walk (part (now (state .entry)) juniorsAt 64) allowed front) ⌝ }
 {
-    let so_far = *met;
     if front == 0 {
-        return false;
+        return met;
     }
     if allowed == 0 {
-        return true;
+        return met;
     }
     let next = juniors_of(state, front);
-    *met = roleset::union(so_far, front);
-    walk_from(state, next, allowed - 1, met)
+    let more = roleset::union(met, front);
+    walk_from(state, next, allowed - 1, more)
 }
 
-// The roles of a set and all that they inherit; cut off where a chain of more than 64 roles starts there.
-pub fn reach(state: &[u64; PLACES], from: u64) -> Walk
-    ensures { λ w. ⌜ w ≡ reached (view (now (state .entry))) from ⌝ }
+// The roles of a set and all that they inherit, whatever the lines.
+pub fn reach(state: &[u64; PLACES], from: u64) -> u64
+    ensures { λ w. ⌜ Reaches (view (now (state .entry)) .juniors) from w ⌝ }
 {
-    let mut met = 0u64;
-    let cut = walk_from(state, from, 64, &mut met);
-    Walk { roles: met, cut }
+    walk_from(state, from, 64, 0)
 }

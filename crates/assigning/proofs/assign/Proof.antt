@@ -1,4 +1,4 @@
--- Each test of `assign` is a refusal of the sheet, in its order; past all six, the store adds the role to the user's and counts it. Assumes nothing.
+-- Each test of `assign` is a refusal of the sheet, in its order; past all five, the store adds the role to the user's and counts it. Assumes nothing.
 use borrow.Author.Needs.{needs}
 use borrow.Author.Tests.{le-leb, lt-leb}
 use mathlib.Core.Bool.{false, _||_}
@@ -8,7 +8,6 @@ use Prim.Native.Nat.{ℕ, _+_}
 use lib.Dec.{leb}
 use Rattle.roleset.specs.Roles.{has, with}
 use Rattle.numbers.specs.Ranges.{mostAssignments}
-use Rattle.hierarchy.specs.declared.Walk.{Walk}
 use Rattle.model.specs.Model.{Model}
 use Rattle.model.specs.Sheet.{verdict, settle, done}
 use Rattle.model.specs.Words.{reached, breaksSome, staticBroken}
@@ -71,13 +70,13 @@ new : (c : tie.After-with) → let s = to-start (to-1 (to-2 (c .before))) in c .
 new c = let s = to-start (to-1 (to-2 (c .before))) in c .with .ensures .is ∙ ap (λ (x : ℕ). with x (role s)) (c .before .before .before .assigned-to .ensures)
 
 walked : (c : tie.After-reach) → let s = to-start (to-1 (to-2 (c .before .before .before))) in reached (m s) (with (m s .assigned (user s)) (role s)) ≡ c .reach .result
-walked c = rw (← new (c .before .before)) (sym (c .reach .ensures))
+walked c = rw (← new (c .before .before)) (sym (c .reach .ensures .is))
 
 found-4 : (c : tie.After-breaks-some) → let s = to-start (to-1 (to-2 (c .before .before .before .before .before))) in staticBroken (assigned (m s) (user s) (role s)) (user s) ≡ c .breaks-some .result
 found-4 c =
     let s = to-start (to-1 (to-2 (c .before .before .before .before .before))) in
-    let ruled : c .breaks-some .result ≡ breaksSome (m s .ssd) (c .before .before .reach .result .roles) = c .breaks-some .ensures in
-    assigned-static (m s) (user s) (role s) ∙ ap (λ (w : Walk). breaksSome (m s .ssd) (w .roles)) (walked (c .before .before)) ∙ sym ruled
+    let ruled : c .breaks-some .result ≡ breaksSome (m s .ssd) (c .before .before .reach .result) = c .breaks-some .ensures in
+    assigned-static (m s) (user s) (role s) ∙ ap (breaksSome (m s .ssd)) (walked (c .before .before)) ∙ sym ruled
 
 clear-4 : (c : tie.Else4) → let s = to-start (to-1 (to-2 (to-3 c))) in staticBroken (assigned (m s) (user s) (role s)) (user s) ≡ false
 clear-4 c = found-4 (c .before) ∙ c .if4 .left
@@ -87,9 +86,6 @@ found-5 c = ap (leb 2048) (sym (c .assignment-count .ensures))
 
 clear-5 : (c : tie.Else5) → let s = to-start (to-1 (to-2 (to-3 (to-4 c)))) in leb mostAssignments (m s .assignmentCount) ≡ false
 clear-5 c = found-5 (c .before) ∙ lt-leb 2048 (c .before .assignment-count .result) (c .if5 .left)
-
-found-6 : (c : tie.Else5) → let s = to-start (to-1 (to-2 (to-3 (to-4 c)))) in reached (m s) (with (m s .assigned (user s)) (role s)) .cut ≡ to-4 c .before .before .before .reach .result .cut
-found-6 c = ap (λ (w : Walk). w .cut) (walked (to-4 c .before .before .before))
 
 returns : tie.Need-returns
 unfolding told assign settle verdict
@@ -121,23 +117,14 @@ returns-5 c =
     rw (clear-1 (to-1 c2), clear-2 c2, clear-3 c3, clear-4 c4, found-5 (c .before) ∙ le-leb 2048 (c .before .assignment-count .result) (c .if5 .taken))
 
 returns-6 : tie.Need-returns-6
-unfolding told assign settle verdict
-returns-6 c =
-    let c5 = c .before in
-    let c4 = to-4 c5 in
-    let c3 = to-3 c4 in
-    let c2 = to-2 c3 in
-    rw (clear-1 (to-1 c2), clear-2 c2, clear-3 c3, clear-4 c4, clear-5 c5, found-6 c5 ∙ c .if6 .taken)
-
-returns-7 : tie.Need-returns-7
 unfolding told assign settle verdict assigned
-returns-7 c =
-    let c5 = c .before .before .before in
+returns-6 c =
+    let c5 = c .before .before in
     let c4 = to-4 c5 in
     let c3 = to-3 c4 in
     let c2 = to-2 c3 in
     let s = to-start (to-1 c2) in
-    rw (clear-1 (to-1 c2), clear-2 c2, clear-3 c3, clear-4 c4, clear-5 c5, found-6 c5 ∙ c .before .before .if6 .left)
+    rw (clear-1 (to-1 c2), clear-2 c2, clear-3 c3, clear-4 c4, clear-5 c5)
     (ap (done [])
     (assigned-stored (m s) _ (user s) _ _ _ _
     (new (c4 .before .before .before .before .before))
@@ -166,7 +153,6 @@ assign-spec =
     returns-4
     (λ c κs. search needs)
     returns-5
-    returns-6
     (λ c. search needs)
     (λ c κs. search needs)
-    returns-7)
+    returns-6)

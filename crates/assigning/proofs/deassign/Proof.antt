@@ -1,4 +1,4 @@
--- Each test of `deassign` is a refusal of the sheet, in its order; past all four, the stores take the role from the user's, count it, and shed the sessions. Assumes nothing.
+-- Each test of `deassign` is a refusal of the sheet, in its order; past all three, the stores take the role from the user's, count it, and shed the sessions. Assumes nothing.
 use borrow.Author.Needs.{needs}
 use mathlib.Core.Bool.{false, _||_}
 use mathlib.Core.List.{[]}
@@ -7,12 +7,12 @@ use Prim.Native.Nat.{ℕ, _<_, _-_}
 use Rattle.roleset.specs.Roles.{has, without}
 use Rattle.model.specs.Model.{Model}
 use Rattle.model.specs.Sheet.{verdict, settle, done}
-use Rattle.model.specs.Words.{shed, shedCut}
+use Rattle.model.specs.Words.{shed}
 use Rattle.model.specs.commands.Assigning.{deassign, deassigned}
 use Rattle.model.specs.commands.Naming.{userBeyond, roleBeyond, userMissing, roleMissing}
 use Rattle.state.specs.View.{view, told}
 use Rattle.state.proofs.Stored.{within}
-use Rattle.assigning.proofs.Laws.{assigned-stored, deassigned-cut, deassigned-shed}
+use Rattle.assigning.proofs.Laws.{assigned-stored, deassigned-shed}
 use Rattle.assigning.proofs.deassign.Statement.{statement}
 use Rattle.assigning.proofs.deassign.Tie as tie
 
@@ -62,26 +62,18 @@ found-3 c = rw (← c .before .assigned-to .ensures) (sym (c .has .ensures))
 left : (c : tie.After-without) → let s = to-start (to-1 (to-2 (c .before))) in c .without .result ≡ without (m s .assigned (user s)) (role s)
 left c = let s = to-start (to-1 (to-2 (c .before))) in c .without .ensures .is ∙ ap (λ (x : ℕ). without x (role s)) (c .before .before .before .assigned-to .ensures)
 
-found-4 : (c : tie.After-shed) → let s = to-start (to-1 (to-2 (to-3 c))) in shedCut (deassigned (m s) (user s) (role s)) ≡ c .shed .result .cut
-found-4 c =
-    let t = c .before .before .before .before .before in
-    let w = t .before .before .before .before in
-    let c1 = to-1 (to-2 (to-3 c)) in
-    let s = to-start c1 in
-    deassigned-cut (s .args .state .now) (t .before .before .juniors-table .result) (t .assigned-table .result) (user s) (role s) (w .without .result) (c .shed .result) (within-range c1) (left w) (t .before .before .juniors-table .ensures) (t .assigned-table .ensures) (c .shed .ensures)
-
 -- the two stores: what is left to the user and how many assignments stand, and then what is left to the sessions
-stored : (c : tie.After-put-all-active) → let s = to-start (to-1 (to-2 (to-3 (c .before .before .before .before .before .before .before .before .before .before)))) in view (c .put-all-active .last .0) ≡ shed (deassigned (m s) (user s) (role s))
+stored : (c : tie.After-put-all-active) → let s = to-start (to-1 (to-2 (to-3 (c .before .before .before .before .before .before .before .before)))) in view (c .put-all-active .last .0) ≡ shed (deassigned (m s) (user s) (role s))
 unfolding deassigned
 stored c =
-    let counted = c .before .before .before .before .before .before in
-    let swept = counted .before .before .before .before in
+    let counted = c .before .before .before .before .before in
+    let swept = counted .before .before .before in
     let t = swept .before .before .before .before .before in
     let w = t .before .before .before .before in
     let c1 = to-1 (to-2 (to-3 swept)) in
     let s = to-start c1 in
     deassigned-shed (s .args .state .now) (t .before .before .juniors-table .result) (t .assigned-table .result) (user s) (role s) (w .without .result) (swept .shed .result) (within-range c1) (left w) (t .before .before .juniors-table .ensures) (t .assigned-table .ensures) (swept .shed .ensures) _ _
-    (assigned-stored (m s) _ (user s) _ _ _ _ (left w) (counted .less .ensures ∙ ap (λ (n : ℕ). n - 1) (counted .before .assignment-count .ensures)) (within-range c1) (c .before .before .before .before .put-assigned .ensures))
+    (assigned-stored (m s) _ (user s) _ _ _ _ (left w) (counted .less .ensures ∙ ap (λ (n : ℕ). n - 1) (counted .before .assignment-count .ensures)) (within-range c1) (c .before .before .before .put-assigned .ensures))
     (c .put-all-active .ensures)
 
 returns : tie.Need-returns
@@ -101,17 +93,9 @@ returns-3 c =
 returns-4 : tie.Need-returns-4
 unfolding told deassign settle verdict
 returns-4 c =
-    let c3 = to-3 (c .before) in
+    let c3 = to-3 (c .before .before .before .before .before .before .before .before) in
     let c2 = to-2 c3 in
-    rw (clear-1 (to-1 c2), clear-2 c2, found-3 (c3 .before), c3 .if3 .left, found-4 (c .before) ∙ c .if4 .taken)
-
-returns-5 : tie.Need-returns-5
-unfolding told deassign settle verdict
-returns-5 c =
-    let past = c .before .before .before .before .before .before .before .before .before in
-    let c3 = to-3 (past .before) in
-    let c2 = to-2 c3 in
-    rw (clear-1 (to-1 c2), clear-2 c2, found-3 (c3 .before), c3 .if3 .left, found-4 (past .before) ∙ past .if4 .left)
+    rw (clear-1 (to-1 c2), clear-2 c2, found-3 (c3 .before), c3 .if3 .left)
     (ap (done []) (stored c))
 
 array-write-assigned : tie.Need-array-write-assigned
@@ -139,9 +123,8 @@ deassign-spec =
     (λ c. search needs)
     array-write-assigned
     (λ c κs. search needs)
-    returns-4
     (λ c κs. search needs)
     (λ c κs. search needs)
     (λ c κs. search needs)
     (λ c κs. search needs)
-    returns-5)
+    returns-4)

@@ -7,7 +7,6 @@ use Prim.Native.Nat.{ℕ}
 use Rattle.roleset.specs.Bounded.{bit}
 use Rattle.roleset.specs.Roles.{common, isEmpty}
 use Rattle.roleset.proofs.BoundedLaws.{clash}
-use Rattle.hierarchy.specs.declared.Walk.{Walk}
 use Rattle.model.specs.Model.{Model, Session}
 use Rattle.model.specs.Sheet.{verdict, settle, done}
 use Rattle.model.specs.Words.{permission, reached}
@@ -38,9 +37,6 @@ to-start c = c .before .before .before .before
 abbrev to-1 : tie.Else2 → tie.Else1
 to-1 c = c .before .before .before
 
-abbrev to-2 : tie.Else3 → tie.Else2
-to-2 c = c .before .before
-
 -- what the tests find, and what is known past them
 found-1 : (c : tie.After-either) → beyond (c .before .before .before) ≡ c .either .result
 found-1 c = rw (← c .before .before .session-beyond .ensures, ← c .before .permission-beyond .ensures) (sym (c .either .ensures))
@@ -55,7 +51,7 @@ clear-2 : (c : tie.Else2) → let s = to-start (to-1 c) in sessionMissing (m s) 
 clear-2 c = found-2 (c .before .before) ∙ c .if2 .left
 
 walked : (c : tie.After-reach) → let s = to-start (to-1 (c .before)) in reached (m s) (m s .sessions (number s) .active) ≡ c .reach .result
-walked c = let s = to-start (to-1 (c .before)) in ap (λ (x : Session). reached (m s) (x .active)) (sym (c .before .before .before .session-at .ensures)) ∙ sym (c .reach .ensures)
+walked c = let s = to-start (to-1 (c .before)) in ap (λ (x : Session). reached (m s) (x .active)) (sym (c .before .before .before .session-at .ensures)) ∙ sym (c .reach .ensures .is)
 
 returns : tie.Need-returns
 unfolding toldChecked check settle verdict
@@ -65,27 +61,20 @@ returns-2 : tie.Need-returns-2
 unfolding toldChecked check settle verdict
 returns-2 c = let at = c .before .before in record { tells = rw (clear-1 (at .before), found-2 at ∙ c .if2 .taken); silent = λ h. refl }
 
+-- yes or no, in the words of the definition
+answered : (c : tie.After-is-empty) → let s = to-start (to-1 (c .before .before .before .before)) in not (c .is-empty .result) ≡ permitted (m s) (number s) (perm s)
+unfolding permitted
+answered c =
+    let holding : c .before .common .result ≡ common (c .before .before .before .reach .result) (c .before .before .holders-of .result) = c .before .common .ensures .is in
+    ap not (c .is-empty .ensures .is ∙ ap isEmpty (holding ∙ ap₂ common (sym (walked (c .before .before .before))) (c .before .before .holders-of .ensures)))
+
 returns-3 : tie.Need-returns-3
 unfolding toldChecked check settle verdict
 returns-3 c =
-    let c2 = c .before .before in
-    record { tells = rw (clear-1 (to-1 c2), clear-2 c2, walked (c .before), c .if3 .taken); silent = λ h. refl }
-
--- yes or no, in the words of the definition
-answered : (c : tie.After-is-empty) → let s = to-start (to-1 (to-2 (c .before .before .before))) in not (c .is-empty .result) ≡ permitted (m s) (number s) (perm s)
-unfolding permitted
-answered c =
-    let holding : c .before .common .result ≡ common (c .before .before .before .before .reach .result .roles) (c .before .before .holders-of .result) = c .before .common .ensures .is in
-    ap not (c .is-empty .ensures .is ∙ ap isEmpty (holding ∙ ap₂ (λ (w : Walk) (h : ℕ). common (w .roles) h) (sym (walked (c .before .before .before .before))) (c .before .before .holders-of .ensures)))
-
-returns-4 : tie.Need-returns-4
-unfolding toldChecked check settle verdict
-returns-4 c =
-    let c3 = c .before .before .before in
-    let c2 = to-2 c3 in
+    let c2 = c .before .before .before .before in
     let s = to-start (to-1 c2) in
     record {
-      tells = rw (clear-1 (to-1 c2), clear-2 c2, walked (c3 .before), c3 .if3 .left) (ap (λ (b : Bool). done (bit b ∷ []) (m s)) (answered c));
+      tells = rw (clear-1 (to-1 c2), clear-2 c2) (ap (λ (b : Bool). done (bit b ∷ []) (m s)) (answered c));
       silent = λ h. clash true refl h;
     }
 
@@ -100,10 +89,9 @@ check-spec =
     (λ c κs. search needs)
     returns-2
     (λ c κs. search needs)
-    returns-3
     (λ c. search needs)
     (λ c. search needs)
     (λ c κs. search needs)
     (λ c κs. search needs)
     (λ c κs. search needs)
-    returns-4)
+    returns-3)

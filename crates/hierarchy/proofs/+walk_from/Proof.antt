@@ -17,15 +17,15 @@ use Rattle.roleset.proofs.union.Reads as union-reads
 use Rattle.hierarchy.proofs.+walk_from.{statement}
 use Rattle.hierarchy.proofs.+walk_from.Tie.{close}
 
-abbrev μ-walk-from : Measures 2 walk-from-kinds.ps ℕ
+abbrev μ-walk-from : Measures 1 walk-from-kinds.ps ℕ
 μ-walk-from κs a = a .1 .1 .0
 
-abbrev walk-from-at : ℕ → In 2 walk-from-kinds.ps
-walk-from-at t = and 2 walk-from-kinds.ps (is 2 walk-from-kinds.ps μ-walk-from t) walk-from.Pre
+abbrev walk-from-at : ℕ → In 1 walk-from-kinds.ps
+walk-from-at t = and 1 walk-from-kinds.ps (is 1 walk-from-kinds.ps μ-walk-from t) walk-from.Pre
 
-abbrev walk-from-below : ℕ → In 2 walk-from-kinds.ps
+abbrev walk-from-below : ℕ → In 1 walk-from-kinds.ps
 walk-from-below t =
-    and 2 walk-from-kinds.ps (falls 2 walk-from-kinds.ps _<_ μ-walk-from t) walk-from.Pre
+    and 1 walk-from-kinds.ps (falls 1 walk-from-kinds.ps _<_ μ-walk-from t) walk-from.Pre
 
 walk-from-returns : (t : ℕ) → walk-from-lts.Need-returns (
   juniors-of-reads.Asked,
@@ -36,9 +36,8 @@ walk-from-returns : (t : ℕ) → walk-from-lts.Need-returns (
   walk-from.Post,
 ) (walk-from-at t) walk-from.Post
 walk-from-returns t c =
-    let start = c .before .before in
-    let e = walk-empty (tableOf (start .args .juniors .now)) (start .args .allowed) (start .args .front) (rw (c .if1 .taken) isEmpty-none) in
-    (rw e (sym (union-none (start .args .met .now) (c .before .row-known .given .fits))), rw e)
+    let start = c .before in
+    rw (walk-empty (tableOf (start .args .juniors .now)) (start .args .allowed) (start .args .front) (rw (c .if1 .taken) isEmpty-none)) (sym (union-none (start .args .met) (start .fits .met .fits)))
 
 walk-from-returns-2 : (t : ℕ) → walk-from-lts.Need-returns-2 (
   juniors-of-reads.Asked,
@@ -49,9 +48,8 @@ walk-from-returns-2 : (t : ℕ) → walk-from-lts.Need-returns-2 (
   walk-from.Post,
 ) (walk-from-at t) walk-from.Post
 walk-from-returns-2 t c =
-    let start = c .before .before .before in
-    let e = walk-stopped (tableOf (start .args .juniors .now)) (start .args .front) (not-zero (start .args .front) (start .fits .front .fits) (c .before .if1 .left)) in
-    (rw (c .if2 .taken, e) (sym (union-none (start .args .met .now) (c .before .before .row-known .given .fits))), rw (c .if2 .taken, e))
+    let start = c .before .before in
+    rw (c .if2 .taken, walk-stopped (tableOf (start .args .juniors .now)) (start .args .front)) (sym (union-none (start .args .met) (start .fits .met .fits)))
 
 walk-from-juniors-of-requires : (t : ℕ) → walk-from-lts.Need-juniors-of-requires (
   juniors-of-reads.Asked,
@@ -91,7 +89,7 @@ walk-from-walk-from-requires : (t : ℕ) → walk-from-lts.Need-walk-from-requir
   walk-from-below t,
   walk-from.Post,
 ) (walk-from-at t) walk-from.Post
-walk-from-walk-from-requires t c κs = (omega (arith, c .before .before .before .if2 .left, c .before .before .before .before .before .before .pre .0), tt)
+walk-from-walk-from-requires t c κs = (omega (arith, c .before .before .if2 .left, c .before .before .before .before .pre .0), tt)
 
 walk-from-returns-3 : (t : ℕ) → walk-from-lts.Need-returns-3 (
   juniors-of-reads.Asked,
@@ -102,8 +100,8 @@ walk-from-returns-3 : (t : ℕ) → walk-from-lts.Need-returns-3 (
   walk-from.Post,
 ) (walk-from-at t) walk-from.Post
 walk-from-returns-3 t c =
-    let start = c .before .before .before .before .before .before .before in
-    walk-step (tableOf (start .args .juniors .now)) (start .args .allowed) (start .args .front) (c .before .before .before .juniors-of .result) (start .args .met .now) (c .before .before .union .result) (c .walk-from .last .1 .1 .1 .0) (c .walk-from .result) (c .before .before .before .before .if2 .left) (not-zero (start .args .front) (start .fits .front .fits) (c .before .before .before .before .before .if1 .left)) (c .before .before .before .juniors-of .ensures) (c .before .before .union .ensures .is) (c .walk-from .ensures)
+    let start = c .before .before .before .before .before in
+    walk-step (tableOf (start .args .juniors .now)) (start .args .allowed) (start .args .front) (c .before .before .juniors-of .result) (start .args .met) (c .before .union .result) (c .walk-from .result) (c .before .before .before .if2 .left) (not-zero (start .args .front) (start .fits .front .fits) (c .before .before .before .before .if1 .left)) (c .before .before .juniors-of .ensures) (c .before .union .ensures .is) (c .walk-from .ensures)
 
 pub +walk-from-spec : {M : Type 1} → statement M
 +walk-from-spec = close μ-walk-from λ t. walk-from-lts.spec (

@@ -1,15 +1,13 @@
 -- The number with 64 ones is the set of all roles, which computes. Assumes nothing.
 use borrow.Author.Needs.{needs}
-use mathlib.Core.Path.{ap}
 use Rattle.roleset.specs.Roles.{those, pack}
 use Rattle.hierarchy.specs.Walks.{circular}
-use Rattle.hierarchy.specs.declared.Walk.{Walk}
 use Rattle.hierarchy.proofs.circular.Statement.{statement}
 use Rattle.hierarchy.proofs.circular.Tie as tie
 
 returns : tie.Need-returns
 unfolding circular those pack
-returns c = ap (λ (w : Walk). w .cut) (c .reach .ensures)
+returns c = c .longer-chain .ensures
 
 pub circular-spec : {M : Type 1} → statement M
 circular-spec = tie.close (tie.spec (λ c κs. search needs) returns)

@@ -1,4 +1,4 @@
--- Each test of `disinherit` is a refusal of the sheet, in its order; past all four, the line is gone and the sessions shed. Assumes nothing.
+-- Each test of `disinherit` is a refusal of the sheet, in its order; past all three, the line is gone and the sessions shed. Assumes nothing.
 use borrow.Author.Needs.{needs}
 use mathlib.Core.Bool.{false, _||_}
 use mathlib.Core.List.{[]}
@@ -7,13 +7,13 @@ use Prim.Native.Nat.{ℕ, _-_, _<_}
 use Rattle.roleset.specs.Roles.{has, without}
 use Rattle.model.specs.Model.{Model}
 use Rattle.model.specs.Sheet.{verdict, settle, done}
-use Rattle.model.specs.Words.{shed, shedCut}
+use Rattle.model.specs.Words.{shed}
 use Rattle.model.specs.commands.Inheriting.{disinherit, unlined}
 use Rattle.model.specs.commands.Naming.{roleBeyond, roleMissing}
 use Rattle.state.specs.View.{view, told}
 use Rattle.sweeps.proofs.Shedding.{view-past}
 use Rattle.state.proofs.Stored.{within}
-use Rattle.inheriting.proofs.Laws.{unlined-cut, unlined-stored}
+use Rattle.inheriting.proofs.Laws.{unlined-stored}
 use Rattle.inheriting.proofs.disinherit.Statement.{statement}
 use Rattle.inheriting.proofs.disinherit.Tie as tie
 
@@ -44,7 +44,7 @@ abbrev to-3 : tie.After-shed → tie.Else3
 to-3 c = to-table c .before .before .before
 
 abbrev to-shed : tie.After-put-all-active → tie.After-shed
-to-shed c = c .before .before .before .before .before .before .before .before .before .before
+to-shed c = c .before .before .before .before .before .before .before .before
 
 -- the same place, from one where all that is known is bound
 abbrev start-2 : tie.Else2 → tie.Start
@@ -79,14 +79,6 @@ new c =
     let fewer : c .without .result ≡ without (c .before .before .before .directly-below .result) below = c .without .ensures .is in
     fewer ∙ ap (λ (x : ℕ). without x below) (c .before .before .before .directly-below .ensures)
 
-found-4 : (c : tie.After-shed) → let s = start-3 (to-3 c) in shedCut (unlined (m s) (senior s) (junior s)) ≡ c .shed .result .cut
-found-4 c =
-    let table = to-table c in
-    let c3 = to-3 c in
-    let s = start-3 c3 in
-    let holds = c .before .before .before .before in
-    unlined-cut (m s) (senior s) (junior s) (within-range (to-1 (to-2 c3))) (table .before .before .without .result) (new (table .before .before)) (table .juniors-table .result) (holds .assigned-table .result) (c .shed .result) (table .juniors-table .ensures) (holds .assigned-table .ensures) (c .shed .ensures)
-
 -- the two stores: the lines, and then what is left to the sessions
 stored : (c : tie.After-put-all-active) → let s = start-3 (to-3 (to-shed c)) in view (c .put-all-active .last .0) ≡ shed (unlined (m s) (senior s) (junior s))
 stored c =
@@ -96,7 +88,7 @@ stored c =
     let s = start-3 c3 in
     let holds = swept .before .before .before .before in
     let put = c .before .before .before in
-    let left = put .before .before .before in
+    let left = put .before .before in
     unlined-stored (m s) (senior s) (junior s) (within-range (to-1 (to-2 c3))) (table .before .before .without .result) (new (table .before .before)) (table .juniors-table .result) (holds .assigned-table .result) (swept .shed .result) (table .juniors-table .ensures) (holds .assigned-table .ensures) (swept .shed .ensures)
     (view-past (s .args .state .now)) (view (put .put-juniors .last .0)) (view (c .put-all-active .last .0)) (left .less .result) (left .less .ensures ∙ ap (λ (n : ℕ). n - 1) (left .before .line-count .ensures)) (put .put-juniors .ensures) (c .put-all-active .ensures)
 
@@ -120,17 +112,10 @@ array-write-juniors c = within-range (to-1 (to-2 (c .before .before .before .bef
 returns-4 : tie.Need-returns-4
 unfolding told disinherit settle verdict
 returns-4 c =
-    let c3 = to-3 (c .before) in
-    let c2 = to-2 c3 in
-    rw (clear-1 (to-1 c2), clear-2 c2, found-3 (c3 .before), c3 .if3 .left, found-4 (c .before) ∙ c .if4 .taken)
-
-returns-5 : tie.Need-returns-5
-unfolding told disinherit settle verdict
-returns-5 c =
     let swept = to-shed c in
     let c3 = to-3 swept in
     let c2 = to-2 c3 in
-    rw (clear-1 (to-1 c2), clear-2 c2, found-3 (c3 .before), c3 .if3 .left, found-4 swept ∙ c .before .before .before .before .before .before .before .before .before .if4 .left)
+    rw (clear-1 (to-1 c2), clear-2 c2, found-3 (c3 .before), c3 .if3 .left)
     (ap (done []) (stored c))
 
 pub disinherit-spec : {M : Type 1} → statement M
@@ -155,9 +140,8 @@ disinherit-spec =
     array-write-juniors
     (λ c κs. search needs)
     (λ c κs. search needs)
-    returns-4
     (λ c κs. search needs)
     (λ c κs. search needs)
     (λ c κs. search needs)
     (λ c κs. search needs)
-    returns-5)
+    returns-4)

@@ -1,24 +1,22 @@
--- Each test of `inherit` is a refusal of the sheet, in its order; past all seven, the lines are those with the new one. Assumes nothing.
+-- Each test of `inherit` is a refusal of the sheet, in its order; past all six, the lines are those with the new one. Assumes nothing.
 use borrow.Author.Needs.{needs}
 use borrow.Author.Tests.{le-leb, lt-leb}
 use mathlib.Core.Bool.{false, _||_}
 use mathlib.Core.List.{[]}
-use mathlib.Core.Path.{_≡_, sym, ap, ap₂, _∙_}
+use mathlib.Core.Path.{_≡_, sym, ap, _∙_}
 use Prim.Native.Nat.{ℕ, _<_}
 use lib.Dec.{leb}
 use Rattle.roleset.specs.Bounded.{some}
 use Rattle.roleset.specs.Roles.{has, with, none}
 use Rattle.numbers.specs.Ranges.{mostLines}
-use Rattle.hierarchy.specs.declared.Walk.{Walk}
 use Rattle.model.specs.Model.{Model}
 use Rattle.model.specs.Sheet.{verdict, settle, done}
 use Rattle.model.specs.Words.{reached, staticBroken}
-use Rattle.model.specs.commands.Inheriting.{inherit, lined, wouldCircle, usersCut}
+use Rattle.model.specs.commands.Inheriting.{inherit, lined, wouldCircle}
 use Rattle.model.specs.commands.Naming.{roleBeyond, roleMissing}
 use Rattle.state.specs.View.{view, told}
-use Rattle.sweeps.specs.Sweeps.{Asks}
 use Rattle.state.proofs.Stored.{within}
-use Rattle.inheriting.proofs.Laws.{asked-cut, asks-lined, lined-stored}
+use Rattle.inheriting.proofs.Laws.{asks-lined, lined-stored}
 use Rattle.inheriting.proofs.inherit.Statement.{statement}
 use Rattle.inheriting.proofs.inherit.Tie as tie
 
@@ -84,13 +82,13 @@ clear-3 : (c : tie.Else3) → let s = start-3 c in has (m s .juniors (senior s))
 clear-3 c = found-3 (c .before) ∙ c .if3 .left
 
 walked : (c : tie.After-reach) → let s = start-3 (c .before .before .before) in reached (m s) (with none (junior s)) ≡ c .reach .result
-walked c = rw (← c .before .with .ensures .is) (sym (c .reach .ensures))
+walked c = rw (← c .before .with .ensures .is) (sym (c .reach .ensures .is))
 
 found-4 : (c : tie.After-has2) → let s = start-3 (c .before .before .before .before) in wouldCircle (m s) (senior s) (junior s) ≡ c .has2 .result
 found-4 c =
     let above = senior (start-3 (c .before .before .before .before)) in
-    let among : c .has2 .result ≡ has (c .before .reach .result .roles) above = c .has2 .ensures in
-    ap (λ (w : Walk). has (w .roles) above) (walked (c .before)) ∙ sym among
+    let among : c .has2 .result ≡ has (c .before .reach .result) above = c .has2 .ensures in
+    ap (λ (w : ℕ). has w above) (walked (c .before)) ∙ sym among
 
 clear-4 : (c : tie.Else4) → let s = start-4 c in wouldCircle (m s) (senior s) (junior s) ≡ false
 clear-4 c = found-4 (c .before) ∙ c .if4 .left
@@ -100,15 +98,12 @@ new : (c : tie.After-with2) → let s = start-4 (c .before) in c .with2 .result 
 new c = let s = start-4 (c .before) in c .with2 .ensures .is ∙ ap (λ (x : ℕ). with x (junior s)) (to-3 (c .before) .before .before .directly-below .ensures)
 
 -- the rule was asked with the lines as they will be
-asks : (c : tie.After-ask-static) → let s = start-4 (to-4 c) in Asks (some 256 (staticBroken (lined (m s) (senior s) (junior s)))) (usersCut (lined (m s) (senior s) (junior s))) (c .ask-static .result)
-asks c =
+found-5 : (c : tie.After-ask-static) → let s = start-4 (to-4 c) in some 256 (staticBroken (lined (m s) (senior s) (junior s))) ≡ c .ask-static .result
+found-5 c =
     let table = c .before .before .before .before in
     let c4 = to-4 c in
     let s = start-4 c4 in
-    asks-lined (m s) (senior s) (junior s) (within-range (to-1 (to-2 (to-3 c4)))) (table .before .before .with2 .result) (new (table .before .before)) (table .juniors-table .result) (c .ask-static .result) (table .juniors-table .ensures) (c .ask-static .ensures)
-
-found-5 : (c : tie.After-ask-static) → let s = start-4 (to-4 c) in some 256 (staticBroken (lined (m s) (senior s) (junior s))) ≡ c .ask-static .result .broken
-found-5 c = sym (asks c .broken)
+    sym (c .ask-static .ensures ∙ asks-lined (m s) (senior s) (junior s) (within-range (to-1 (to-2 (to-3 c4)))) (table .before .before .with2 .result) (new (table .before .before)) (table .juniors-table .result) (table .juniors-table .ensures))
 
 clear-5 : (c : tie.Else5) → let s = start-4 (to-4 (c .before)) in some 256 (staticBroken (lined (m s) (senior s) (junior s))) ≡ false
 clear-5 c = found-5 (c .before) ∙ c .if5 .left
@@ -119,15 +114,10 @@ found-6 c = ap (leb 512) (sym (c .line-count .ensures))
 clear-6 : (c : tie.Else6) → leb mostLines (m (start-4 (to-4 (to-asked c))) .lineCount) ≡ false
 clear-6 c = found-6 (c .before) ∙ lt-leb 512 (c .before .line-count .result) (c .if6 .left)
 
-found-7 : (c : tie.After-either3) → let s = start-4 (to-4 (to-asked (c .before))) in (reached (m s) (with none (junior s)) .cut || usersCut (lined (m s) (senior s) (junior s))) ≡ c .either3 .result
-found-7 c =
-    let asked = to-asked (c .before) in
-    ap₂ _||_ (ap (λ (w : Walk). w .cut) (walked (to-4 asked .before .before))) (asked-cut (asks asked) (c .before .before .before .before .if5 .left)) ∙ sym (c .either3 .ensures)
-
 -- the store: the lines with the new one
-stored : (c : tie.After-put-juniors) → let s = start-4 (to-4 (to-asked (c .before .before .before .before))) in view (c .put-juniors .last .0) ≡ lined (m s) (senior s) (junior s)
+stored : (c : tie.After-put-juniors) → let s = start-4 (to-4 (to-asked (c .before .before))) in view (c .put-juniors .last .0) ≡ lined (m s) (senior s) (junior s)
 stored c =
-    let c6 = c .before .before .before .before in
+    let c6 = c .before .before in
     let c4 = to-4 (to-asked c6) in
     let s = start-4 c4 in
     let with-line = to-asked c6 .before .before .before .before .before .before in
@@ -182,18 +172,7 @@ returns-7 c =
     let c4 = to-4 (c5 .before) in
     let c3 = to-3 c4 in
     let c2 = to-2 c3 in
-    rw (clear-1 (to-1 c2), clear-2 c2, clear-3 c3, clear-4 c4, clear-5 c5, clear-6 c6, found-7 (c .before) ∙ c .if7 .taken)
-
-returns-8 : tie.Need-returns-8
-unfolding told inherit settle verdict
-returns-8 c =
-    let c7 = c .before .before in
-    let c6 = c7 .before .before in
-    let c5 = c6 .before .before .before in
-    let c4 = to-4 (c5 .before) in
-    let c3 = to-3 c4 in
-    let c2 = to-2 c3 in
-    rw (clear-1 (to-1 c2), clear-2 c2, clear-3 c3, clear-4 c4, clear-5 c5, clear-6 c6, found-7 (c7 .before) ∙ c7 .if7 .left)
+    rw (clear-1 (to-1 c2), clear-2 c2, clear-3 c3, clear-4 c4, clear-5 c5, clear-6 c6)
     (ap (done []) (stored c))
 
 pub inherit-spec : {M : Type 1} → statement M
@@ -224,8 +203,6 @@ inherit-spec =
     returns-5
     (λ c κs. search needs)
     returns-6
-    (λ c κs. search needs)
-    returns-7
     (λ c. search needs)
     (λ c κs. search needs)
-    returns-8)
+    returns-7)

@@ -7,7 +7,7 @@ use Rattle.roleset.specs.Roles.{has, with, without}
 use Rattle.numbers.specs.Ranges.{mostAssignments, mostGrants}
 use Rattle.model.specs.Model.{Model, put, withAssignments, withGrants}
 use Rattle.model.specs.Sheet.{Told, _when_, settle}
-use Rattle.model.specs.Words.{reached, staticBroken, permission, shed, shedCut}
+use Rattle.model.specs.Words.{staticBroken, permission, shed}
 use Rattle.model.specs.commands.Naming.{userBeyond, roleBeyond, permissionBeyond, userMissing, roleMissing}
 
 -- the role r is assigned to the user u, one assignment more; it no longer is, one less
@@ -26,7 +26,6 @@ assign m u r =
     ∷ 4 when has (m .assigned u) r
     ∷ 10 when staticBroken (assigned m u r) u
     ∷ 12 when leb mostAssignments (m .assignmentCount)
-    ∷ 13 when reached m (with (m .assigned u) r) .cut
     ∷ [])
     m
     []
@@ -39,7 +38,6 @@ deassign m u r =
     (1 when (userBeyond u || roleBeyond r)
     ∷ 2 when (userMissing m u || roleMissing m r)
     ∷ 5 when not (has (m .assigned u) r)
-    ∷ 13 when shedCut (deassigned m u r)
     ∷ [])
     m
     []

@@ -8,7 +8,7 @@ use Rattle.roleset.specs.Roles.{has, with, without, none}
 use Rattle.numbers.specs.Ranges.{mostLines}
 use Rattle.model.specs.Model.{Model, put, withLines}
 use Rattle.model.specs.Sheet.{Told, _when_, settle}
-use Rattle.model.specs.Words.{reached, staticBroken, shed, shedCut}
+use Rattle.model.specs.Words.{reached, staticBroken, shed}
 use Rattle.model.specs.commands.Naming.{roleBeyond, roleMissing}
 
 -- the line (senior, junior) stands, one line more; it no longer does, one less
@@ -20,11 +20,7 @@ unlined m senior junior = withLines m (put (m .juniors) senior (without (m .juni
 
 -- the senior is the junior, or the junior inherits the senior
 abbrev pub wouldCircle : Model → ℕ → ℕ → Bool
-wouldCircle m senior junior = has (reached m (with none junior) .roles) senior
-
--- a chain of more than 64 roles is met below some user's roles
-unfoldable pub usersCut : Model → Bool
-usersCut m = some 256 (λ u. reached m (m .assigned u) .cut)
+wouldCircle m senior junior = has (reached m (with none junior)) senior
 
 -- "`inherit senior junior`: 1, 2, 4 (this direct line stands), 6 (equal, or the junior inherits the senior), 10, 12. A line that a longer
 -- chain already implies is recorded all the same." The static rule is asked of every user
@@ -37,7 +33,6 @@ inherit m senior junior =
     ∷ 6 when wouldCircle m senior junior
     ∷ 10 when some 256 (staticBroken (lined m senior junior))
     ∷ 12 when leb mostLines (m .lineCount)
-    ∷ 13 when (reached m (with none junior) .cut || usersCut (lined m senior junior))
     ∷ [])
     m
     []
@@ -50,7 +45,6 @@ disinherit m senior junior =
     (1 when (roleBeyond senior || roleBeyond junior)
     ∷ 2 when (roleMissing m senior || roleMissing m junior)
     ∷ 5 when not (has (m .juniors senior) junior)
-    ∷ 13 when shedCut (unlined m senior junior)
     ∷ [])
     m
     []

@@ -9,7 +9,7 @@ use Rattle.numbers.specs.Ranges.{sessions}
 use Rattle.model.specs.Model.{Model, Session, put, withSessions}
 use Rattle.model.specs.Model as model
 use Rattle.model.specs.Sheet.{Told, _when_, settle}
-use Rattle.model.specs.Words.{reached, authorised, effective, dynamicBroken, permission, sessionsOpen}
+use Rattle.model.specs.Words.{authorised, effective, dynamicBroken, permission, sessionsOpen}
 use Rattle.model.specs.Lists.{ascending, someFrom, setOf}
 use Rattle.model.specs.commands.Naming.{userBeyond, roleBeyond, sessionBeyond, permissionBeyond, userMissing, roleMissing, sessionMissing}
 
@@ -43,7 +43,6 @@ session m u list =
     ∷ 9 when not (subset (setOf list) (authorised m u))
     ∷ 11 when dynamicBroken (opened m u (setOf list)) (lowestFree m)
     ∷ 12 when leb sessions (sessionsOpen m)
-    ∷ 13 when reached m (m .assigned u) .cut
     ∷ [])
     m
     (lowestFree m ∷ [])
@@ -67,7 +66,6 @@ activate m u s r =
     ∷ 4 when has (m .sessions s .active) r
     ∷ 9 when not (has (authorised m u) r)
     ∷ 11 when dynamicBroken (activeSet m s (with (m .sessions s .active) r)) s
-    ∷ 13 when reached m (m .assigned u) .cut
     ∷ [])
     m
     []
@@ -105,7 +103,6 @@ check m s op obj =
     settle
     (1 when (sessionBeyond s || permissionBeyond op obj)
     ∷ 2 when sessionMissing m s
-    ∷ 13 when reached m (m .sessions s .active) .cut
     ∷ [])
     m
     (bit (permitted m s (permission op obj)) ∷ [])

@@ -1,5 +1,5 @@
 -- The five `ssd` commands and the five `dsd` commands, once for both kinds of set. Assumes nothing.
-use mathlib.Core.Bool.{Bool, true, false, not, _||_}
+use mathlib.Core.Bool.{Bool, true, not, _||_}
 use mathlib.Core.List.{List, [], _∷_}
 use Prim.Native.Nat.{ℕ}
 use lib.Dec.{leb, ltb}
@@ -11,7 +11,6 @@ use Rattle.model.specs.Sheet.{Told, Refusal, _when_, settle}
 use Rattle.model.specs.Words.{authorised, breaks, counted}
 use Rattle.model.specs.Lists.{ascending, someFrom, setOf}
 use Rattle.model.specs.commands.Naming.{roleBeyond, setBeyond, roleMissing}
-use Rattle.model.specs.commands.Inheriting.{usersCut}
 use Rattle.model.specs.declared.Kind.{Kind}
 use Rattle.model.specs.declared.Kind.the-variants.{Static, Dynamic}
 
@@ -33,11 +32,6 @@ broken Dynamic m set = some 64 (λ s. breaks set (counted m s))
 abbrev pub ruleNumber : Kind → ℕ
 ruleNumber Static = 10
 ruleNumber Dynamic = 11
-
--- asking the static rule follows inheritance; asking the dynamic one does not
-abbrev pub askingCut : Kind → Model → Bool
-askingCut Static m = usersCut m
-askingCut Dynamic m = false
 
 -- "a cardinality would be below 2 or above its set's size"
 abbrev pub badCardinality : ℕ → ℕ → Bool
@@ -61,7 +55,6 @@ makeSet kind m name n list =
     ∷ 4 when setsOf kind m name .there
     ∷ 7 when badCardinality n (setOf list)
     ∷ ruleNumber kind when broken kind m (aSet n (setOf list))
-    ∷ 13 when askingCut kind m
     ∷ [])
     m
     []
@@ -82,7 +75,6 @@ addMember kind m name r =
     ∷ 2 when (setMissing kind m name || roleMissing m r)
     ∷ 4 when has (old .roles) r
     ∷ ruleNumber kind when broken kind m new
-    ∷ 13 when askingCut kind m
     ∷ [])
     m
     []
@@ -113,7 +105,6 @@ setCardinality kind m name n =
     ∷ 2 when setMissing kind m name
     ∷ 7 when badCardinality n (new .roles)
     ∷ ruleNumber kind when broken kind m new
-    ∷ 13 when askingCut kind m
     ∷ [])
     m
     []

@@ -8,7 +8,7 @@ use Rattle.roleset.specs.Roles.{has, with, without, none, count}
 use Rattle.model.specs.Model.{Model, RoleSet, Session, put, withUsers, withRoles, withAssignments, withSessions}
 use Rattle.model.specs.Model as model
 use Rattle.model.specs.Sheet.{Told, _when_, settle}
-use Rattle.model.specs.Words.{shed, shedCut}
+use Rattle.model.specs.Words.{shed}
 use Rattle.model.specs.commands.Naming.{userBeyond, roleBeyond, userMissing, roleMissing}
 
 -- "`user u`, `role r` add; 1, 4."
@@ -50,4 +50,4 @@ withoutRole m r = record { users = m .users; roles = without (m .roles) r; junio
 
 -- "`norole r`: removes its assignments, grants and direct lines at either end, then sheds; 1, 2, 8. Roles above and below it are not joined up."
 unfoldable pub norole : Model → ℕ → Told
-norole m r = settle (1 when roleBeyond r ∷ 2 when roleMissing m r ∷ 8 when (inSet (m .ssd) r || inSet (m .dsd) r) ∷ 13 when shedCut (withoutRole m r) ∷ []) m [] (shed (withoutRole m r))
+norole m r = settle (1 when roleBeyond r ∷ 2 when roleMissing m r ∷ 8 when (inSet (m .ssd) r || inSet (m .dsd) r) ∷ []) m [] (shed (withoutRole m r))

@@ -5,7 +5,6 @@ use mathlib.Core.Path.{sym, ap, _∙_}
 use Rattle.roleset.specs.Roles.{subset}
 use Rattle.roleset.proofs.BoundedLaws.{clash}
 use Rattle.roleset.proofs.Laws.{subset-intro}
-use Rattle.hierarchy.specs.declared.Walk.{Walk}
 use Rattle.model.specs.Words.{reached}
 use Rattle.state.specs.View.{view}
 use Rattle.policycheck.proofs.beyond.Statement.{statement}
@@ -15,7 +14,7 @@ returns : tie.Need-returns
 returns c = sym (ap not (subset-intro (c .before .before .args .session .active) _ (λ r h x. clash _ x (c .before .is-empty .ensures .yes-means (c .if1 .taken) r))))
 
 returns-2 : tie.Need-returns-2
-returns-2 c = ap not (c .subset .ensures .is ∙ ap (λ (w : Walk). subset (c .before .before .before .before .before .args .session .active) (w .roles)) (c .before .reach .ensures ∙ ap (reached (view (c .before .before .before .before .before .args .state .now))) (c .before .before .held-by .ensures)))
+returns-2 c = ap not (c .subset .ensures .is ∙ ap (subset (c .before .before .before .before .before .args .session .active)) (c .before .reach .ensures .is ∙ ap (reached (view (c .before .before .before .before .before .args .state .now))) (c .before .before .held-by .ensures)))
 
 pub beyond-spec : {M : Type 1} → statement M
 beyond-spec =

@@ -7,10 +7,8 @@ use Rattle.roleset.specs.Bounded.{some}
 use Rattle.hierarchy.specs.Walks.{reach, circular}
 use Rattle.model.specs.Sheet.{verdict}
 use Rattle.model.specs.Words.{breaksSome, staticBroken, dynamicBroken}
-use Rattle.model.specs.commands.Inheriting.{usersCut}
 use Rattle.state.specs.View.{view}
 use Rattle.policyform.specs.Rules.{badSet, unauthorised, rulesBroken}
-use Rattle.policycheck.proofs.Passing.{unbroken-cut}
 use Rattle.policycheck.proofs.broken.Statement.{statement}
 use Rattle.policycheck.proofs.broken.Tie as tie
 
@@ -24,16 +22,12 @@ cardinalities c = sym (c .either .ensures ∙ ap₂ (λ (a b : Bool). a || b) (c
 acting : (c : tie.After-unauthorised) → unauthorised (view (c .before .before .before .before .before .before .before .before .before .args .state .now)) ≡ c .unauthorised .result
 acting c = sym (c .unauthorised .ensures)
 
-static : (c : tie.After-ask-static) → some 256 (staticBroken (view (c .before .before .before .before .before .before .before .before .before .before .before .before .args .state .now))) ≡ c .ask-static .result .broken
+static : (c : tie.After-ask-static) → some 256 (staticBroken (view (c .before .before .before .before .before .before .before .before .before .before .before .before .args .state .now))) ≡ c .ask-static .result
 unfolding staticBroken
-static c = sym (c .ask-static .ensures .broken ∙ ap (λ (t : ℕ → ℕ). some 256 (λ u. breaksSome (view (c .before .before .before .before .before .before .before .before .before .before .before .before .args .state .now) .ssd) (reach t (view (c .before .before .before .before .before .before .before .before .before .before .before .before .args .state .now) .assigned u) .roles))) (c .before .before .before .before .before .before .before .before .before .before .before .juniors-table .ensures .each))
+static c = sym (c .ask-static .ensures ∙ ap (λ (t : ℕ → ℕ). some 256 (λ u. breaksSome (view (c .before .before .before .before .before .before .before .before .before .before .before .before .args .state .now) .ssd) (reach t (view (c .before .before .before .before .before .before .before .before .before .before .before .before .args .state .now) .assigned u)))) (c .before .before .before .before .before .before .before .before .before .before .before .juniors-table .ensures .each))
 
 dynamic : (c : tie.After-breaks-dynamic) → some 64 (dynamicBroken (view (c .before .before .before .before .before .before .before .before .before .before .before .before .before .before .args .state .now))) ≡ c .breaks-dynamic .result
 dynamic c = sym (c .breaks-dynamic .ensures)
-
-cutting : (c : tie.Else4) → usersCut (view (c .before .before .before .before .before .before .before .before .before .before .before .before .before .args .state .now)) ≡ c .before .ask-static .result .cut
-unfolding usersCut
-cutting c = sym (unbroken-cut (c .before .ask-static .ensures) (c .if4 .left) ∙ ap (λ (t : ℕ → ℕ). some 256 (λ u. reach t (view (c .before .before .before .before .before .before .before .before .before .before .before .before .before .args .state .now) .assigned u) .cut)) (c .before .before .before .before .before .before .before .before .before .before .before .before .juniors-table .ensures .each))
 
 returns : tie.Need-returns
 unfolding rulesBroken verdict
@@ -81,24 +75,11 @@ returns-6 : tie.Need-returns-6
 unfolding rulesBroken verdict
 returns-6 c =
     sym (rw (
-      circling (c .before .before .before .before .before .before .before .before .before .before .before .before .before) ∙ c .before .before .before .before .before .before .before .before .before .before .before .before .if1 .left,
-      cardinalities (c .before .before .before .before .before .before .before .before .before) ∙ c .before .before .before .before .before .before .before .before .if2 .left,
-      acting (c .before .before .before .before .before .before .before) ∙ c .before .before .before .before .before .before .if3 .left,
-      static (c .before .before .before .before) ∙ c .before .before .before .if4 .left,
-      dynamic (c .before .before) ∙ c .before .if5 .left,
-      cutting (c .before .before .before) ∙ c .if6 .taken,
-    ))
-
-returns-7 : tie.Need-returns-7
-unfolding rulesBroken verdict
-returns-7 c =
-    sym (rw (
-      circling (c .before .before .before .before .before .before .before .before .before .before .before .before .before) ∙ c .before .before .before .before .before .before .before .before .before .before .before .before .if1 .left,
-      cardinalities (c .before .before .before .before .before .before .before .before .before) ∙ c .before .before .before .before .before .before .before .before .if2 .left,
-      acting (c .before .before .before .before .before .before .before) ∙ c .before .before .before .before .before .before .if3 .left,
-      static (c .before .before .before .before) ∙ c .before .before .before .if4 .left,
-      dynamic (c .before .before) ∙ c .before .if5 .left,
-      cutting (c .before .before .before) ∙ c .if6 .left,
+      circling (c .before .before .before .before .before .before .before .before .before .before .before .before) ∙ c .before .before .before .before .before .before .before .before .before .before .before .if1 .left,
+      cardinalities (c .before .before .before .before .before .before .before .before) ∙ c .before .before .before .before .before .before .before .if2 .left,
+      acting (c .before .before .before .before .before .before) ∙ c .before .before .before .before .before .if3 .left,
+      static (c .before .before .before) ∙ c .before .before .if4 .left,
+      dynamic (c .before) ∙ c .if5 .left,
     ))
 
 pub broken-spec : {M : Type 1} → statement M
@@ -118,5 +99,4 @@ broken-spec =
     returns-4
     (λ c κs. search needs)
     returns-5
-    returns-6
-    returns-7)
+    returns-6)

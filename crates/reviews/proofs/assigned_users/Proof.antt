@@ -19,7 +19,7 @@ returns c =
     let beyond = sym (c .before .before .before .before .before .before .role-beyond .ensures) in
     let one = c .before .before .before .before .before .before .before .with in
     let table = c .before .before .before .before .assigned in
-    told-review _ beyond (ap not (sym (c .before .before .before .before .before .has-role .ensures))) refl
+    told-review _ beyond (ap not (sym (c .before .before .before .before .before .has-role .ensures)))
     (λ e. meeting-members (one .result) (table .result .now) 256 _ (table .ensures .long) (λ u h. has-meets (view (a .state .now) .assigned u) (a .r .number) (leb-false 64 (a .r .number) (beyond ∙ e)) ∙ ap₂ (λ (x : ℕ) (t : ℕ → ℕ). meets x (t u)) (sym (one .ensures .is)) (sym (table .ensures .each))))
     (c .before .before .review .ensures)
 
@@ -32,5 +32,5 @@ assigned-users-spec =
     (λ c κs. tt)
     (λ c κs. tt)
     (λ c κs. table-fits (c .before .assigned .ensures) refl)
-    (λ c. c .before .before .review .kept .1 .1 .1 .1 .1 .0)
+    (λ c. c .before .before .review .kept .1 .1 .1 .1 .0)
     returns)

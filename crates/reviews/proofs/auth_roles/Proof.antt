@@ -22,5 +22,5 @@ auth-roles-spec =
     (λ c κs. tt)
     (λ c κs. tt)
     (λ c κs. tt)
-    (λ c. c .before .before .review-roles .kept .1 .1 .1 .1 .0)
+    (λ c. c .before .before .review-roles .kept .1 .1 .1 .0)
     returns)

@@ -27,5 +27,5 @@ role-ops-spec =
     (λ c κs. tt)
     (λ c κs. tt)
     (λ c κs. tt)
-    (λ c. c .before .before .review-ops .kept .1 .1 .1 .1 .1 .1 .0)
+    (λ c. c .before .before .review-ops .kept .1 .1 .1 .1 .1 .0)
     returns)

@@ -21,5 +21,5 @@ role-perms-spec =
     (λ c κs. tt)
     (λ c κs. tt)
     (λ c κs. table-fits (c .before .holders .ensures) refl)
-    (λ c. c .before .before .review .kept .1 .1 .1 .1 .1 .0)
+    (λ c. c .before .before .review .kept .1 .1 .1 .1 .0)
     returns)

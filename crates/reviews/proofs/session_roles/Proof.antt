@@ -1,6 +1,6 @@
 -- The active roles of the session. Assumes nothing.
 use mathlib.Core.Bool.{not}
-use mathlib.Core.Path.{refl, sym, ap}
+use mathlib.Core.Path.{sym, ap}
 use Rattle.roleset.specs.Bounded.{members}
 use Rattle.roleset.specs.Roles.{has}
 use Rattle.model.specs.Model.{Session}
@@ -13,7 +13,7 @@ returns : tie.Need-returns
 unfolding ask sessionRoles
 returns c =
     let found = sym (c .before .before .before .before .before .before .session-at .ensures) in
-    told-review _ (sym (c .before .before .before .before .before .session-beyond .ensures)) (ap (λ (x : Session). not (x .live)) found) refl (λ e. ap (λ (x : Session). members 64 (has (x .active))) found) (c .before .before .review-roles .ensures)
+    told-review _ (sym (c .before .before .before .before .before .session-beyond .ensures)) (ap (λ (x : Session). not (x .live)) found) (λ e. ap (λ (x : Session). members 64 (has (x .active))) found) (c .before .before .review-roles .ensures)
 
 pub session-roles-spec : {M : Type 1} → statement M
 session-roles-spec =
@@ -22,5 +22,5 @@ session-roles-spec =
     (λ c κs. tt)
     (λ c κs. tt)
     (λ c κs. tt)
-    (λ c. c .before .before .review-roles .kept .1 .1 .1 .1 .0)
+    (λ c. c .before .before .review-roles .kept .1 .1 .1 .0)
     returns)

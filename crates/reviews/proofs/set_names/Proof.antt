@@ -18,7 +18,7 @@ returns c =
     let a = c .before .before .before .before .before .before .before .args in
     let table = c .before .before .before .before .before .there in
     let whole : length (table .result) ≡ 16 = omega arith in
-    told-review _ refl refl refl
+    told-review _ refl refl
     (λ e. meeting-members 1 (table .result) 16 _ whole (λ n h. meets-bit (setsOf (a .kind) (view (a .state .now)) n .there) ∙ ap (meets 1) (sym (table .ensures n h))))
     (c .before .before .review .ensures)
 
@@ -29,5 +29,5 @@ set-names-spec =
     (λ c κs. tt)
     (λ c. search needs)
     (λ c κs. search needs)
-    (λ c. c .before .before .review .kept .1 .1 .1 .1 .1 .0)
+    (λ c. c .before .before .review .kept .1 .1 .1 .1 .0)
     returns)

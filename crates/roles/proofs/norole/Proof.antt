@@ -1,4 +1,4 @@
--- Each test of `norole` is a refusal of the sheet, in its order; past all four, the role is gone from every table, what went is counted, and the sessions shed. Assumes nothing.
+-- Each test of `norole` is a refusal of the sheet, in its order; past all three, the role is gone from every table, what went is counted, and the sessions shed. Assumes nothing.
 use borrow.Author.Needs.{needs}
 use borrow.Author.Tests.{leb-false}
 use mathlib.Core.Bool.{false, not, _||_}
@@ -8,11 +8,11 @@ use Prim.Native.Nat.{ℕ, _<_}
 use native.Mathlib.Omega.{arith}
 use Rattle.model.specs.Model.{Model}
 use Rattle.model.specs.Sheet.{verdict, settle, done}
-use Rattle.model.specs.Words.{shed, shedCut}
+use Rattle.model.specs.Words.{shed}
 use Rattle.model.specs.commands.Naming.{roleBeyond, roleMissing}
 use Rattle.model.specs.commands.Users.{norole, withoutRole, inSet}
 use Rattle.state.specs.View.{view, told}
-use Rattle.roles.proofs.Gone.{few, role-cut, role-gone}
+use Rattle.roles.proofs.Gone.{few, role-gone}
 use Rattle.roles.proofs.norole.Statement.{statement}
 use Rattle.roles.proofs.norole.Tie as tie
 
@@ -58,24 +58,16 @@ found-3 c = ap₂ _||_ (sym (c .before .before .before .in-set .ensures)) (sym (
 clear-3 : (c : tie.Else3) → let s = to-start (to-1 (to-2 c)) in (inSet (m s .ssd) (name s) || inSet (m s .dsd) (name s)) ≡ false
 clear-3 c = found-3 (c .before) ∙ c .if3 .left
 
-found-4 : (c : tie.After-shed) → let s = to-start (to-1 (to-2 (to-3 (to-strip c)))) in shedCut (withoutRole (m s) (name s)) ≡ c .shed .result .cut
-found-4 c =
-    let t = to-strip c in
-    let u = c .before .before .before .before .before in
-    let c1 = to-1 (to-2 (to-3 t)) in
-    let s = to-start c1 in
-    role-cut (s .args .state .now) _ _ _ _ (name s) (t .strip .result) (u .strip2 .result) (c .shed .result) (within c1) (t .before .before .juniors-table .ensures) (u .before .before .assigned-table .ensures) (t .strip .ensures) (u .strip2 .ensures) (c .shed .ensures)
-
 -- the stores: the role, its lines, assignments and grants, and then what is left to the sessions
-stored : (c : tie.After-put-all-active) → let s = to-start (to-1 (to-2 (to-3 (to-strip (c .before .before .before .before .before .before .before .before .before))))) in view (c .put-all-active .last .0) ≡ shed (withoutRole (m s) (name s))
+stored : (c : tie.After-put-all-active) → let s = to-start (to-1 (to-2 (to-3 (to-strip (c .before .before .before .before .before .before .before))))) in view (c .put-all-active .last .0) ≡ shed (withoutRole (m s) (name s))
 stored c =
-    let swept = c .before .before .before .before .before .before .before .before .before in
+    let swept = c .before .before .before .before .before .before .before in
     let t = to-strip swept in
     let u = swept .before .before .before .before .before in
     let c1 = to-1 (to-2 (to-3 t)) in
     let s = to-start c1 in
     role-gone (s .args .state .now) _ _ _ _ (name s) _ _ (swept .shed .result) (within c1) (t .before .before .juniors-table .ensures) (u .before .before .assigned-table .ensures) (t .strip .ensures) (u .strip2 .ensures) (swept .shed .ensures)
-    _ _ _ (swept .before .before .before .before .before .before .before .before .before .count .ensures .0) (c .before .before .before .before .put-without .ensures) (c .put-all-active .ensures)
+    _ _ _ (swept .before .before .before .before .before .before .before .before .before .count .ensures .0) (c .before .before .before .put-without .ensures) (c .put-all-active .ensures)
 
 returns : tie.Need-returns
 unfolding told norole settle verdict
@@ -97,26 +89,18 @@ array-read-count c = within (to-1 (to-2 (to-3 (c .before))))
 array-write-juniors : tie.Need-array-write-juniors
 array-write-juniors c = within (to-1 (to-2 (to-3 (c .before .before))))
 
-returns-4 : tie.Need-returns-4
-unfolding told norole settle verdict
-returns-4 c =
-    let c3 = to-3 (to-strip (c .before)) in
-    let c2 = to-2 c3 in
-    rw (clear-1 (to-1 c2), clear-2 c2, clear-3 c3, found-4 (c .before) ∙ c .if4 .taken)
-
 -- at most 64 lines go to the role, and at most 64 from it
 add-put-without : tie.Need-add-put-without
 add-put-without c =
-    let t = to-strip (c .before .before .before) in
-    omega (arith, few _ _ _ _ (t .before .before .juniors-table .ensures) (t .strip .ensures), c .before .before .before .before .before .before .before .before .before .before .before .before .count .ensures .1)
+    let t = to-strip (c .before .before) in
+    omega (arith, few _ _ _ _ (t .before .before .juniors-table .ensures) (t .strip .ensures), c .before .before .before .before .before .before .before .before .before .before .before .count .ensures .1)
 
-returns-5 : tie.Need-returns-5
+returns-4 : tie.Need-returns-4
 unfolding told norole settle verdict
-returns-5 c =
-    let past = c .before .before .before .before .before .before .before .before in
-    let c3 = to-3 (to-strip (past .before)) in
+returns-4 c =
+    let c3 = to-3 (to-strip (c .before .before .before .before .before .before .before)) in
     let c2 = to-2 c3 in
-    rw (clear-1 (to-1 c2), clear-2 c2, clear-3 c3, found-4 (past .before) ∙ past .if4 .left) (ap (done []) (stored c))
+    rw (clear-1 (to-1 c2), clear-2 c2, clear-3 c3) (ap (done []) (stored c))
 
 pub norole-spec : {M : Type 1} → statement M
 norole-spec =
@@ -144,8 +128,7 @@ norole-spec =
     (λ c. search needs)
     (λ c κs. search needs)
     (λ c κs. search needs)
-    returns-4
     add-put-without
     (λ c κs. search needs)
     (λ c κs. search needs)
-    returns-5)
+    returns-4)

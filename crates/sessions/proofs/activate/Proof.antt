@@ -6,7 +6,6 @@ use mathlib.Core.Bool.{Bool, false, not}
 use mathlib.Core.Path.{_≡_, sym, ap, _∙_}
 use Prim.Native.Nat.{ℕ}
 use Rattle.roleset.specs.Roles.{has, with}
-use Rattle.hierarchy.specs.declared.Walk.{Walk}
 use Rattle.model.specs.Model.{Model, Session}
 use Rattle.model.specs.Sheet.{verdict, settle}
 use Rattle.model.specs.Words.{reached, authorised, dynamicBroken}
@@ -40,9 +39,6 @@ unauthorised c = not (has (authorised (m c) (user c)) (role c))
 abbrev breaking : tie.Start → Bool
 breaking c = dynamicBroken (activeSet (m c) (number c) (with (held c) (role c))) (number c)
 
-abbrev tooLong : tie.Start → Bool
-tooLong c = reached (m c) (m c .assigned (user c)) .cut
-
 -- from the place past each refusal back to the one before it
 abbrev to-start : tie.Else1 → tie.Start
 to-start c = c .before .before .before .before
@@ -72,13 +68,13 @@ clear-2 : (c : tie.Else2) → let s = to-start (to-1 c) in has (held s) (role s)
 clear-2 c = found-2 (c .before) ∙ c .if2 .left
 
 walked : (c : tie.After-reach) → let s = to-start (to-1 (c .before .before .before .before)) in reached (m s) (m s .assigned (user s)) ≡ c .reach .result
-walked c = rw (← c .before .before .assigned-to .ensures) (sym (c .reach .ensures))
+walked c = rw (← c .before .before .assigned-to .ensures) (sym (c .reach .ensures .is))
 
 found-3 : (c : tie.After-has2) → unauthorised (to-start (to-1 (c .before .before .before .before .before))) ≡ not (c .has2 .result)
 found-3 c =
     let s = to-start (to-1 (c .before .before .before .before .before)) in
-    let among : c .has2 .result ≡ has (c .before .reach .result .roles) (role s) = c .has2 .ensures in
-    ap (λ (w : Walk). not (has (w .roles) (role s))) (walked (c .before)) ∙ ap not (sym among)
+    let among : c .has2 .result ≡ has (c .before .reach .result) (role s) = c .has2 .ensures in
+    ap (λ (w : ℕ). not (has w (role s))) (walked (c .before)) ∙ ap not (sym among)
 
 clear-3 : (c : tie.Else3) → unauthorised (to-start (to-1 (to-2 c))) ≡ false
 clear-3 c = found-3 (c .before) ∙ c .if3 .left
@@ -92,9 +88,6 @@ found-4 c = active-dynamic _ _ _ ∙ rw (more (c .before .before)) (sym (c .brea
 
 clear-4 : (c : tie.Else4) → breaking (to-start (to-1 (to-2 (to-3 c)))) ≡ false
 clear-4 c = found-4 (c .before) ∙ c .if4 .left
-
-cut : (c : tie.Else4) → tooLong (to-start (to-1 (to-2 (to-3 c)))) ≡ to-3 c .before .before .reach .result .cut
-cut c = ap (λ (w : Walk). w .cut) (walked (to-3 c .before .before))
 
 returns : tie.Need-returns
 unfolding told activate
@@ -124,21 +117,12 @@ returns-4 c =
 returns-5 : tie.Need-returns-5
 unfolding told activate settle verdict
 returns-5 c =
-    let c4 = c .before in
-    let c3 = to-3 c4 in
-    let c2 = to-2 c3 in
-    let p = past (to-1 c2) in
-    rw (p .within, p .there, p .own, clear-2 c2, clear-3 c3, clear-4 c4, cut c4 ∙ c .if5 .taken)
-
-returns-6 : tie.Need-returns-6
-unfolding told activate settle verdict
-returns-6 c =
-    let c4 = c .before .before .before in
+    let c4 = c .before .before in
     let c3 = to-3 c4 in
     let c2 = to-2 c3 in
     let p = past (to-1 c2) in
     let s = to-start (to-1 c2) in
-    rw (p .within, p .there, p .own, clear-2 c2, clear-3 c3, clear-4 c4, cut c4 ∙ c .before .before .if5 .left)
+    rw (p .within, p .there, p .own, clear-2 c2, clear-3 c3, clear-4 c4)
     (stored (m s) _ (number s) _ _ (c .put-active .ensures) (p .place) (more (c4 .before .before .before)))
 
 pub activate-spec : {M : Type 1} → statement M
@@ -158,6 +142,5 @@ activate-spec =
     (λ c κs. search needs)
     (λ c κs. search needs)
     returns-4
-    returns-5
     (λ c κs. search needs)
-    returns-6)
+    returns-5)

@@ -9,7 +9,6 @@ use lib.Dec.{leb}
 use Rattle.roleset.specs.Roles.{subset}
 use Rattle.roleset.proofs.BoundedLaws.{clash}
 use Rattle.hierarchy.specs.Walks.{reach}
-use Rattle.hierarchy.specs.declared.Walk.{Walk}
 use Rattle.numbers.specs.Ranges.{sessions}
 use Rattle.numbers.specs.declared.Session.{Session}
 use Rattle.model.specs.Model.{Model}
@@ -56,9 +55,6 @@ breaking s = dynamicBroken (opened (m s) (user s) (setOf (list s))) (lowestFree 
 abbrev full : tie.Start → Bool
 full s = leb sessions (sessionsOpen (m s))
 
-abbrev tooLong : tie.Start → Bool
-tooLong s = reached (m s) (m s .assigned (user s)) .cut
-
 -- from the place past each refusal back to the one before it
 abbrev to-start : tie.Else1 → tie.Start
 to-start c = c .before .before .before .before
@@ -83,9 +79,6 @@ to-4 c = c .before .before .before
 
 abbrev to-5 : tie.Else6 → tie.Else5
 to-5 c = c .before .before .before .before
-
-abbrev to-6 : tie.Else7 → tie.Else6
-to-6 c = c .before
 
 -- what each test finds, and what is known past it
 found-1 : (c : tie.After-read) → unordered (c .before .before) ≡ not (c .read .result .ascending)
@@ -113,10 +106,10 @@ clear-3 : (c : tie.Else3) → missing (to-start (to-1 (to-2 c))) ≡ false
 clear-3 c = found-3 (c .before) ∙ c .if3 .left
 
 walked : (c : tie.After-reach) → let s = to-start (to-1 (to-2 (from-reach c))) in reached (m s) (m s .assigned (user s)) ≡ c .reach .result
-walked c = rw (← c .before .assigned-to .ensures) (sym (c .reach .ensures))
+walked c = rw (← c .before .assigned-to .ensures) (sym (c .reach .ensures .is))
 
 found-4 : (c : tie.After-subset2) → unauthorised (to-start (to-1 (to-2 (from-reach (c .before))))) ≡ not (c .subset2 .result)
-found-4 c = ap not (ap₂ (λ (roles : ℕ) (w : Walk). subset roles (w .roles)) (asked (to-1 (to-2 (from-reach (c .before))))) (walked (c .before)) ∙ sym (c .subset2 .ensures .is))
+found-4 c = ap not (ap₂ subset (asked (to-1 (to-2 (from-reach (c .before))))) (walked (c .before)) ∙ sym (c .subset2 .ensures .is))
 
 clear-4 : (c : tie.Else4) → unauthorised (to-start (to-1 (to-2 (to-3 c)))) ≡ false
 clear-4 c = found-4 (c .before) ∙ c .if4 .left
@@ -137,9 +130,6 @@ found-6 c = full-free (m (to-start (to-1 (to-2 (to-3 (to-4 (c .before .before .b
 
 clear-6 : (c : tie.Else6) → full (to-start (to-1 (to-2 (to-3 (to-4 (to-5 c)))))) ≡ false
 clear-6 c = found-6 (c .before) ∙ c .if6 .left
-
-cut : (c : tie.Else6) → tooLong (to-start (to-1 (to-2 (to-3 (to-4 (to-5 c)))))) ≡ to-reach (to-4 (to-5 c)) .reach .result .cut
-cut c = ap (λ (w : Walk). w .cut) (walked (to-reach (to-4 (to-5 c))))
 
 -- what is told where a session is opened
 stored : (m after : Model) (u n free roles kept : ℕ) → after ≡ inRange 64 n m (sessionSet m n (openFor u kept)) → n < 64 → n ≡ free → roles ≡ kept → done (n ∷ []) after ≡ done (free ∷ []) (sessionSet m free (openFor u roles))
@@ -184,20 +174,9 @@ returns-6 c =
     rw (c .not-opened6 .ensures) (record { tells = rw (clear-1 (to-1 c2), clear-2 c2, clear-3 c3, clear-4 c4, clear-5 c5, found-6 (c .before .before) ∙ c .before .if6 .taken); silent = λ h. refl })
 
 returns-7 : tie.Need-returns-7
-unfolding toldOpened session settle verdict
+unfolding toldOpened session settle verdict opened
 returns-7 c =
     let c6 = c .before .before in
-    let c5 = to-5 c6 in
-    let c4 = to-4 c5 in
-    let c3 = to-3 c4 in
-    let c2 = to-2 c3 in
-    rw (c .not-opened7 .ensures) (record { tells = rw (clear-1 (to-1 c2), clear-2 c2, clear-3 c3, clear-4 c4, clear-5 c5, clear-6 c6, cut c6 ∙ c .before .if7 .taken); silent = λ h. refl })
-
-returns-8 : tie.Need-returns-8
-unfolding toldOpened session settle verdict opened
-returns-8 c =
-    let c7 = c .before .before in
-    let c6 = to-6 c7 in
     let c5 = to-5 c6 in
     let c4 = to-4 c5 in
     let c3 = to-3 c4 in
@@ -208,7 +187,7 @@ returns-8 c =
     let number : free .result .number ≡ lowestFree (m s) = ap (λ (x : Session). x .number) (free .ensures) in
     let within = leb-false 64 (free .result .number) (sym (c6 .before .session-beyond .ensures) ∙ c6 .if6 .left) in
     record {
-      tells = rw (clear-1 c1, clear-2 c2, clear-3 c3, clear-4 c4, clear-5 c5, clear-6 c6, cut c6 ∙ c7 .if7 .left)
+      tells = rw (clear-1 c1, clear-2 c2, clear-3 c3, clear-4 c4, clear-5 c5, clear-6 c6)
           (stored (m s) _ (user s) (free .result .number) _ _ _ (c .open-session .ensures) within number (asked c1));
       silent = λ h. clash true refl h;
     }
@@ -243,6 +222,4 @@ session-spec =
     (λ c κs. search needs)
     returns-6
     (λ c κs. search needs)
-    returns-7
-    (λ c κs. search needs)
-    returns-8)
+    returns-7)

@@ -1,9 +1,5 @@
 -- Each kind of set is asked for by its own sweep. Assumes nothing.
 use borrow.Author.Needs.{needs}
-use mathlib.Core.Bool.{not, and-false}
-use mathlib.Core.Path.{sym}
-use Rattle.state.specs.View.{view}
-use Rattle.sweeps.specs.Sweeps.{asksSessions}
 use Rattle.sweeps.proofs.ask_set.Statement.{statement}
 use Rattle.sweeps.proofs.ask_set.Tie as tie
 
@@ -11,9 +7,7 @@ returns : tie.Need-returns
 returns c = rw (c .before .enum-told .given .1) (c .ask-users .ensures)
 
 returns-2 : tie.Need-returns-2
-returns-2 c =
-    let args = c .before .before .before .args in
-    rw (c .before .enum-told2 .given .1) (record { broken = c .ask-sessions .ensures; cut = sym (and-false (not (asksSessions (view (args .state .now)) (args .set)))) })
+returns-2 c = rw (c .before .enum-told2 .given .1) (c .ask-sessions .ensures)
 
 pub ask-set-spec : {M : Type 1} → statement M
 ask-set-spec = tie.close (tie.spec (λ c. search needs) (λ c κs. search needs) (λ c. search needs) (λ c κs. search needs) returns returns-2)

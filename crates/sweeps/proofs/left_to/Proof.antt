@@ -28,7 +28,7 @@ returns-2 : tie.Need-returns-2
 returns-2 c =
     let at = c .before .before in
     let args = at .before .before .before .args in
-    keeps-live (tableOf (args .juniors .now)) (part (args .assigned .now) 0 256) (args .session) (c .before .reach .result) _ (not-false _ (at .before .if1 .left)) (c .before .reach .ensures ∙ ap (reach (tableOf (args .juniors .now))) (owned at)) (c .common .ensures .is)
+    keeps-live (tableOf (args .juniors .now)) (part (args .assigned .now) 0 256) (args .session) (c .before .reach .result) _ (not-false _ (at .before .if1 .left)) (c .before .reach .ensures .is ∙ ap (reach (tableOf (args .juniors .now))) (owned at)) (c .common .ensures .is)
 
 pub left-to-spec : {M : Type 1} → statement M
 left-to-spec = tie.close (tie.spec returns (λ c. search needs) (λ c. search needs) (λ c κs. search needs) (λ c κs. search needs) returns-2)

@@ -14,15 +14,11 @@ returns-2 c = rw (c .before .if1 .left, c .if2 .taken)
 
 returns-3 : tie.Need-returns-3
 unfolding verdict
-returns-3 c = rw (c .before .before .if1 .left, c .before .if2 .left, c .if3 .taken)
+returns-3 c = rw (c .before .before .if1 .left, c .before .if2 .left, lt-ltb _ _ (c .if3 .taken))
 
 returns-4 : tie.Need-returns-4
 unfolding verdict
-returns-4 c = rw (c .before .before .before .if1 .left, c .before .before .if2 .left, c .before .if3 .left, lt-ltb _ _ (c .if4 .taken))
-
-returns-5 : tie.Need-returns-5
-unfolding verdict
-returns-5 c = rw (c .before .before .before .if1 .left, c .before .before .if2 .left, c .before .if3 .left, le-ltb _ _ (c .if4 .left))
+returns-4 c = rw (c .before .before .if1 .left, c .before .if2 .left, le-ltb _ _ (c .if3 .left))
 
 pub refusal-spec : {M : Type 1} → statement M
-refusal-spec = tie.close (tie.spec returns returns-2 returns-3 returns-4 returns-5)
+refusal-spec = tie.close (tie.spec returns returns-2 returns-3 returns-4)

@@ -14,7 +14,7 @@ returns c m =
     let roles = c .before .before .before .before .before .before .before .args .roles in
     let table = c .before .before .before .before .before .holders-on in
     let whole : length (table .result) ≡ 16 = omega arith in
-    told-review m refl refl refl
+    told-review m refl refl
     (λ e. meeting-members roles (table .result) 16 _ whole (λ op h. ap (meets roles) (sym (table .ensures op h))))
     (c .before .before .review .ensures)
 
@@ -25,5 +25,5 @@ review-ops-spec =
     (λ c κs. tt)
     (λ c. search needs)
     (λ c κs. search needs)
-    (λ c. c .before .before .review .kept .1 .1 .1 .1 .1 .0)
+    (λ c. c .before .before .review .kept .1 .1 .1 .1 .0)
     returns)

@@ -15,7 +15,7 @@ returns c m =
     let roles = c .before .before .before .before .before .before .before .args .roles in
     let table = c .before .before .before .before .before .singles .result in
     let whole : length table ≡ 64 = omega arith in
-    told-review m refl refl refl
+    told-review m refl refl
     (λ e. meeting-members roles table 64 (has roles) whole (λ r h. has-meets roles r h ∙ meets-turned (with none r) roles ∙ ap (meets roles) (sym (c .before .before .before .before .before .singles .ensures r h))))
     (c .before .before .review .ensures)
 
@@ -26,5 +26,5 @@ review-roles-spec =
     (λ c κs. tt)
     (λ c. search needs)
     (λ c κs. search needs)
-    (λ c. c .before .before .review .kept .1 .1 .1 .1 .1 .0)
+    (λ c. c .before .before .review .kept .1 .1 .1 .1 .0)
     returns)
