@@ -38,12 +38,12 @@ void marruskil_start(marruskil_state *state);
 size_t marruskil_obey(marruskil_state *state, const char *line, size_t length, char *out, size_t room);
 
 /* May the session do the operation on the object? Yes exactly when some effective role of the session holds the grant.
-   Gives the answer number: 0, with `*result` 1 for yes or 0 for no; 1 where a number is beyond its range, 2 where the session does not exist, 13
-   where a chain of inheritance of more than 64 roles is met. A refusal leaves `*result` as it was, so set it to 0 before. Nothing is copied. */
+   Gives the answer number: 0, with `*result` 1 for yes or 0 for no; 1 where a number is beyond its range, 2 where the session does not exist. A
+   refusal leaves `*result` as it was, so set it to 0 before. Nothing is copied. */
 uint16_t marruskil_check(const marruskil_state *state, uint64_t session, uint64_t operation, uint64_t object, uint8_t *result);
 
 /* Loads a policy file, any bytes. Gives the answer number: 0, and the policy and sessions are replaced whole; 14 where the bytes are not of the form;
-   6, 7, 9, 10, 11 or 13, the lowest, where the file breaks a rule. A refusal changes nothing. */
+   6, 7, 9, 10 or 11, the lowest, where the file breaks a rule. A refusal changes nothing. */
 uint16_t marruskil_load(marruskil_state *state, const uint8_t *file, size_t length);
 
 /* Saves the policy and sessions as a file in `out`, which has `room` bytes. Gives the answer number: 0, with the file's length in `*length` and bytes

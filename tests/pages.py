@@ -108,11 +108,10 @@ def refusals_of_commands():
 
 
 def refusals_of_questions():
-    """For each question, the numbers that it may be answered: `review` has 1, 2, 13 and 15, and a condition that is `never` has none.
-    13 is left out, as Demand2 leaves it out: it is never met."""
+    """For each question, the numbers that it may be answered: `review` has 1, 2 and 15, and a condition that is `never` has none."""
     text = read("crates/model/specs/Questions.antt")
-    shape = "1 when beyond ∷ 2 when missing ∷ 13 when cut ∷ 15 when ltb room (length list) ∷ []"
-    holds("crates/model/specs/Questions: a review has other refusals than 1, 2, 13 and 15", shape in text)
+    shape = "1 when beyond ∷ 2 when missing ∷ 15 when ltb room (length list) ∷ []"
+    holds("crates/model/specs/Questions: a review has other refusals than 1, 2 and 15", shape in text)
     check = block(read("crates/demands/specs/Demand2.antt"), r"\ncheckRefusals m .*?=", r"\n")
     found = {"Check": sorted(map(int, re.findall(r"(\d+) when ", check)))}
     for name, conditions in re.findall(r"^ask m room \((\w+)[^)]*\) = review m room (.*)$", text, re.M):
@@ -221,7 +220,7 @@ def check_answer_row(row, sentence, all_words, scene):
     same(what + ", given when", row["Given exactly when"], sentence)
     give = [w.name for w in all_words.values() if number in (0, 14) or number in w.refusals]
     same(what + ", which words", sorted(words_named(row["Which words can give it"], all_words)), sorted(give))
-    holds(what + ": a number that a script can print has an example, and no other", (row["Example"] != "none") == (number not in (13, 15)))
+    holds(what + ": a number that a script can print has an example, and no other", (row["Example"] != "none") == (number != 15))
     if row["Example"] == "none":
         return
     line = quoted(row["Example"])[0]
@@ -245,7 +244,7 @@ def check_answers(all_words, scene):
     holds(f"docs/ANSWERS.md, 12: the limits are {limits}", limits in page)
     rules = re.findall(r"(\d+) when ", block(read("crates/policyform/specs/Rules.antt"), r"\nrulesBroken m =", r"\[\]"))
     loading = re.search(r"is answered 0, or ([\d, or]*) for what is wrong in the file", page)
-    same("docs/ANSWERS.md, loading", re.findall(r"\d+", loading[1]), ["14"] + [n for n in rules if n != "13"])
+    same("docs/ANSWERS.md, loading", re.findall(r"\d+", loading[1]), ["14"] + rules)
 
 
 def comments_above(name, path):

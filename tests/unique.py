@@ -26,8 +26,6 @@ WITHOUT = {"textlines.next", "textlines.bump", "streams.read_whole"}
 
 # Promises that have another's law: they are that promise by definition, or two crates use one name.
 LAW_OF = {
-    "sweeps.AsksStatic": "asks-one",
-    "sweeps.AsksSet": "asks-one",
     "reviews.Asked": "reviewed-one",
     "engine.AskedAny": "reviewed-one",
     "script.Answers": "answered-one",

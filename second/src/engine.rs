@@ -3,8 +3,7 @@
 //! A command takes a state and hands back the state after it, so that a refusal cannot change anything. Each command tests its
 //! refusals in rising order, so that the lowest that applies is the one given.
 //!
-//! Answer 13 is left out: a chain of more than 64 roles needs more roles than there are or a circle, and circles are refused
-//! with 6. Answer 15 is left out too: results are vectors, and no buffer is lent.
+//! Answer 15 is left out: results are vectors, and no buffer is lent.
 
 use std::collections::{BTreeMap, BTreeSet};
 

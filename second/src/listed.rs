@@ -13,7 +13,7 @@ const SCRIPT: &str = "(script)";
 const FILE: &str = "(file)";
 
 /// The refusals that the paper lists for loading and saving, but for 14.
-const FILE_REFUSALS: &[u8] = &[6, 7, 9, 10, 11, 13, 15];
+const FILE_REFUSALS: &[u8] = &[6, 7, 9, 10, 11, 15];
 
 /// Why no script and no file can reach an answer that the paper lists for a word with these places, if none can.
 fn out_of_reach(takes: &[Takes], answer: u8) -> Option<&'static str> {
@@ -21,7 +21,6 @@ fn out_of_reach(takes: &[Takes], answer: u8) -> Option<&'static str> {
     match answer {
         1 if takes.iter().all(|take| take.highest().is_none()) => Some("no number after the word has a range"),
         2 if takes.iter().all(|take| take.existing(&empty).is_none()) => Some("the word names nothing that may be missing"),
-        13 => Some("64 roles without a circle make no chain of more than 64 roles (a file's circle is answered 6)"),
         15 => Some("the programs' buffers hold the longest result and the longest file"),
         _ => None,
     }

@@ -40,7 +40,7 @@ const fn word(text: &'static str, takes: &'static [Takes], refusals: &'static [u
 }
 
 /// What the paper lists for every review.
-const REVIEW: &[u8] = &[1, 2, 13, 15];
+const REVIEW: &[u8] = &[1, 2, 15];
 
 pub const WORDS: &[Word] = {
     use Kind as K;
@@ -50,28 +50,28 @@ pub const WORDS: &[Word] = {
         word("user", &[User], &[1, 4], 5, Changes(|s, n| s.add_user(n[0]))),
         word("role", &[Role], &[1, 4], 5, Changes(|s, n| s.add_role(n[0]))),
         word("nouser", &[User], &[1, 2], 2, Changes(|s, n| s.delete_user(n[0]))),
-        word("norole", &[Role], &[1, 2, 8, 13], 3, Changes(|s, n| s.delete_role(n[0]))),
-        word("assign", &[User, Role], &[1, 2, 4, 10, 12, 13], 15, Changes(|s, n| s.assign(n[0], n[1]))),
-        word("deassign", &[User, Role], &[1, 2, 5, 13], 6, Changes(|s, n| s.deassign(n[0], n[1]))),
+        word("norole", &[Role], &[1, 2, 8], 3, Changes(|s, n| s.delete_role(n[0]))),
+        word("assign", &[User, Role], &[1, 2, 4, 10, 12], 15, Changes(|s, n| s.assign(n[0], n[1]))),
+        word("deassign", &[User, Role], &[1, 2, 5], 6, Changes(|s, n| s.deassign(n[0], n[1]))),
         word("grant", &[Operation, Object, Role], &[1, 2, 4, 12], 15, Changes(|s, n| s.grant(n[0], n[1], n[2]))),
         word("revoke", &[Operation, Object, Role], &[1, 2, 5], 2, Changes(|s, n| s.revoke(n[0], n[1], n[2]))),
-        word("inherit", &[Role, Role], &[1, 2, 4, 6, 10, 12, 13], 15, Changes(|s, n| s.inherit(n[0], n[1]))),
-        word("disinherit", &[Role, Role], &[1, 2, 5, 13], 6, Changes(|s, n| s.disinherit(n[0], n[1]))),
-        word("ssd", &[Ssd, Cardinality, Roles], &[1, 2, 4, 7, 10, 13], 5, Changes(|s, n| s.add_set(K::Ssd, n[0], n[1], &n[2..]))),
+        word("inherit", &[Role, Role], &[1, 2, 4, 6, 10, 12], 15, Changes(|s, n| s.inherit(n[0], n[1]))),
+        word("disinherit", &[Role, Role], &[1, 2, 5], 6, Changes(|s, n| s.disinherit(n[0], n[1]))),
+        word("ssd", &[Ssd, Cardinality, Roles], &[1, 2, 4, 7, 10], 5, Changes(|s, n| s.add_set(K::Ssd, n[0], n[1], &n[2..]))),
         word("nossd", &[Ssd], &[1, 2], 2, Changes(|s, n| s.delete_set(K::Ssd, n[0]))),
-        word("ssd-add", &[Ssd, Role], &[1, 2, 4, 10, 13], 5, Changes(|s, n| s.add_to_set(K::Ssd, n[0], n[1]))),
+        word("ssd-add", &[Ssd, Role], &[1, 2, 4, 10], 5, Changes(|s, n| s.add_to_set(K::Ssd, n[0], n[1]))),
         word("ssd-drop", &[Ssd, Role], &[1, 2, 5, 7], 2, Changes(|s, n| s.drop_from_set(K::Ssd, n[0], n[1]))),
-        word("ssd-card", &[Ssd, Cardinality], &[1, 2, 7, 10, 13], 5, Changes(|s, n| s.set_cardinality(K::Ssd, n[0], n[1]))),
+        word("ssd-card", &[Ssd, Cardinality], &[1, 2, 7, 10], 5, Changes(|s, n| s.set_cardinality(K::Ssd, n[0], n[1]))),
         word("dsd", &[Dsd, Cardinality, Roles], &[1, 2, 4, 7, 11], 5, Changes(|s, n| s.add_set(K::Dsd, n[0], n[1], &n[2..]))),
         word("nodsd", &[Dsd], &[1, 2], 2, Changes(|s, n| s.delete_set(K::Dsd, n[0]))),
         word("dsd-add", &[Dsd, Role], &[1, 2, 4, 11], 5, Changes(|s, n| s.add_to_set(K::Dsd, n[0], n[1]))),
         word("dsd-drop", &[Dsd, Role], &[1, 2, 5, 7], 2, Changes(|s, n| s.drop_from_set(K::Dsd, n[0], n[1]))),
         word("dsd-card", &[Dsd, Cardinality], &[1, 2, 7, 11], 5, Changes(|s, n| s.set_cardinality(K::Dsd, n[0], n[1]))),
-        word("session", &[User, Roles], &[1, 2, 9, 11, 12, 13], 15, Opens(|s, n| s.open_session(n[0], &n[1..]))),
-        word("activate", &[User, Session, Role], &[1, 2, 3, 4, 9, 11, 13], 10, Changes(|s, n| s.activate(n[0], n[1], n[2]))),
+        word("session", &[User, Roles], &[1, 2, 9, 11, 12], 15, Opens(|s, n| s.open_session(n[0], &n[1..]))),
+        word("activate", &[User, Session, Role], &[1, 2, 3, 4, 9, 11], 10, Changes(|s, n| s.activate(n[0], n[1], n[2]))),
         word("drop", &[User, Session, Role], &[1, 2, 3, 5], 2, Changes(|s, n| s.drop_role(n[0], n[1], n[2]))),
         word("end", &[User, Session], &[1, 2, 3], 3, Changes(|s, n| s.end_session(n[0], n[1]))),
-        word("check", &[Session, Operation, Object], &[1, 2, 13], 6, Asks(|s, n| s.check(n[0], n[1], n[2]))),
+        word("check", &[Session, Operation, Object], &[1, 2], 6, Asks(|s, n| s.check(n[0], n[1], n[2]))),
         word("assigned-users", &[Role], REVIEW, 2, Asks(|s, n| s.assigned_users(n[0]))),
         word("assigned-roles", &[User], REVIEW, 2, Asks(|s, n| s.assigned_roles(n[0]))),
         word("auth-users", &[Role], REVIEW, 2, Asks(|s, n| s.auth_users(n[0]))),

@@ -30,8 +30,12 @@ example = dict(users=[7], roles=[0, 1, 2], lines=[(2, 0)], assigned=[(7, 2)], gr
 keep('empty', 0, build())
 keep('example', 0, build(**example))
 
-# every table at its limit, 36,048 bytes but for what the rules forbid: a chain of all roles, all users assigned, full sets
+# the longest chain there is: all 64 roles, from 0 down to 63
 roles = list(range(64))
+chain = dict(users=[7], roles=roles, lines=[(r, r + 1) for r in range(63)], assigned=[(7, 0)], grants=[(63, 4, 30)], sessions=[(0, 7, [0, 63])])
+keep('chain_of_64', 0, build(**chain))
+
+# every table at its limit, 36,048 bytes but for what the rules forbid: a chain of all roles, all users assigned, full sets
 lines = sorted([(a, b) for a in roles for b in roles if a < b])
 lines = sorted(lines[:512])
 full = dict(
@@ -87,6 +91,9 @@ keep('too_long', 14, data + bytes(66000 - len(data)))
 # the rules, lowest first
 keep('self_line', 6, build(roles=[0], lines=[(0, 0)]))
 keep('circle', 6, build(roles=[0, 1, 2], lines=[(0, 1), (1, 2), (2, 0)]))
+keep('circle_of_64', 6, build(**dict(chain, lines=chain['lines'] + [(63, 0)])))
+keep('chain_of_64_self_line', 6, build(**dict(chain, lines=chain['lines'] + [(63, 63)])))
+keep('circle_of_64_first', 6, build(**dict(chain, lines=chain['lines'] + [(63, 0)], ssd=[(0, 0, [])])))
 keep('circle_first', 6, build(roles=[0, 1], lines=[(0, 1), (1, 0)], ssd=[(0, 0, [])]))
 keep('cardinality_0', 7, build(ssd=[(0, 0, [])]))
 keep('cardinality_1', 7, build(roles=[0, 1], ssd=[(3, 1, [0, 1])]))

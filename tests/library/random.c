@@ -107,9 +107,12 @@ static int untouched(const uint8_t *bytes, size_t from, size_t to)
     return 1;
 }
 
+/* The numbers of the answer sheet. */
+static const unsigned char sheet[] = {0, 1, 2, 3, 4, 5, 6, 7, 8, 9, 10, 11, 12, 14, 15};
+
 static void count(unsigned long number)
 {
-    must(number < 16, "an answer is no number of the sheet");
+    must(number < sizeof answers / sizeof *answers && memchr(sheet, (int)number, sizeof sheet) != NULL, "an answer is no number of the sheet");
     answers[number]++;
 }
 
@@ -199,9 +202,9 @@ int main(int words_given, char **given)
         }
         try_file(state, file_end);
     }
-    printf("%lu lines were too long for their buffer, %lu states for a file of %d bytes; answers 0 to 15:", unfit, saved_long, MARRUSKIL_LONGEST_FILE);
-    for (i = 0; i < 16; i++)
-        printf(" %lu", answers[i]);
+    printf("%lu lines were too long for their buffer, %lu states for a file of %d bytes; answers from 0 to 15:", unfit, saved_long, MARRUSKIL_LONGEST_FILE);
+    for (i = 0; i < sizeof sheet; i++)
+        printf(" %lu", answers[sheet[i]]);
     printf("\n");
     return 0;
 }

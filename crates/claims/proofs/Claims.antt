@@ -1,8 +1,9 @@
 -- Each claim, by the theorem that shows it. Assumes nothing.
-use Rattle.numbers.proofs.Answers.{number-one-to-one, number-back, number-below}
+use Rattle.numbers.proofs.Answers.{number-one-to-one, answer-back, number-back, number-below}
 use Rattle.demands.proofs.Demand1.{demand1}
 use Rattle.demands.proofs.Demand2.{demand2}
 use Rattle.demands.proofs.Demand3.{demand3}
+use Rattle.demands.proofs.ShorterSheet.{shorter-sheet}
 use Rattle.demands.proofs.Conditions.{conditions}
 use Rattle.demands.proofs.Effects.{effects}
 use Rattle.demands.proofs.Reviews.{questions-demand}
@@ -72,13 +73,14 @@ one-outcome =
 pub claims : Claims
 claims =
     record {
-      answer-sheet = record { one-to-one = number-one-to-one; below = number-below; back = number-back };
+      answer-sheet = record { one-to-one = number-one-to-one; below = number-below; found = answer-back; back = number-back };
       demand1 = demand1;
       demand2 = demand2;
       conditions = conditions;
       effects = effects;
       questions = questions-demand;
       demand3 = demand3;
+      shorter-sheet = shorter-sheet;
       faithful = faithful;
       file-form = paper-form;
       loading = loading;

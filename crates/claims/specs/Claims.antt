@@ -5,9 +5,11 @@ use mathlib.Core.Path.{_≡_}
 use Prim.Native.Nat.{ℕ, _<_}
 use Rattle.numbers.specs.Answers.{numberOf, answerOf}
 use Rattle.numbers.specs.declared.Answer.{Answer}
+use Rattle.numbers.specs.declared.Named.the-variants.{Is}
 use Rattle.demands.specs.Demand1.{Demand1}
 use Rattle.demands.specs.Demand2.{Demand2}
 use Rattle.demands.specs.Demand3.{Demand3}
+use Rattle.demands.specs.ShorterSheet.{ShorterSheet}
 use Rattle.demands.specs.Conditions.{Conditions}
 use Rattle.demands.specs.Effects.{Effects}
 use Rattle.demands.specs.Reviews.{QuestionsDemand}
@@ -76,8 +78,10 @@ pub record AnswerSheet : Type 0 where
   pub one-to-one : (a b : Answer) → numberOf a ≡ numberOf b → a ≡ b
   -- every number is one of 0 to 15,
   pub below : (a : Answer) → numberOf a < 16
-  -- and every one of 0 to 15 is the number of an answer.
-  pub back : (n : ℕ) → n < 16 → numberOf (answerOf n) ≡ n
+  -- an answer's number finds it,
+  pub found : (a : Answer) → answerOf (numberOf a) ≡ Is a
+  -- and an answer that a number finds has this number.
+  pub back : (n : ℕ) (a : Answer) → answerOf n ≡ Is a → numberOf a ≡ n
 
 pub record Claims : Type 0 where
   -- ---- the three demands, over the model
@@ -88,6 +92,7 @@ pub record Claims : Type 0 where
   pub effects : Effects
   pub questions : QuestionsDemand
   pub demand3 : Demand3
+  pub shorter-sheet : ShorterSheet
   -- ---- the policy file
   pub faithful : Faithful
   pub file-form : FileForm

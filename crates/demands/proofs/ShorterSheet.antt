@@ -26,7 +26,7 @@ use Rattle.demands.proofs.Demand3.{demand3}
 
 unused : (a : Answer) → numberOf a ≡ 13 → ⊥
 unfolding withNumber
-unused a e = nothing-named 13 refl a e
+unused a e = nothing-named _ refl a e
 
 not-on : (n : ℕ) → OnSheet n → n ≡ 13 → ⊥
 not-on n on e = unused (on .0) (sym (on .1) ∙ e)

@@ -6,11 +6,10 @@ use Prim.Native.Nat.{ℕ}
 use native.Mathlib.Omega.{arith}
 use Rattle.roleset.specs.Bounded.{some, every, tally, members}
 use Rattle.roleset.specs.Roles.{has, pack, those, union, common, subset, isEmpty, count}
-use Rattle.hierarchy.specs.Walks.{juniorsOf, joined, walk, reach, circular}
+use Rattle.hierarchy.specs.Walks.{juniorsOf, walk, reach, circular, longerChain}
 use Rattle.model.specs.Model.{Model, standing}
 use Rattle.model.specs.Sheet.{Told, verdict, settle, done, refused}
 use Rattle.model.specs.Words.{breaks, breaksSome, staticBroken, dynamicBroken}
-use Rattle.model.specs.commands.Inheriting.{usersCut}
 use Rattle.sound.proofs.Sheet.{settle-done, settle-refused}
 use Rattle.policyform.specs.Form.{FileOf}
 use Rattle.policyform.specs.Promises.{Loads}
@@ -57,7 +56,7 @@ unfolding bytesOf listing entries
 mixed-written = refl
 
 mixed-clear : verdict (rulesBroken (modelOf mixedSections)) ≡ 0
-unfolding some every tally has pack those union common subset isEmpty count juniorsOf joined walk reach circular standing verdict breaks breaksSome staticBroken dynamicBroken usersCut badSet unauthorised rulesBroken any atKey
+unfolding some every tally has pack those union common subset isEmpty count juniorsOf walk reach circular longerChain standing verdict breaks breaksSome staticBroken dynamicBroken badSet unauthorised rulesBroken any atKey
 mixed-clear = refl
 
 pub mixed-file : (m : Model) → Reachable m → Says mixedSections m → FileIs m (bytesIn mixedFile)
@@ -85,7 +84,7 @@ unfolding bytesOf listing entries
 wide-written = refl
 
 wide-broken : verdict (rulesBroken (modelOf wideSections)) ≡ 7
-unfolding some every tally has pack those union common subset isEmpty count juniorsOf joined walk reach circular verdict badSet rulesBroken any atKey
+unfolding some every tally has pack those union common subset isEmpty count juniorsOf walk reach circular longerChain verdict badSet rulesBroken any atKey
 wide-broken = refl
 
 pub wide-file : (m : Model) × FileOf m (bytesIn wideFile)

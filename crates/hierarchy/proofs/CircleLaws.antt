@@ -67,8 +67,8 @@ module _ (lines : ℕ → ℕ) where
   pub circular-sound : circular lines ≡ true → (r : ℕ) × Inherits lines r r
   unfolding circular
   circular-sound h =
-      let f = longer-run lines 64 (those (λ k. true)) h in
-      run-circle 64 (omega arith) (f .small) (f .run)
+      let f = longer-run lines _ _ h in
+      run-circle _ (omega arith) (f .small) (f .run)
 
   -- and wherever one does,
   pub circular-complete : Small lines → (r : ℕ) → Inherits lines r r → circular lines ≡ true

@@ -7,16 +7,16 @@ use borrow.Author.Tests.{eqb-true, not-true}
 use Rattle.roleset.specs.Bounded.{some, every, tally, members}
 use Rattle.roleset.specs.Roles.{has, pack, those, with, without, union, common, minus, subset, isEmpty, count}
 use Rattle.roleset.proofs.BoundedLaws.{and-left, and-right, some-intro}
-use Rattle.hierarchy.specs.Walks.{juniorsOf, joined, walk, reach}
+use Rattle.hierarchy.specs.Walks.{juniorsOf, walk, reach}
 use Rattle.model.specs.Lists.{rising, someFrom, listed, setOf}
 use Rattle.model.specs.Model.{Model, empty, put}
 use Rattle.model.specs.Questions.{ask, assignedRoles, authRoles, sessionRoles}
 use Rattle.model.specs.Sheet.{verdict, settle}
 use Rattle.model.specs.Step.{step}
-use Rattle.model.specs.Words.{breaks, breaksSome, staticBroken, dynamicBroken, shedded, shed, shedCut, sessionsOpen}
+use Rattle.model.specs.Words.{breaks, breaksSome, staticBroken, dynamicBroken, shedded, shed, sessionsOpen}
 use Rattle.model.specs.commands.Users.{user, role}
 use Rattle.model.specs.commands.Assigning.{assign, assigned, deassign, deassigned, grant, granted}
-use Rattle.model.specs.commands.Inheriting.{inherit, lined, usersCut, disinherit, unlined}
+use Rattle.model.specs.commands.Inheriting.{inherit, lined, disinherit, unlined}
 use Rattle.model.specs.commands.Sets.{broken, makeSet}
 use Rattle.model.specs.commands.Sessions.{freeFrom, opened, session, end, permitted, check}
 use Rattle.benchsheet.specs.Lines.{answers, afterwards}
@@ -25,7 +25,7 @@ use Rattle.misreadings.specs.Readings.{twoSeniorsAbove, examples, answer
 use Rattle.misreadings.proofs.Bench.{bench}
 
 readings-same : sameBy (sameBy (sameBy eqb)) (answered examples) (expected examples) ≡ true
-unfolding sameBy some every tally members has pack those with without union common minus subset isEmpty count juniorsOf joined walk reach rising someFrom listed setOf empty put ask assignedRoles authRoles sessionRoles verdict settle step breaks breaksSome staticBroken dynamicBroken shedded shed shedCut sessionsOpen user role assign assigned deassign deassigned grant granted inherit lined usersCut disinherit unlined broken makeSet freeFrom opened session end permitted check answers afterwards answered expected
+unfolding sameBy some every tally members has pack those with without union common minus subset isEmpty count juniorsOf walk reach rising someFrom listed setOf empty put ask assignedRoles authRoles sessionRoles verdict settle step breaks breaksSome staticBroken dynamicBroken shedded shed sessionsOpen user role assign assigned deassign deassigned grant granted inherit lined disinherit unlined broken makeSet freeFrom opened session end permitted check answers afterwards answered expected
 readings-same = refl
 
 -- every example answers as the paper says
@@ -37,7 +37,7 @@ unfoldable told-apart : Model → Bool
 told-apart after = not (brokenByTwo after 2 0) && staticBroken after 7
 
 two-apart : told-apart (lined (afterwards empty twoSeniorsAbove) 2 0) ≡ true
-unfolding some every tally has pack those with union common subset isEmpty count juniorsOf joined walk reach rising someFrom listed setOf empty put verdict settle step breaks breaksSome staticBroken user role assign assigned inherit lined usersCut broken makeSet afterwards brokenByTwo told-apart
+unfolding some every tally has pack those with union common subset isEmpty count juniorsOf walk reach rising someFrom listed setOf empty put verdict settle step breaks breaksSome staticBroken user role assign assigned inherit lined broken makeSet afterwards brokenByTwo told-apart
 two-apart = refl
 
 -- the wrong rules would pass what the paper refuses

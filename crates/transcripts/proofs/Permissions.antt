@@ -40,22 +40,22 @@ quick-is m roles = members-ext 4096 (holds m roles) _ (λ p l. go p (eqb (m .hol
 -- ---- the three questions
 
 abbrev pub roleTold : ℕ → Model → Told
-roleTold r m = review m room (roleBeyond r) (roleMissing m r) (reached m (with none r) .cut) (quick (m .holders) (reached m (with none r)))
+roleTold r m = review m room (roleBeyond r) (roleMissing m r) (quick (m .holders) (reached m (with none r)))
 
 abbrev pub userTold : ℕ → Model → Told
-userTold u m = review m room (userBeyond u) (userMissing m u) (reached m (m .assigned u) .cut) (quick (m .holders) (authorised m u))
+userTold u m = review m room (userBeyond u) (userMissing m u) (quick (m .holders) (authorised m u))
 
 abbrev pub sessionTold : ℕ → Model → Told
-sessionTold s m = review m room (sessionBeyond s) (sessionMissing m s) (reached m (m .sessions s .active) .cut) (quick (m .holders) (effective m s))
+sessionTold s m = review m room (sessionBeyond s) (sessionMissing m s) (quick (m .holders) (effective m s))
 
 pub role-told : (r : ℕ) (m : Model) → ask m room (RolePerms (record { number = r })) ≡ roleTold r m
 unfolding ask rolePerms
-role-told r m = ap (λ (l : List ℕ). review m room (roleBeyond r) (roleMissing m r) (reached m (with none r) .cut) l) (quick-is m (reached m (with none r)))
+role-told r m = ap (λ (l : List ℕ). review m room (roleBeyond r) (roleMissing m r) l) (quick-is m (reached m (with none r)))
 
 pub user-told : (u : ℕ) (m : Model) → ask m room (UserPerms (record { number = u })) ≡ userTold u m
 unfolding ask userPerms
-user-told u m = ap (λ (l : List ℕ). review m room (userBeyond u) (userMissing m u) (reached m (m .assigned u) .cut) l) (quick-is m (authorised m u))
+user-told u m = ap (λ (l : List ℕ). review m room (userBeyond u) (userMissing m u) l) (quick-is m (authorised m u))
 
 pub session-told : (s : ℕ) (m : Model) → ask m room (SessionPerms (record { number = s })) ≡ sessionTold s m
 unfolding ask sessionPerms
-session-told s m = ap (λ (l : List ℕ). review m room (sessionBeyond s) (sessionMissing m s) (reached m (m .sessions s .active) .cut) l) (quick-is m (effective m s))
+session-told s m = ap (λ (l : List ℕ). review m room (sessionBeyond s) (sessionMissing m s) l) (quick-is m (effective m s))

@@ -57,15 +57,15 @@ lent {told} {before} {after} {x} silent fits r =
 -- ---- the reviews
 
 -- what a review of a list tells fits
-review-fits : (m : Model) (room : ℕ) (beyond missing cut : Bool) (list : List ℕ) → length (review m room beyond missing cut list .results) ≤ room
+review-fits : (m : Model) (room : ℕ) (beyond missing : Bool) (list : List ℕ) → length (review m room beyond missing list .results) ≤ room
 unfolding settle
-review-fits m room beyond missing cut list = go (eqb (verdict rs) 0) refl
+review-fits m room beyond missing list = go (eqb (verdict rs) 0) refl
   where
     rs : List Refusal
-    rs = refusals beyond missing cut room (length list)
+    rs = refusals beyond missing room (length list)
 
     go : (b : Bool) → eqb (verdict rs) 0 ≡ b → length (settle rs m list m .results) ≤ room
-    go true e = rw (e, settle) (ltb-false room (length list) (done-clear rs refl (eqb-true (verdict rs) 0 e) .1 .1 .1 .0))
+    go true e = rw (e, settle) (ltb-false room (length list) (done-clear rs refl (eqb-true (verdict rs) 0 e) .1 .1 .0))
     go false e = rw (e, settle) (omega arith)
 
 -- every question but `check` is one
@@ -92,19 +92,19 @@ isReview q =
 reviews-fit : (m : Model) (room : ℕ) (q : Question) → isReview q ≡ true → length (ask m room q .results) ≤ room
 unfolding ask isReview
 reviews-fit m room (Check s op obj) h = clash false h refl
-reviews-fit m room (AssignedUsers r) h = review-fits m room _ _ _ (assignedUsers m (r .number))
-reviews-fit m room (AssignedRoles u) h = review-fits m room _ _ _ (assignedRoles m (u .number))
-reviews-fit m room (AuthUsers r) h = review-fits m room _ _ _ (authUsers m (r .number))
-reviews-fit m room (AuthRoles u) h = review-fits m room _ _ _ (authRoles m (u .number))
-reviews-fit m room (RolePerms r) h = review-fits m room _ _ _ (rolePerms m (r .number))
-reviews-fit m room (UserPerms u) h = review-fits m room _ _ _ (userPerms m (u .number))
-reviews-fit m room (SessionRoles s) h = review-fits m room _ _ _ (sessionRoles m (s .number))
-reviews-fit m room (SessionPerms s) h = review-fits m room _ _ _ (sessionPerms m (s .number))
-reviews-fit m room (RoleOps r obj) h = review-fits m room _ _ _ (roleOps m (r .number) obj)
-reviews-fit m room (UserOps u obj) h = review-fits m room _ _ _ (userOps m (u .number) obj)
-reviews-fit m room (Sets kind) h = review-fits m room _ _ _ (setNames kind m)
-reviews-fit m room (SetRoles kind name) h = review-fits m room _ _ _ (setRoles kind m (name .number))
-reviews-fit m room (SetCount kind name) h = review-fits m room _ _ _ (setCount kind m (name .number))
+reviews-fit m room (AssignedUsers r) h = review-fits m room _ _ (assignedUsers m (r .number))
+reviews-fit m room (AssignedRoles u) h = review-fits m room _ _ (assignedRoles m (u .number))
+reviews-fit m room (AuthUsers r) h = review-fits m room _ _ (authUsers m (r .number))
+reviews-fit m room (AuthRoles u) h = review-fits m room _ _ (authRoles m (u .number))
+reviews-fit m room (RolePerms r) h = review-fits m room _ _ (rolePerms m (r .number))
+reviews-fit m room (UserPerms u) h = review-fits m room _ _ (userPerms m (u .number))
+reviews-fit m room (SessionRoles s) h = review-fits m room _ _ (sessionRoles m (s .number))
+reviews-fit m room (SessionPerms s) h = review-fits m room _ _ (sessionPerms m (s .number))
+reviews-fit m room (RoleOps r obj) h = review-fits m room _ _ (roleOps m (r .number) obj)
+reviews-fit m room (UserOps u obj) h = review-fits m room _ _ (userOps m (u .number) obj)
+reviews-fit m room (Sets kind) h = review-fits m room _ _ (setNames kind m)
+reviews-fit m room (SetRoles kind name) h = review-fits m room _ _ (setRoles kind m (name .number))
+reviews-fit m room (SetCount kind name) h = review-fits m room _ _ (setCount kind m (name .number))
 
 -- a review by its own function
 reviewed : {before after : List ℕ} {x : Review} (m : Model) (q : Question) → isReview q ≡ true → Reviewed (ask m (length before) q) before after x → Lent (numberOf (x .answer)) (x .count) before after

@@ -38,10 +38,10 @@ numbers =
 pub hierarchy : promises.Hierarchy
 hierarchy =
     record {
-      reach = λ κs a x y e f vx vy p q. p ∙ sym q;
+      reach = λ κs a x y e f vx vy p q. laws.reaches-one p q;
       circular = λ κs a x y e f vx vy p q. p ∙ sym q;
       turned = λ κs a x y e f vx vy p q. laws.arrays 64 x y _ (vx .1 .1 .0 .1) (vy .1 .1 .0 .1) p q;
-      at-or-above = λ κs a x y e f vx vy p q. p ∙ sym q;
+      at-or-above = λ κs a x y e f vx vy p q. laws.reaches-up-one p q;
     }
 
 pub state : promises.State
@@ -88,7 +88,7 @@ state =
 pub walking : promises.Walking
 walking =
     record {
-      reach = λ κs a x y e f vx vy p q. p ∙ sym q;
+      reach = λ κs a x y e f vx vy p q. laws.reaches-one p q;
     }
 
 pub separation : promises.Separation
@@ -102,8 +102,8 @@ separation =
 pub sweeps : promises.Sweeps
 sweeps =
     record {
-      ask-static = λ κs a x y e f vx vy p q. laws.asks-one p q;
-      ask-set = λ κs a x y e f vx vy p q. laws.asks-one p q;
+      ask-static = λ κs a x y e f vx vy p q. p ∙ sym q;
+      ask-set = λ κs a x y e f vx vy p q. p ∙ sym q;
       shed = λ κs a x y e f vx vy p q. laws.sheds-all-one p q;
       end-all = λ κs a x y e f sx sy p q. (refl, laws.states sx sy p q);
       lowest-free = λ κs a x y e f vx vy p q. p ∙ sym q;

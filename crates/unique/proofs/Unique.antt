@@ -29,9 +29,8 @@ use Rattle.state.specs.Stores.{Table}
 use Rattle.state.specs.View.{Numbers, view, told}
 use Rattle.state.proofs.OneToOne.{view-one-to-one}
 use Rattle.state.proofs.Tables as tables
-use Rattle.sweeps.specs.Sweeps.{Asks, ShedsAll, Strips}
-use Rattle.sweeps.specs.declared.Asked.{Asked}
-use Rattle.sweeps.specs.declared.Kept.{Kept}
+use Rattle.hierarchy.specs.Walks.{Reaches, ReachesUp}
+use Rattle.sweeps.specs.Sweeps.{ShedsAll, Strips}
 use Rattle.state.specs.Results.{isDone, given}
 use Rattle.sessions.specs.Answering.{Opens, toldOpened}
 use Rattle.checking.specs.Answering.{Checks, Owns, toldChecked, toldOwned}
@@ -109,6 +108,14 @@ lowest-one s a b p q = go (isEmpty s) refl
     go true e = p .1 .1 e ∙ sym (q .1 .1 e)
     go false e = one-lowest s a b (p .1 .0 e) (q .1 .0 e)
 
+-- ---- the walk
+
+pub reaches-one : {lines : ℕ → ℕ} {from x y : ℕ} → Reaches lines from x → Reaches lines from y → x ≡ y
+reaches-one p q = p .is ∙ sym (q .is)
+
+pub reaches-up-one : {lines : ℕ → ℕ} {r x y : ℕ} → ReachesUp lines r x → ReachesUp lines r y → x ≡ y
+reaches-up-one p q = p .is ∙ sym (q .is)
+
 -- ---- the state, lists and sweeps
 
 -- two tables of so many numbers are one
@@ -118,11 +125,8 @@ table-one {x = x} {y} p q = tables.table-one x y 0 (p .long ∙ sym (q .long)) (
 pub reads-one : {list : List ℕ} {x y : Listed} → Reads list x → Reads list y → x ≡ y
 reads-one p q = λ i. record { ascending = (p .ascending ∙ sym (q .ascending)) i; beyond = (p .beyond ∙ sym (q .beyond)) i; roles = (p .roles ∙ sym (q .roles)) i }
 
-pub asks-one : {isBroken isCut : Bool} {x y : Asked} → Asks isBroken isCut x → Asks isBroken isCut y → x ≡ y
-asks-one p q = λ i. record { broken = (p .broken ∙ sym (q .broken)) i; cut = (p .cut ∙ sym (q .cut)) i }
-
-pub sheds-all-one : {juniors assigned : ℕ → ℕ} {sessions : ℕ → Session} {x y : Kept} → ShedsAll juniors assigned sessions x → ShedsAll juniors assigned sessions y → x ≡ y
-sheds-all-one {x = x} {y} p q = λ i. record { active = arrays 64 (x .active) (y .active) _ (p .long) (q .long) (p .each) (q .each) i; cut = (p .cut ∙ sym (q .cut)) i }
+pub sheds-all-one : {juniors assigned : ℕ → ℕ} {sessions : ℕ → Session} {x y : List ℕ} → ShedsAll juniors assigned sessions x → ShedsAll juniors assigned sessions y → x ≡ y
+sheds-all-one {x = x} {y} p q = arrays 64 x y _ (p .long) (q .long) (p .each) (q .each)
 
 pub strips-one : {before after after′ : List ℕ} {r n n′ : ℕ} → Strips before after r n → Strips before after′ r n′ → (n ≡ n′) × (after ≡ after′)
 strips-one p q = (p .had ∙ sym (q .had), p .stripped ∙ sym (q .stripped))
