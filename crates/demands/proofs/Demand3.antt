@@ -8,7 +8,7 @@ use native.Mathlib.Omega.{arith}
 use Rattle.roleset.specs.Bounded.{bit, some}
 use Rattle.roleset.specs.Roles.{has, none}
 use Rattle.roleset.proofs.BoundedLaws.{clash, some-none}
-use Rattle.hierarchy.specs.Lines.{Inherits, Chain, one, more}
+use Rattle.hierarchy.specs.Lines.{Inherits, one, more}
 use Rattle.hierarchy.proofs.InheritsLaws.{trans}
 use Rattle.hierarchy.proofs.CircleLaws.{chain-circle}
 use Rattle.model.specs.Model.{Model}
@@ -57,7 +57,7 @@ below m set a r (inr q) p = inr (q .0, q .1, trans (q .2) p)
 
 pub rules : (m : Model) → Sound m → Rules m
 unfolding check
-rules m s = record { circles = s .rules .acyclic .never; active = active; access = access; static = unbroken 256 (staticBroken m) (static-exact m (s .shape) .1) (s .rules .static); dynamic = unbroken 64 (dynamicBroken m) (dynamic-exact m (s .shape) .1) (s .rules .dynamic); chains = chains }
+rules m s = record { circles = s .rules .acyclic .never; active = active; access = access; static = unbroken 256 (staticBroken m) (static-exact m (s .shape) .1) (s .rules .static); dynamic = unbroken 64 (dynamicBroken m) (dynamic-exact m (s .shape) .1) (s .rules .dynamic); chains = λ r c. let x = chain-circle (m .juniors) (lines-small m (s .shape)) _ (omega arith) c in s .rules .acyclic .never (x .0) (x .1) }
   where
     unbroken : (n : ℕ) (test : ℕ → Bool) {Broken : Type 0} → (Broken → some n test ≡ true) → ((i : ℕ) → test i ≡ false) → Broken → ⊥
     unbroken n test shown never b = clash (some n test) (shown b) (some-none n test (λ i l. never i))
@@ -78,9 +78,6 @@ rules m s = record { circles = s .rules .acyclic .never; active = active; access
         let p = effective-exact m s k (found .0) .0 (found .1) in
         let reached : Effective m k (found .0) = record { exists = p .0; through = p .1 } in
         record { role = found .0; effective = reached; holds = found .2; authorised = owned k (found .0) reached }
-
-    chains : (r : ℕ) → Chain (m .juniors) 65 r → ⊥
-    chains r c = let x = chain-circle (m .juniors) (lines-small m (s .shape)) _ (omega arith) c in s .rules .acyclic .never (x .0) (x .1)
 
 -- ---- the shape and the limits
 

@@ -5,8 +5,7 @@ use mathlib.Core.Path.{_≡_, refl, sym, ap, _∙_}
 use Prim.Native.Nat.{ℕ}
 use native.Mathlib.Omega.{arith}
 use Rattle.roleset.proofs.Laws.{member-small}
-use Rattle.numbers.specs.Answers.{numberOf, withNumber}
-use Rattle.numbers.specs.declared.Answer.{Answer}
+use Rattle.numbers.specs.Answers.{withNumber}
 use Rattle.numbers.proofs.Answers.{nothing-named}
 use Rattle.hierarchy.specs.Lines.{Chain, Small}
 use Rattle.hierarchy.proofs.CircleLaws.{chain-circle, circular-complete}
@@ -24,12 +23,9 @@ use Rattle.demands.proofs.Demand3.{demand3}
 
 -- ---- the number
 
-unused : (a : Answer) → numberOf a ≡ 13 → ⊥
-unfolding withNumber
-unused a e = nothing-named _ refl a e
-
 not-on : (n : ℕ) → OnSheet n → n ≡ 13 → ⊥
-not-on n on e = unused (on .0) (sym (on .1) ∙ e)
+unfolding withNumber
+not-on n on e = nothing-named 13 refl (on .0) (sym (on .1) ∙ e)
 
 -- ---- long chains
 
@@ -61,7 +57,7 @@ shorter-sheet =
     record {
       chains = λ m p. demand3 .rules m p .chains;
       loading = loading;
-      unused = unused;
+      unused = λ a e. nothing-named _ refl a e;
       names-none = refl;
       commands = λ m c list. not-on _ (demand1 .commands m c list .onSheet);
       questions = λ m room q. not-on _ (demand1 .questions m room q .onSheet);
