@@ -12,7 +12,7 @@ const SCRIPT: &str = "(script)";
 /// Stands in the table for a policy file that is loaded.
 const FILE: &str = "(file)";
 
-/// The refusals that the paper lists for loading and saving, but for 14.
+/// The refusals of loading and saving, but for 14.
 const FILE_REFUSALS: &[u8] = &[6, 7, 9, 10, 11, 15];
 
 /// Why no script and no file can reach an answer that the paper lists for a word with these places, if none can.

@@ -39,7 +39,7 @@ const fn word(text: &'static str, takes: &'static [Takes], refusals: &'static [u
     Word { text, takes, refusals, often, obeys }
 }
 
-/// What the paper lists for every review.
+/// The refusals of every review.
 const REVIEW: &[u8] = &[1, 2, 15];
 
 pub const WORDS: &[Word] = {

@@ -202,9 +202,9 @@ int main(int words_given, char **given)
         }
         try_file(state, file_end);
     }
-    printf("%lu lines were too long for their buffer, %lu states for a file of %d bytes; answers from 0 to 15:", unfit, saved_long, MARRUSKIL_LONGEST_FILE);
+    printf("%lu lines were too long for their buffer, %lu states for a file of %d bytes; answers:", unfit, saved_long, MARRUSKIL_LONGEST_FILE);
     for (i = 0; i < sizeof sheet; i++)
-        printf(" %lu", answers[sheet[i]]);
+        printf(" %d: %lu", sheet[i], answers[sheet[i]]);
     printf("\n");
     return 0;
 }

@@ -20,6 +20,7 @@ use Rattle.transcripts.proofs.ScriptLines.{script-lines}
 use Rattle.wordsheet.proofs.WordSheet.{word-sheet}
 use Rattle.edges.proofs.Edges.{edges}
 use Rattle.edges.proofs.FullTables.{full-tables}
+use Rattle.edges.proofs.LongestChain.{longest-chain}
 use Rattle.edges.proofs.LongScripts.{long-scripts}
 use Rattle.benchsheet.proofs.BenchSheet.{bench-sheet}
 use Rattle.misreadings.proofs.Bench.{inherited-grant}
@@ -32,6 +33,7 @@ use Rattle.unique.proofs.Handed.{owned}
 use Rattle.unique.proofs.OwnCalls.{own-calls}
 use Rattle.unique.proofs.Buffers.{buffers}
 use Rattle.unique.proofs.Frame.{frame}
+use Rattle.unique.proofs.AnyState.{any-state}
 use Rattle.claims.specs.Claims.{Claims, OneOutcome, AnswerSheet}
 
 one-outcome : OneOutcome
@@ -94,6 +96,7 @@ claims =
       word-sheet = word-sheet;
       edges = edges;
       full-tables = full-tables;
+      longest-chain = longest-chain;
       long-scripts = long-scripts;
       story = story-holds;
       bench-sheet = bench-sheet;
@@ -107,5 +110,6 @@ claims =
       owned = owned;
       buffers = buffers;
       frame = frame;
+      any-state = any-state;
       one-outcome = one-outcome;
     }

@@ -27,6 +27,7 @@ use Rattle.transcripts.specs.Story.{Story}
 use Rattle.wordsheet.specs.WordSheet.{WordSheet}
 use Rattle.edges.specs.Edges.{Edges}
 use Rattle.edges.specs.FullTables.{FullTables}
+use Rattle.edges.specs.LongestChain.{LongestChain}
 use Rattle.edges.specs.LongScripts.{LongScripts}
 use Rattle.benchsheet.specs.BenchSheet.{Bench}
 use Rattle.misreadings.specs.Readings.{examples, answered, expected, InheritedGrant, WrongRules}
@@ -37,6 +38,7 @@ use Rattle.unique.specs.Handed.{Owned}
 use Rattle.unique.specs.OwnCalls.{OwnCalls}
 use Rattle.unique.specs.Buffers.{Buffers}
 use Rattle.unique.specs.Frame.{Frame}
+use Rattle.unique.specs.AnyState.{AnyState}
 
 -- "For each, prove that any two outcomes meeting it are equal": every public function of each crate.
 pub record OneOutcome : Type 0 where
@@ -108,6 +110,7 @@ pub record Claims : Type 0 where
   pub word-sheet : WordSheet
   pub edges : Edges
   pub full-tables : FullTables
+  pub longest-chain : LongestChain
   pub long-scripts : LongScripts
   pub story : Story
   -- ---- the bench sheet, and what is shut out
@@ -123,4 +126,5 @@ pub record Claims : Type 0 where
   pub owned : Owned
   pub buffers : Buffers
   pub frame : Frame
+  pub any-state : AnyState
   pub one-outcome : OneOutcome

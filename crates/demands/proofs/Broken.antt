@@ -73,7 +73,7 @@ module _ (n : ℕ) (sets : ℕ → RoleSet) (held : ℕ → ℕ) (Holds : ℕ �
 
 -- ---- of a policy, whether or not it breaks a rule
 
--- The computed set of the roles that a user is authorised for is what the paper's sentence says, where no role inherits itself.
+-- The computed set of the roles that a user is authorised for is what the paper's sentence says.
 pub authorises : (m : Model) → Shape m → (u r : ℕ) → (has (authorised m u) r ≡ true) ↔ Authorised m u r
 authorises m x u r =
     let e = reached-exact m x (m .assigned u) (x .assigned u) r in

@@ -6,7 +6,7 @@ use mathlib.Core.Path.{_≡_, refl, sym, ap, _∙_}
 use Prim.Native.Nat.{ℕ, zero, suc, _<_}
 use native.Mathlib.Omega.{arith}
 use Rattle.roleset.specs.Bounded.{bit, some}
-use Rattle.roleset.specs.Roles.{has, none}
+use Rattle.roleset.specs.Roles.{has}
 use Rattle.roleset.proofs.BoundedLaws.{clash, some-none}
 use Rattle.hierarchy.specs.Lines.{Inherits, one, more}
 use Rattle.hierarchy.proofs.InheritsLaws.{trans}

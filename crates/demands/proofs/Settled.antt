@@ -38,7 +38,7 @@ settled-below n rs m results after p e = rw (settle-answer rs m results after) (
 unfoldable pub numbered : ℕ → Bool
 numbered n = elim (answerOf n) [ Nothing ↦ false | Is a ↦ true ]
 
-numbered-on : (n : ℕ) → numbered n ≡ true → OnSheet n
+pub numbered-on : (n : ℕ) → numbered n ≡ true → OnSheet n
 unfolding numbered
 numbered-on n h = go (answerOf n) refl
   where

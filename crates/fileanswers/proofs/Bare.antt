@@ -20,7 +20,7 @@ bare m = record { users = m .users; roles = m .roles; juniors = m .juniors; assi
 existing : (m : Model) (set : ℕ) → Existing m set → Existing (bare m) set
 existing m set e = record { small = e .small; exist = e .exist }
 
-pub bare-shape : (m : Model) → Formed m → Shape (bare m)
+bare-shape : (m : Model) → Formed m → Shape (bare m)
 bare-shape m f =
     record {
       users = f .users;

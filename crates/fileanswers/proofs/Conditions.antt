@@ -28,7 +28,7 @@ use Rattle.demands.specs.Broken.{StaticBroken, DynamicBroken}
 use Rattle.demands.specs.Many.{AsMany}
 use Rattle.demands.proofs.Broken.{broken-exact}
 use Rattle.demands.proofs.Counts.{many-in}
-use Rattle.demands.proofs.ShorterSheet.{formed-lines}
+use Rattle.policyform.proofs.Lines.{formed-lines}
 use Rattle.fileanswers.specs.Loading.{Circle, BadCardinality, NotAuthorised, Asked}
 use Rattle.fileanswers.proofs.Bare.{authorised-formed}
 

@@ -6,8 +6,8 @@ use Prim.Native.Nat.{ℕ}
 use native.Mathlib.Omega.{arith}
 use Rattle.model.specs.Model.{Model}
 use Rattle.model.specs.Sheet.{Refusal, Told, settle, refused}
-use Rattle.sound.proofs.Sheet.{Alike, alike-settle, not-told}
-use Rattle.policyform.specs.Form.{Formed, FileOf}
+use Rattle.sound.proofs.Sheet.{not-told}
+use Rattle.policyform.specs.Form.{FileOf}
 use Rattle.policyform.specs.Rules.{rulesBroken}
 use Rattle.policyform.specs.Promises.{Loads}
 use Rattle.policyread.proofs.Whole.{file-one}
@@ -21,11 +21,8 @@ use Rattle.demands.specs.Demand2.{Exactly}
 use Rattle.fileanswers.specs.Loading.{loadRefusals, Answered, Loading}
 use Rattle.fileanswers.proofs.Conditions.{asked}
 
-alike : (m : Model) (f : Formed m) → Alike (rulesBroken m) (loadRefusals (asked m f))
-unfolding rulesBroken
-alike m f = (refl, refl, λ _. (refl, refl, λ _. (refl, refl, λ _. (refl, refl, λ _. (refl, refl, λ _. tt)))))
-
 answers : (before m : Model) (bytes : List ℕ) (told : Told) → FileOf m bytes → Loads before bytes told → Answered before m told
+unfolding rulesBroken
 answers before m bytes told x (inl y) = absurd (y .no-file m x)
 answers before m bytes told x (inr y) = record { asked = asked m (x .formed); exactly = subst (Exactly before list [] m) (sym tells) (exact list before [] m refl refl) }
   where
@@ -33,7 +30,7 @@ answers before m bytes told x (inr y) = record { asked = asked m (x .formed); ex
     list = loadRefusals (asked m (x .formed))
 
     tells : told ≡ settle list before [] m
-    tells = y .tells ∙ ap (λ (n : Model). settle (rulesBroken n) before [] n) (file-one bytes (y .model) m (y .file) x) ∙ alike-settle (rulesBroken m) list before [] m (alike m (x .formed))
+    tells = y .tells ∙ ap (λ (n : Model). settle (rulesBroken n) before [] n) (file-one bytes (y .model) m (y .file) x)
 
 listed : (before : Model) (f : Sections) (told : Told) → OfTheForm f → Loads before (bytesOf f) told → (m : Model) × (Says f m) × Answered before m told
 listed before f told form l =

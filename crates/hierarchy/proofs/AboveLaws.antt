@@ -53,7 +53,7 @@ module _ (lines : ℕ → ℕ) (small : Small lines) where
   unfolding atOrAbove
   above-sound r s h = turned-at (under-one r s (reach-sound (turned lines) (with none r) s h))
 
-  -- and all of these, whatever the lines.
+  -- and all of these, with a circle or without.
   pub above-complete : (r s : ℕ) → r < 64 → AtOrAbove lines s r → has (atOrAbove lines r) s ≡ true
   unfolding atOrAbove
   above-complete r s l a = reach-complete (turned lines) (with none r) turned-within s (one-under r s l (turn-at a))

@@ -1,7 +1,7 @@
 -- Circles: a chain of more than 64 roles repeats one, so there is one only where some role inherits itself. Assumes nothing.
 use mathlib.Core.Bool.{Bool, true, false}
 use mathlib.Core.Logic.{_⊎_, inl, inr, ⊎-elim}
-use mathlib.Core.Path.{_≡_, refl, subst}
+use mathlib.Core.Path.{_≡_, refl, subst, _∙_}
 use Prim.Native.Nat.{ℕ, zero, suc, _≤_, _<_}
 use native.Mathlib.Omega.{arith}
 use lib.Dec.{eqb}
@@ -13,7 +13,7 @@ use Rattle.roleset.proofs.Laws.{has-those}
 use Rattle.hierarchy.specs.Lines.{line, Inherits, Chain, Acyclic, Small}
 use Rattle.hierarchy.specs.Lines.Inherits.{one, more}
 use Rattle.hierarchy.specs.Lines.Chain.{alone, down}
-use Rattle.hierarchy.specs.Walks.{circular}
+use Rattle.hierarchy.specs.Walks.{circular, TellsCircle}
 use Rattle.hierarchy.proofs.InheritsLaws.{trans, ends-small}
 use Rattle.hierarchy.proofs.Ways.{but, but-less, but-other}
 use Rattle.hierarchy.proofs.ChainLaws.{Run, stay, go-on, longer-run, run-longer, chain-run}
@@ -84,3 +84,7 @@ module _ (lines : ℕ → ℕ) where
   -- Where none does, it says no.
   pub acyclic-circular : Acyclic lines → circular lines ≡ false
   acyclic-circular a = never (circular lines) (λ h. let c = circular-sound h in a .never (c .0) (c .1))
+
+  -- So it is what is to be handed back.
+  pub tells-circle : (told : Bool) → told ≡ circular lines → TellsCircle lines told
+  tells-circle told e = record { is = e; exactly = λ small. (λ h. circular-sound (rw e at h), λ c. e ∙ circular-complete small (c .0) (c .1)) }

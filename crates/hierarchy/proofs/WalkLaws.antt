@@ -130,7 +130,7 @@ module _ (lines : ℕ → ℕ) (from : ℕ) where
       let f = walk-found lines 64 from r h in
       record { role = f .role; small = f .small; member = f .member; down = met-at-or-above lines (f .met) }
 
-  -- and all of these, whatever the lines.
+  -- and all of these, with a circle or without.
   pub reach-complete : Small lines → (r : ℕ) → Under lines from r → has (reach lines from) r ≡ true
   unfolding reach
   reach-complete small r u = walk-finds lines from (u .small) (u .member) (met-in-64 lines small (u .small) (u .down))

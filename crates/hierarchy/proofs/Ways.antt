@@ -85,6 +85,6 @@ module _ (lines : ℕ → ℕ) where
     way {s} {r} l (inr (one p)) = along l refl p (there (small .within s r p .1) refl refl)
     way {s} l (inr (more {k = k} p i)) = along l refl p (way (small .within s k p .1) (inr i))
 
-    -- What a role is or inherits is met by fewer than 64 lines, whatever the lines.
+    -- What a role is or inherits is met by fewer than 64 lines.
     pub met-in-64 : {s r : ℕ} → s < 64 → AtOrAbove lines s r → Met 64 s r
     met-in-64 l a = shortened 64 (λ k. true) (tally-le 64 (λ k. true)) (way l a)

@@ -44,10 +44,3 @@ pub record Under (lines : ℕ → ℕ) (from r : ℕ) : Type 0 where
   pub small : role < 64
   pub member : has from role ≡ true
   pub down : AtOrAbove lines role r
-
--- a chain of n roles starts at some role of the set `from`
-pub record Starts (lines : ℕ → ℕ) (n from : ℕ) : Type 0 where
-  pub role : ℕ
-  pub small : role < 64
-  pub member : has from role ≡ true
-  pub chain : Chain lines n role

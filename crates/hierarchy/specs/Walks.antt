@@ -5,7 +5,7 @@ use mathlib.Core.Path.{_≡_}
 use Prim.Native.Nat.{ℕ, zero, suc, _<_}
 use Rattle.roleset.specs.Bounded.{some}
 use Rattle.roleset.specs.Roles.{has, those, none, with, union, isEmpty}
-use Rattle.hierarchy.specs.Lines.{line, Small, AtOrAbove, Under}
+use Rattle.hierarchy.specs.Lines.{line, Inherits, Small, AtOrAbove, Under}
 
 -- the roles directly below some role of the front
 unfoldable pub juniorsOf : (ℕ → ℕ) → ℕ → ℕ
@@ -37,7 +37,7 @@ longerChain lines (suc allowed) front = elim (isEmpty front) [ true ↦ false | 
 unfoldable pub circular : (ℕ → ℕ) → Bool
 circular lines = longerChain lines 64 (those (λ k. true))
 
--- ---- what a walk hands back, and nothing beside it: over any lines between roles 0 to 63, with a circle among them or without
+-- ---- what is handed back, and nothing beside it: over any lines between roles 0 to 63, with a circle among them or without
 
 -- It is the set of the roles of `from` and of all that they inherit, and of no other.
 pub record Reaches (lines : ℕ → ℕ) (from set : ℕ) : Type 0 where
@@ -48,3 +48,8 @@ pub record Reaches (lines : ℕ → ℕ) (from set : ℕ) : Type 0 where
 pub record ReachesUp (lines : ℕ → ℕ) (r set : ℕ) : Type 0 where
   pub is : set ≡ atOrAbove lines r
   pub exactly : Small lines → r < 64 → (s : ℕ) → (has set s ≡ true) ↔ AtOrAbove lines s r
+
+-- It says whether some role inherits itself.
+pub record TellsCircle (lines : ℕ → ℕ) (told : Bool) : Type 0 where
+  pub is : told ≡ circular lines
+  pub exactly : Small lines → (told ≡ true) ↔ ((r : ℕ) × Inherits lines r r)

@@ -4,7 +4,7 @@ ghost use Prim.Native.Nat.{ℕ, _<_};
 ghost use lib.ListN.{length};
 ghost use Rattle.roleset.specs.Roles.{union};
 ghost use Rattle.hierarchy.specs.Lines.{tableOf};
-ghost use Rattle.hierarchy.specs.Walks.{juniorsOf, walk, longerChain, turned, circular, Reaches, ReachesUp};
+ghost use Rattle.hierarchy.specs.Walks.{juniorsOf, walk, longerChain, turned, Reaches, ReachesUp, TellsCircle};
 ghost use Rattle.hierarchy.specs.Marks.{Marked};
 use numbers::Role;
 
@@ -37,7 +37,7 @@ fn walk_from(juniors: &[u64; 64], front: u64, allowed: u16, met: u64) -> u64
     walk_from(juniors, next, allowed - 1, more)
 }
 
-// The roles of a set and all that they inherit, whatever the lines.
+// The roles of a set and all that they inherit, with a circle among the lines or without.
 pub fn reach(juniors: &[u64; 64], from: u64) -> u64
     ensures { λ w. ⌜ Reaches (tableOf (now (juniors .entry))) from w ⌝ }
 {
@@ -60,7 +60,7 @@ fn longer_chain(juniors: &[u64; 64], front: u64, allowed: u16) -> bool
 
 // Does some role inherit itself? One walk from all 64 roles tells, since only a circle has a chain of more than 64.
 pub fn circular(juniors: &[u64; 64]) -> bool
-    ensures { λ yes. ⌜ yes ≡ circular (tableOf (now (juniors .entry))) ⌝ }
+    ensures { λ yes. ⌜ TellsCircle (tableOf (now (juniors .entry))) yes ⌝ }
 {
     longer_chain(juniors, 0xffff_ffff_ffff_ffff, 64)
 }
@@ -93,7 +93,7 @@ pub fn turned(juniors: &[u64; 64]) -> [u64; 64]
     t
 }
 
-// The role r and all that inherit it, whatever the lines; no role where r is beyond 63.
+// The role r and all that inherit it, with a circle among the lines or without; no role where r is beyond 63.
 pub fn at_or_above(juniors: &[u64; 64], r: Role) -> u64
     ensures { λ w. ⌜ ReachesUp (tableOf (now (juniors .entry))) (r .number) w ⌝ }
 {

@@ -1,4 +1,4 @@
--- The answer sheet: the paper's number of each answer, with the paper's sentence beside it, and the answer of each number.
+-- The answer sheet: the paper's number of each answer, with the paper's sentence beside it, and the answer of a number, if it has one.
 -- Assumes nothing.
 use mathlib.Core.Bool.{true, false}
 use mathlib.Core.List.{List, [], _∷_}

@@ -216,10 +216,6 @@ pub some-more : (n : ℕ) (f : ℕ → Bool) → some n f ≡ false → f n ≡ 
 unfolding some
 some-more n f p q = rw (add-one n, q) p
 
-pub some-step : (n : ℕ) (f : ℕ → Bool) → some (n + 1) f ≡ (f n || some n f)
-unfolding some
-some-step n f = rw (add-one n)
-
 pub tally-step : (n : ℕ) (f : ℕ → Bool) → tally (n + 1) f ≡ bit (f n) + tally n f
 unfolding tally
 tally-step n f = rw (add-one n)

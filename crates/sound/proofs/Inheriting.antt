@@ -45,7 +45,7 @@ circle-exact m s senior junior small = (to, back)
     back d = reach-complete (m .juniors) from (lines-small m (s .shape)) senior (record { role = junior; small = small; member = with-new none junior small; down = d })
 
 -- A line between two roles that makes no circle leaves none.
-pub lined-acyclic : (m : Model) → Sound m → (senior junior : ℕ) → junior < 64 → wouldCircle m senior junior ≡ false → Acyclic (lined m senior junior .juniors)
+lined-acyclic : (m : Model) → Sound m → (senior junior : ℕ) → junior < 64 → wouldCircle m senior junior ≡ false → Acyclic (lined m senior junior .juniors)
 unfolding lined
 lined-acyclic m s senior junior small e = add-acyclic (new-at m (m .juniors) senior junior (s .shape .juniors)) (λ d. clash (wouldCircle m senior junior) (circle-exact m s senior junior small .1 d) e) (s .rules .acyclic)
 

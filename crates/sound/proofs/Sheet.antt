@@ -140,18 +140,18 @@ not-answered n (r ∷ rest) p a e = go (r .holds) refl (not-answered n rest p (a
 
 -- ---- two lists that answer alike
 
--- the same numbers with the same conditions, as far as those before do not hold; what is left over in the first list does not hold
+-- the same numbers with the same conditions, as far as those before do not hold
 abbrev pub Alike : List Refusal → List Refusal → Type 0
 Alike [] [] = Unit {0}
 Alike [] (y ∷ ys) = ⊥
-Alike (x ∷ xs) [] = (x .holds ≡ false) × Alike xs []
+Alike (x ∷ xs) [] = ⊥
 Alike (x ∷ xs) (y ∷ ys) = (x .number ≡ y .number) × (x .holds ≡ y .holds) × (x .holds ≡ false → Alike xs ys)
 
 -- Such lists have one verdict,
 pub alike-verdict : (xs ys : List Refusal) → Alike xs ys → verdict xs ≡ verdict ys
 alike-verdict [] [] a = refl
 alike-verdict [] (y ∷ ys) a = absurd a
-alike-verdict (x ∷ xs) [] a = verdict-later x xs (a .0) ∙ alike-verdict xs [] (a .1)
+alike-verdict (x ∷ xs) [] a = absurd a
 alike-verdict (x ∷ xs) (y ∷ ys) a = go (x .holds) refl (λ e. alike-verdict xs ys (a .2 e))
   where
     go : (b : Bool) → x .holds ≡ b → (x .holds ≡ false → verdict xs ≡ verdict ys) → verdict (x ∷ xs) ≡ verdict (y ∷ ys)
@@ -205,6 +205,6 @@ pub alike-settle : (xs ys : List Refusal) (m : Model) (results : List ℕ) (afte
 unfolding settle
 alike-settle xs ys m results after a = ap (λ (n : ℕ). elim (eqb n 0) as (λ b. Told) [ true ↦ done results after | false ↦ refused n m ]) (alike-verdict xs ys a)
 
--- and a number above 0 that is on neither is not told.
+-- and a number above 0 that is on the list of neither is not told.
 pub not-told : (n : ℕ) (rs : List Refusal) (m : Model) (results : List ℕ) (after : Model) (t : Told) → 0 < n → absent n rs ≡ true → t ≡ settle rs m results after → t .answer ≡ n → ⊥
 not-told n rs m results after t p a q e = not-answered n rs p a (sym (settle-answer rs m results after) ∙ ap (λ (x : Told). x .answer) (sym q) ∙ e)

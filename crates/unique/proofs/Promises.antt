@@ -39,7 +39,7 @@ pub hierarchy : promises.Hierarchy
 hierarchy =
     record {
       reach = λ κs a x y e f vx vy p q. laws.reaches-one p q;
-      circular = λ κs a x y e f vx vy p q. p ∙ sym q;
+      circular = λ κs a x y e f vx vy p q. laws.tells-circle-one p q;
       turned = λ κs a x y e f vx vy p q. laws.arrays 64 x y _ (vx .1 .1 .0 .1) (vy .1 .1 .0 .1) p q;
       at-or-above = λ κs a x y e f vx vy p q. laws.reaches-up-one p q;
     }

@@ -29,7 +29,7 @@ use Rattle.state.specs.Stores.{Table}
 use Rattle.state.specs.View.{Numbers, view, told}
 use Rattle.state.proofs.OneToOne.{view-one-to-one}
 use Rattle.state.proofs.Tables as tables
-use Rattle.hierarchy.specs.Walks.{Reaches, ReachesUp}
+use Rattle.hierarchy.specs.Walks.{Reaches, ReachesUp, TellsCircle}
 use Rattle.sweeps.specs.Sweeps.{ShedsAll, Strips}
 use Rattle.state.specs.Results.{isDone, given}
 use Rattle.sessions.specs.Answering.{Opens, toldOpened}
@@ -112,6 +112,9 @@ lowest-one s a b p q = go (isEmpty s) refl
 
 pub reaches-one : {lines : ℕ → ℕ} {from x y : ℕ} → Reaches lines from x → Reaches lines from y → x ≡ y
 reaches-one p q = p .is ∙ sym (q .is)
+
+pub tells-circle-one : {lines : ℕ → ℕ} {x y : Bool} → TellsCircle lines x → TellsCircle lines y → x ≡ y
+tells-circle-one p q = p .is ∙ sym (q .is)
 
 pub reaches-up-one : {lines : ℕ → ℕ} {r x y : ℕ} → ReachesUp lines r x → ReachesUp lines r y → x ≡ y
 reaches-up-one p q = p .is ∙ sym (q .is)

@@ -36,7 +36,7 @@ fn walk_from(state: &[u64; PLACES], front: u64, allowed: u16, met: u64) -> u64
     walk_from(state, next, allowed - 1, more)
 }
 
-// The roles of a set and all that they inherit, whatever the lines.
+// The roles of a set and all that they inherit, with a circle among the lines or without.
 pub fn reach(state: &[u64; PLACES], from: u64) -> u64
     ensures { λ w. ⌜ Reaches (view (now (state .entry)) .juniors) from w ⌝ }
 {

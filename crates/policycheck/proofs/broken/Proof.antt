@@ -14,7 +14,7 @@ use Rattle.policycheck.proofs.broken.Tie as tie
 
 -- what each test finds, in the words of the rules
 circling : (c : tie.After-circular) → circular (view (c .before .before .before .args .state .now) .juniors) ≡ c .circular .result
-circling c = sym (c .circular .ensures ∙ ap circular (c .before .before .juniors-table .ensures .each))
+circling c = sym (c .circular .ensures .is ∙ ap circular (c .before .before .juniors-table .ensures .each))
 
 cardinalities : (c : tie.After-either) → (badSet (view (c .before .before .before .before .before .before .before .args .state .now) .ssd) || badSet (view (c .before .before .before .before .before .before .before .args .state .now) .dsd)) ≡ c .either .result
 cardinalities c = sym (c .either .ensures ∙ ap₂ (λ (a b : Bool). a || b) (c .before .before .bad-set .ensures) (c .before .bad-set2 .ensures))

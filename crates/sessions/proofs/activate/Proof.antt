@@ -1,4 +1,4 @@
--- The refusals that `activate` begins with are told as they are found, and so are the four after them; past all, the store leaves the session with
+-- The refusals that `activate` begins with are told as they are found, and so are the three after them; past all, the store leaves the session with
 -- the role. Assumes nothing.
 use borrow.Author.Needs.{needs}
 use borrow.Author.Tests.{not-true, not-false}

@@ -1,4 +1,4 @@
--- Each test of `session` is a refusal of the sheet, in its order; past all seven, the lowest free session is open for the user. Assumes nothing.
+-- Each test of `session` is a refusal of the sheet, in its order; past all six, the lowest free session is open for the user. Assumes nothing.
 use borrow.Author.Needs.{needs}
 use borrow.Author.Tests.{leb-false}
 use mathlib.Core.Bool.{Bool, true, false, not, _||_}
