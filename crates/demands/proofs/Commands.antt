@@ -28,7 +28,7 @@ use Rattle.sound.proofs.Sets.{makeSet-sound, dropSet-sound, addMember-sound, dr
 use Rattle.sound.proofs.Sessions.{session-sound, activate-sound, drop-sound, end-sound}
 use Rattle.demands.specs.Demand1.{Harmless}
 use Rattle.demands.specs.Demand2.{refusals, results, effect}
-use Rattle.demands.proofs.Settled.{below, settled-below, numbered, allNumbered, settled-harmless}
+use Rattle.demands.proofs.Settled.{lacks, settled-lacks, numbered, allNumbered, settled-harmless}
 
 -- what is shown of a command that tells so
 pub record Shown (m : Model) (c : Command) (list : List ℕ) (told : Told) : Type 0 where
@@ -42,15 +42,14 @@ pub record Shown (m : Model) (c : Command) (list : List ℕ) (told : Told) : Typ
   pub listed : Sound m → told ≡ settle (refusals m c list) m (results m c list) (effect m c list)
   pub kept : Sound m → Sound (told .after)
 
--- The same from what differs: that the numbers of its list in the model are below 15 and on the sheet, that the paper's list is in order and has no
+-- The same from what differs: that the numbers of its list in the model are on the sheet and none is 15, that the paper's list is in order and has no
 -- 0, and the two laws of the command.
-by : {m : Model} {c : Command} {list : List ℕ} (rs : List Refusal) (gives : List ℕ) (after : Model) → (below 15 rs && allNumbered rs) ≡ true → (ordered (refusals m c list) && positive (refusals m c list)) ≡ true → (Sound m → settle rs m gives after ≡ settle (refusals m c list) m (results m c list) (effect m c list)) → (Sound m → Sound (settle rs m gives after .after)) → Shown m c list (settle rs m gives after)
-by {m} {c} {list} rs gives after small order listed kept =
+by : {m : Model} {c : Command} {list : List ℕ} (rs : List Refusal) (gives : List ℕ) (after : Model) → (lacks 15 rs && allNumbered rs) ≡ true → (ordered (refusals m c list) && positive (refusals m c list)) ≡ true → (Sound m → settle rs m gives after ≡ settle (refusals m c list) m (results m c list) (effect m c list)) → (Sound m → Sound (settle rs m gives after .after)) → Shown m c list (settle rs m gives after)
+by {m} {c} {list} rs gives after numbers order listed kept =
     let paper = refusals m c list in
-    let h = settled-below 15 rs m gives after (omega arith) (and-left (below 15 rs) (allNumbered rs) small) in
     record {
-      harmless = settled-harmless rs m gives after (and-right (below 15 rs) (allNumbered rs) small);
-      never-15 = λ e. omega arith;
+      harmless = settled-harmless rs m gives after (and-right (lacks 15 rs) (allNumbered rs) numbers);
+      never-15 = settled-lacks 15 rs m gives after (omega arith) (and-left (lacks 15 rs) (allNumbered rs) numbers);
       ordered = and-left (ordered paper) (positive paper) order;
       positive = and-right (ordered paper) (positive paper) order;
       listed = listed;

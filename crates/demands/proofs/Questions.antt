@@ -19,7 +19,7 @@ use Rattle.model.specs.declared.Question.{Question}
 use Rattle.model.specs.declared.Question.the-variants.{Check, AssignedUsers, AssignedRoles, AuthUsers, AuthRoles, RolePerms, UserPerms, SessionRoles, SessionPerms, RoleOps, UserOps, Sets, SetRoles, SetCount}
 use Rattle.sound.proofs.Sheet.{settle-answer}
 use Rattle.demands.specs.Demand1.{Harmless}
-use Rattle.demands.proofs.Settled.{below, settled-below, numbered, allNumbered, settled-harmless}
+use Rattle.demands.proofs.Settled.{lacks, settled-lacks, numbered, allNumbered, settled-harmless}
 
 -- what is shown of a question that tells so, asked with room for so many results
 pub record Shown (m : Model) (room : ℕ) (told : Told) : Type 0 where
@@ -28,10 +28,8 @@ pub record Shown (m : Model) (room : ℕ) (told : Told) : Type 0 where
   pub never-15 : 4096 ≤ room → told .answer ≡ 15 → ⊥
 
 -- `check`: 15 is not on its list
-checked : {m : Model} {room : ℕ} (rs : List Refusal) (gives : List ℕ) (after : Model) → (below 15 rs && allNumbered rs) ≡ true → Shown m room (settle rs m gives after)
-checked {m} rs gives after small =
-    let h = settled-below 15 rs m gives after (omega arith) (and-left (below 15 rs) (allNumbered rs) small) in
-    record { harmless = settled-harmless rs m gives after (and-right (below 15 rs) (allNumbered rs) small); never-15 = λ f e. omega arith }
+checked : {m : Model} {room : ℕ} (rs : List Refusal) (gives : List ℕ) (after : Model) → (lacks 15 rs && allNumbered rs) ≡ true → Shown m room (settle rs m gives after)
+checked {m} rs gives after numbers = record { harmless = settled-harmless rs m gives after (and-right (lacks 15 rs) (allNumbered rs) numbers); never-15 = λ f. settled-lacks 15 rs m gives after (omega arith) (and-left (lacks 15 rs) (allNumbered rs) numbers) }
 
 -- a review whose list has at most 4,096 numbers
 listed-never : (a b d : Bool) → d ≡ false → verdict (1 when a ∷ 2 when b ∷ 15 when d ∷ []) ≡ 15 → ⊥

@@ -1,10 +1,11 @@
 -- What holds of whatever is settled by a list of refusals: demand 1, and which numbers are not answered. Assumes nothing.
-use mathlib.Core.Bool.{Bool, true, false, _&&_}
+use mathlib.Core.Bool.{Bool, true, false, not, _&&_}
 use mathlib.Core.List.{List, [], _∷_}
-use mathlib.Core.Path.{_≡_, refl, sym, subst}
+use mathlib.Core.Path.{_≡_, refl, sym, subst, _∙_}
 use Prim.Native.Nat.{ℕ, _<_}
-use lib.Dec.{ltb}
-use borrow.Author.Tests.{ltb-true}
+use native.Mathlib.Omega.{arith}
+use lib.Dec.{eqb}
+use borrow.Author.Tests.{eqb-false, not-true}
 use Rattle.roleset.proofs.BoundedLaws.{clash, and-left, and-right}
 use Rattle.numbers.specs.Answers.{answerOf}
 use Rattle.numbers.specs.declared.Answer.the-variants.{Done}
@@ -16,23 +17,23 @@ use Rattle.model.specs.Sheet.{Refusal, verdict, settle}
 use Rattle.sound.proofs.Sheet.{refusal-changes-nothing, settle-answer}
 use Rattle.demands.specs.Demand1.{OnSheet, Harmless}
 
--- every number of the list is below n
-abbrev pub below : ℕ → List Refusal → Bool
-below n [] = true
-below n (r ∷ rest) = ltb (r .number) n && below n rest
+-- no number of the list is n
+abbrev pub lacks : ℕ → List Refusal → Bool
+lacks n [] = true
+lacks n (r ∷ rest) = not (eqb (r .number) n) && lacks n rest
 
-verdict-below : (n : ℕ) (rs : List Refusal) → 0 < n → below n rs ≡ true → verdict rs < n
+verdict-lacks : (n : ℕ) (rs : List Refusal) → 0 < n → lacks n rs ≡ true → verdict rs ≡ n → ⊥
 unfolding verdict
-verdict-below n [] p e = p
-verdict-below n (r ∷ rest) p e = go (r .holds) (verdict-below n rest p (and-right (ltb (r .number) n) (below n rest) e))
+verdict-lacks n [] p e = λ z. omega arith
+verdict-lacks n (r ∷ rest) p e = go (r .holds) (verdict-lacks n rest p (and-right (not (eqb (r .number) n)) (lacks n rest) e))
   where
-    go : (b : Bool) → verdict rest < n → (elim b as (λ _. ℕ) [ true ↦ r .number | false ↦ verdict rest ]) < n
-    go true ih = ltb-true (r .number) n (and-left (ltb (r .number) n) (below n rest) e)
+    go : (b : Bool) → (verdict rest ≡ n → ⊥) → (elim b as (λ _. ℕ) [ true ↦ r .number | false ↦ verdict rest ]) ≡ n → ⊥
+    go true ih = eqb-false (r .number) n (not-true (eqb (r .number) n) (and-left (not (eqb (r .number) n)) (lacks n rest) e))
     go false ih = ih
 
--- the answer is below every number that is above those of the list
-pub settled-below : (n : ℕ) (rs : List Refusal) (m : Model) (results : List ℕ) (after : Model) → 0 < n → below n rs ≡ true → settle rs m results after .answer < n
-settled-below n rs m results after p e = rw (settle-answer rs m results after) (verdict-below n rs p e)
+-- the answer is no number that the list lacks
+pub settled-lacks : (n : ℕ) (rs : List Refusal) (m : Model) (results : List ℕ) (after : Model) → 0 < n → lacks n rs ≡ true → settle rs m results after .answer ≡ n → ⊥
+settled-lacks n rs m results after p e z = verdict-lacks n rs p e (sym (settle-answer rs m results after) ∙ z)
 
 -- some answer has the number
 unfoldable pub numbered : ℕ → Bool
