@@ -13,7 +13,7 @@ long write(int fd, const void *buf, u64 n);
 
 enum {
     DONE, BEYOND, MISSING, OTHER_OWNER, ALREADY, NOT_THERE, ITSELF, BAD_CARD, IN_SET, NOT_AUTHORISED,
-    STATIC, DYNAMIC, FULL, TOO_LONG, FORM, SHORT
+    STATIC, DYNAMIC, FULL, UNUSED, FORM, SHORT, HAS_OPEN
 };
 
 struct set { u8 there; u16 card; u64 roles; };
@@ -126,11 +126,19 @@ static int revoke(struct engine *e, unsigned op, unsigned obj, unsigned r) {
     return DONE;
 }
 
-static int nouser(struct engine *e, unsigned u) {
+static int end_all(struct engine *e, unsigned u) {
     if (u >= 256) return BEYOND;
     if (!e->users[u]) return MISSING;
     for (int k = 0; k < 64; k++)
         if (e->sessions[k].live && e->sessions[k].owner == u) e->sessions[k] = (struct session){ 0, 0, 0 };
+    return DONE;
+}
+
+static int nouser(struct engine *e, unsigned u) {
+    if (u >= 256) return BEYOND;
+    if (!e->users[u]) return MISSING;
+    for (int k = 0; k < 64; k++)
+        if (e->sessions[k].live && e->sessions[k].owner == u) return HAS_OPEN;
     e->assignments -= count(e->assigned[u]);
     e->assigned[u] = 0;
     e->users[u] = 0;
@@ -649,6 +657,8 @@ static int of_users(struct engine *e, unsigned m, unsigned b) {
     case 4: return role(e, 63);
     case 5: return role(e, b);
     case 6: return norole(e, b * 4);
+    case 7: return nouser(e, b);
+    case 8: return end_all(e, b + 16);
     default: return DONE;
     }
 }
@@ -724,6 +734,7 @@ static int of_sessions(struct engine *e, unsigned m, unsigned depth, unsigned b)
     case 68:
         pair_of(1, b, pair);
         return open_session(e, b, pair, 2, &number);
+    case 69: return open_session(e, b + 16, list, 1, &number);
     default: return DONE;
     }
 }

@@ -334,7 +334,7 @@ OUTSIDE = {
         "put_all put_user put_roles put_juniors put_assigned put_holders put_lines put_assignments put_set put_members clear_set open_session put_active close_session put_all_active",
         "each stores one part of the state as it is given, for the commands, which ask their refusals first",
     ),
-    "sweeps": ("end_all strip", "passes of `nouser` and `norole` over the sessions, and over a table that is lent as a slice"),
+    "sweeps": ("end_all strip", "passes of `end-all` and `norole` over the sessions, and over a table that is lent as a slice"),
     "policyread": ("gather", "the numbers of any file, stored without a test, for `load`, which tests them before it stores them as the state"),
 }
 

@@ -26,6 +26,7 @@ pub enum Refusal {
     DynamicBroken = 11,
     Full = 12,
     Form = 14,
+    SessionsOpen = 16,
 }
 use Refusal::*;
 
@@ -307,12 +308,13 @@ impl State {
         Ok(after)
     }
 
+    /// `nouser` "works only when none is open" of the user's sessions.
     pub fn delete_user(&self, user: u16) -> Change {
         let user = self.user(user)?;
+        refuse_if(self.sessions.values().any(|session| session.owner == user), SessionsOpen)?;
         let mut after = self.clone();
         after.users.remove(&user);
         after.assignments.retain(|&(of, _)| of != user);
-        after.sessions.retain(|_, session| session.owner != user);
         Ok(after)
     }
 
@@ -481,6 +483,14 @@ impl State {
         self.need_session_of(user, number, None)?;
         let mut after = self.clone();
         after.sessions.remove(&number);
+        Ok(after)
+    }
+
+    /// "`end-all` with no session open is done and changes nothing."
+    pub fn end_all_sessions(&self, user: u16) -> Change {
+        let user = self.user(user)?;
+        let mut after = self.clone();
+        after.sessions.retain(|_, session| session.owner != user);
         Ok(after)
     }
 

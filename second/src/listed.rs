@@ -48,7 +48,15 @@ const EVENTS: &[&str] = &[
     "disinherit: a session keeps the junior named",
     "norole: a session sheds the role deleted",
     "norole: a session sheds another role",
-    "nouser: a session ends",
+    "nouser: 16 for session 0 alone",
+    "nouser: 16 for session 63 alone",
+    "nouser: 16, and done after end-all",
+    "nouser: 16, and done after end",
+    "nouser: user 0 goes while a session number is free",
+    "nouser: assignments go while other users' sessions are open",
+    "end-all: several sessions end and other users' stay",
+    "end-all: session 63 ends",
+    "end-all: the user has none open and other users' stay",
     "inherit: the line was implied already",
     "inherit: 6 through a longer chain",
     "check: yes through an inherited role alone",
@@ -128,6 +136,8 @@ pub struct Tally {
     pub lines: u64,
     /// The tables that have been full in the script at hand.
     been_full: BTreeSet<&'static str>,
+    /// The users that 16 kept in the script at hand, and the word that ended the last session of each.
+    kept: BTreeMap<u16, Option<&'static str>>,
 }
 
 /// All pairs that the paper lists, with the places that the word has.
@@ -178,6 +188,7 @@ impl Tally {
 
     pub fn begin_script(&mut self) {
         self.been_full.clear();
+        self.kept.clear();
     }
 
     /// Counts a line and what it did.
@@ -200,6 +211,12 @@ impl Tally {
                 let line_back = before.lines.iter().any(|(senior, junior)| [junior.number(), senior.number()] == asked[..]);
                 self.event_if(asked[0] != asked[1] && !line_back, "inherit: 6 through a longer chain");
             }
+            ("nouser", 16, _) => {
+                let open = sessions_of(before, asked[0]);
+                self.event_if(open == [0], "nouser: 16 for session 0 alone");
+                self.event_if(open == [63], "nouser: 16 for session 63 alone");
+                self.kept.insert(asked[0], None);
+            }
             _ => {}
         }
         if let Some(after) = &reply.after {
@@ -219,8 +236,8 @@ impl Tally {
         }
     }
 
-    /// What an accepted command did to lines and sessions.
-    fn change(&mut self, word: &str, asked: &[u16], before: &State, after: &State, results: &[u16]) {
+    /// What an accepted command did to lines, assignments and sessions.
+    fn change(&mut self, word: &'static str, asked: &[u16], before: &State, after: &State, results: &[u16]) {
         match word {
             "inherit" => {
                 let implied = numbers(&before.inherited_by(Role::new(asked[0]).expect("an accepted role"))).contains(&asked[1]);
@@ -231,7 +248,27 @@ impl Tally {
                 let lower = before.sessions.keys().any(|number| number.number() > results[0]);
                 self.event_if(lower, "a session number lower than one in use is given");
             }
-            "nouser" => self.event_if(before.sessions.len() > after.sessions.len(), "nouser: a session ends"),
+            "nouser" => {
+                let (fewer, open) = (before.assignments.len() > after.assignments.len(), after.sessions.len());
+                self.event_if(asked[0] == 0 && open < 64, "nouser: user 0 goes while a session number is free");
+                self.event_if(fewer && open > 0, "nouser: assignments go while other users' sessions are open");
+                let ended_by = self.kept.remove(&asked[0]).flatten();
+                self.event_if(ended_by == Some("end-all"), "nouser: 16, and done after end-all");
+                self.event_if(ended_by == Some("end"), "nouser: 16, and done after end");
+            }
+            "end" | "end-all" => {
+                let open = sessions_of(before, asked[0]);
+                let last_ended = !open.is_empty() && sessions_of(after, asked[0]).is_empty();
+                if let Some(ended_by) = self.kept.get_mut(&asked[0]).filter(|_| last_ended) {
+                    *ended_by = Some(word);
+                }
+                if word == "end-all" {
+                    let others = !after.sessions.is_empty();
+                    self.event_if(open.len() > 1 && others, "end-all: several sessions end and other users' stay");
+                    self.event_if(open.contains(&63), "end-all: session 63 ends");
+                    self.event_if(open.is_empty() && others, "end-all: the user has none open and other users' stay");
+                }
+            }
             _ => {}
         }
         for (number, now) in &after.sessions {
@@ -320,6 +357,12 @@ impl Tally {
             println!("  {answer} ({rows}): {reason}");
         }
     }
+}
+
+/// The numbers of the user's sessions.
+fn sessions_of(state: &State, user: u16) -> Vec<u16> {
+    let owned = state.sessions.iter().filter(|(_, session)| session.owner.number() == user);
+    owned.map(|(number, _)| number.number()).collect()
 }
 
 /// The most roles in a chain of lines.

@@ -1,4 +1,4 @@
-//! The paper's own examples, run by the second program.
+//! The paper's own examples and those of the requests that change it, run by the second program.
 
 use crate::make_files::{fullest, small_state};
 use crate::policy_file::{load, save, sections_of, write, ASSIGNMENTS, DSD, LINES, SESSIONS, SSD};
@@ -62,6 +62,32 @@ const READINGS: &[(&str, &str, &str, &str)] = &[
         "user 9",
         "user 0; user 00; user 65535; user 65536; user 100000; user  1; user 1 ;  user 1; user; ssd 0 2; ssd 0; ; ",
         "0; 14; 1; 14; 14; 14; 14; 14; 14; 7; 14; 14; 14",
+    ),
+    (
+        "nouser with sessions open is refused and changes nothing; after end-all it is done",
+        "role 2; user 7; assign 7 2; session 7 2; session 7",
+        "nouser 7; assigned-roles 7; session-roles 0; session-roles 1; end-all 7; session-roles 0; session-roles 1; \
+         assigned-roles 7; nouser 7; assigned-roles 7; assigned-users 2",
+        "16; 0 2; 0 2; 0; 0; 2; 2; 0 2; 0; 2; 0",
+    ),
+    (
+        "end-all leaves the sessions of others open",
+        "role 2; user 7; user 8; assign 7 2; assign 8 2; session 7 2; session 8 2; session 7; session 8",
+        "end-all 7; session-roles 0; session-roles 1; session-roles 2; session-roles 3; assigned-users 2; nouser 8; nouser 7; \
+         session-roles 1; session 8",
+        "0; 2; 0 2; 2; 0; 0 7 8; 16; 0; 0 2; 0 0",
+    ),
+    (
+        "end-all with no session open, beyond the range, of a missing user and not of the form",
+        "user 7; user 8; session 8",
+        "end-all 7; end-all 7; session-roles 0; end-all 256; end-all 255; end-all; end-all 7 8; nouser 256; nouser 255; nouser 8",
+        "0; 0; 0; 1; 2; 14; 14; 1; 2; 16",
+    ),
+    (
+        "user 0 is deleted while none of its sessions is open",
+        "user 0; user 8",
+        "nouser 0; user 0; session 8; nouser 0; user 0; session 0; nouser 0; end 0 1; nouser 0; nouser 0; session-roles 0",
+        "0; 0; 0 0; 0; 0; 0 1; 16; 0; 0; 2; 0",
     ),
 ];
 

@@ -49,7 +49,7 @@ pub const WORDS: &[Word] = {
     &[
         word("user", &[User], &[1, 4], 5, Changes(|s, n| s.add_user(n[0]))),
         word("role", &[Role], &[1, 4], 5, Changes(|s, n| s.add_role(n[0]))),
-        word("nouser", &[User], &[1, 2], 2, Changes(|s, n| s.delete_user(n[0]))),
+        word("nouser", &[User], &[1, 2, 16], 2, Changes(|s, n| s.delete_user(n[0]))),
         word("norole", &[Role], &[1, 2, 8], 3, Changes(|s, n| s.delete_role(n[0]))),
         word("assign", &[User, Role], &[1, 2, 4, 10, 12], 15, Changes(|s, n| s.assign(n[0], n[1]))),
         word("deassign", &[User, Role], &[1, 2, 5], 6, Changes(|s, n| s.deassign(n[0], n[1]))),
@@ -88,6 +88,7 @@ pub const WORDS: &[Word] = {
         word("dsd-sets", &[], REVIEW, 2, Asks(|s, _| s.set_names(K::Dsd))),
         word("dsd-roles", &[Dsd], REVIEW, 2, Asks(|s, n| s.set_roles(K::Dsd, n[0]))),
         word("dsd-count", &[Dsd], REVIEW, 2, Asks(|s, n| s.set_count(K::Dsd, n[0]))),
+        word("end-all", &[User], &[1, 2], 2, Changes(|s, n| s.end_all_sessions(n[0]))),
     ]
 };
 

@@ -17,7 +17,7 @@ typedef char a_state_is_its_numbers[sizeof(marruskil_state) == 8 * MARRUSKIL_PLA
 static uint64_t seed = 88172645463325252u;
 static marruskil_state before;
 static uint8_t keep[MOST_FILE];
-static unsigned long answers[16], unfit, saved_long;
+static unsigned long answers[17], unfit, saved_long;
 
 static void must(int kept, const char *what)
 {
@@ -77,7 +77,7 @@ static const char *const words[] = {
     "user", "role", "nouser", "norole", "assign", "deassign", "grant", "revoke", "inherit", "disinherit", "ssd", "nossd", "ssd-add", "ssd-drop", "ssd-card",
     "dsd", "nodsd", "dsd-add", "dsd-drop", "dsd-card", "session", "activate", "drop", "end", "check", "assigned-users", "assigned-roles", "auth-users",
     "auth-roles", "role-perms", "user-perms", "session-roles", "session-perms", "role-ops", "user-ops", "ssd-sets", "ssd-roles", "ssd-count", "dsd-sets",
-    "dsd-roles", "dsd-count",
+    "dsd-roles", "dsd-count", "end-all",
 };
 
 /* A line: a word and numbers, or any bytes. Gives its length. */
@@ -108,7 +108,7 @@ static int untouched(const uint8_t *bytes, size_t from, size_t to)
 }
 
 /* The numbers of the answer sheet. */
-static const unsigned char sheet[] = {0, 1, 2, 3, 4, 5, 6, 7, 8, 9, 10, 11, 12, 14, 15};
+static const unsigned char sheet[] = {0, 1, 2, 3, 4, 5, 6, 7, 8, 9, 10, 11, 12, 14, 15, 16};
 
 static void count(unsigned long number)
 {

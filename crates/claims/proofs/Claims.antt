@@ -4,6 +4,7 @@ use Rattle.demands.proofs.Demand1.{demand1}
 use Rattle.demands.proofs.Demand2.{demand2}
 use Rattle.demands.proofs.Demand3.{demand3}
 use Rattle.demands.proofs.ShorterSheet.{shorter-sheet}
+use Rattle.demands.proofs.TwoMoves.{two-moves}
 use Rattle.demands.proofs.Conditions.{conditions}
 use Rattle.demands.proofs.Effects.{effects}
 use Rattle.demands.proofs.Reviews.{questions-demand}
@@ -15,7 +16,7 @@ use Rattle.fileanswers.proofs.Saving.{saves}
 use Rattle.filetables.proofs.PolicyBytes.{policy-bytes}
 use Rattle.transcripts.proofs.Desk.{desk}
 use Rattle.transcripts.proofs.LineForm.{line-forms}
-use Rattle.transcripts.proofs.Program.{program, story-holds}
+use Rattle.transcripts.proofs.Program.{program, story-holds, leaver-holds}
 use Rattle.transcripts.proofs.ScriptLines.{script-lines}
 use Rattle.wordsheet.proofs.WordSheet.{word-sheet}
 use Rattle.edges.proofs.Edges.{edges}
@@ -83,6 +84,7 @@ claims =
       questions = questions-demand;
       demand3 = demand3;
       shorter-sheet = shorter-sheet;
+      two-moves = two-moves;
       faithful = faithful;
       file-form = paper-form;
       loading = loading;
@@ -99,6 +101,7 @@ claims =
       longest-chain = longest-chain;
       long-scripts = long-scripts;
       story = story-holds;
+      leaver = leaver-holds;
       bench-sheet = bench-sheet;
       readings = readings;
       inherited-grant = inherited-grant;

@@ -10,6 +10,7 @@ use Rattle.demands.specs.Demand1.{Demand1}
 use Rattle.demands.specs.Demand2.{Demand2}
 use Rattle.demands.specs.Demand3.{Demand3}
 use Rattle.demands.specs.ShorterSheet.{ShorterSheet}
+use Rattle.demands.specs.TwoMoves.{TwoMoves}
 use Rattle.demands.specs.Conditions.{Conditions}
 use Rattle.demands.specs.Effects.{Effects}
 use Rattle.demands.specs.Reviews.{QuestionsDemand}
@@ -24,6 +25,7 @@ use Rattle.transcripts.specs.LineForm.{LineForms}
 use Rattle.transcripts.specs.Program.{Program}
 use Rattle.transcripts.specs.ScriptLines.{ScriptLines}
 use Rattle.transcripts.specs.Story.{Story}
+use Rattle.transcripts.specs.Leaver.{Leaver}
 use Rattle.wordsheet.specs.WordSheet.{WordSheet}
 use Rattle.edges.specs.Edges.{Edges}
 use Rattle.edges.specs.FullTables.{FullTables}
@@ -78,8 +80,8 @@ pub record OneOutcome : Type 0 where
 pub record AnswerSheet : Type 0 where
   -- two answers with one number are one answer,
   pub one-to-one : (a b : Answer) → numberOf a ≡ numberOf b → a ≡ b
-  -- every number is one of 0 to 15,
-  pub below : (a : Answer) → numberOf a < 16
+  -- every number is one of 0 to 16,
+  pub below : (a : Answer) → numberOf a < 17
   -- an answer's number finds it,
   pub found : (a : Answer) → answerOf (numberOf a) ≡ Is a
   -- and an answer that a number finds has this number.
@@ -95,6 +97,7 @@ pub record Claims : Type 0 where
   pub questions : QuestionsDemand
   pub demand3 : Demand3
   pub shorter-sheet : ShorterSheet
+  pub two-moves : TwoMoves
   -- ---- the policy file
   pub faithful : Faithful
   pub file-form : FileForm
@@ -113,6 +116,7 @@ pub record Claims : Type 0 where
   pub longest-chain : LongestChain
   pub long-scripts : LongScripts
   pub story : Story
+  pub leaver : Leaver
   -- ---- the bench sheet, and what is shut out
   pub bench-sheet : Bench
   pub readings : answered examples ≡ expected examples

@@ -10,17 +10,17 @@ use Rattle.model.specs.Model.{Model}
 use Rattle.model.specs.Sheet.{Refusal, Told, settle}
 use Rattle.model.specs.Sound.{Sound}
 use Rattle.model.specs.Step.{step}
-use Rattle.model.specs.commands.Users.{user, role, nouser, norole}
+use Rattle.model.specs.commands.Users.{user, role, endAll, hasOpen, nouser, norole}
 use Rattle.model.specs.commands.Assigning.{assign, deassign, grant, revoke}
 use Rattle.model.specs.commands.Inheriting.{inherit, disinherit}
 use Rattle.model.specs.commands.Sets.{makeSet, dropSet, addMember, dropMember, setCardinality}
 use Rattle.model.specs.commands.Sessions.{session, activate, drop, end}
 use Rattle.model.specs.declared.Command.{Command}
-use Rattle.model.specs.declared.Command.the-variants.{AddUser, AddRole, NoUser, NoRole, Assign, Deassign, Grant, Revoke, Inherit, Disinherit, MakeSet, DropSet, AddMember, DropMember, SetCardinality, OpenSession, Activate, DropActive, EndSession}
+use Rattle.model.specs.declared.Command.the-variants.{AddUser, AddRole, NoUser, NoRole, Assign, Deassign, Grant, Revoke, Inherit, Disinherit, MakeSet, DropSet, AddMember, DropMember, SetCardinality, OpenSession, Activate, DropActive, EndSession, EndAll}
 use Rattle.model.specs.declared.Kind.the-variants.{Static, Dynamic}
 use Rattle.sound.proofs.Sheet.{positive, ordered}
 use Rattle.sound.proofs.Listed.{assign-listed, grant-listed, inherit-listed, makeSet-listed, addMember-listed, setCardinality-listed, session-listed, activate-listed}
-use Rattle.sound.proofs.Users.{user-sound, role-sound, nouser-sound}
+use Rattle.sound.proofs.Users.{user-sound, role-sound, endAll-sound, nouser-sound}
 use Rattle.sound.proofs.Shedding.{deassign-sound, disinherit-sound, norole-sound}
 use Rattle.sound.proofs.Assigning.{assign-sound, grant-sound, revoke-sound}
 use Rattle.sound.proofs.Inheriting.{inherit-sound}
@@ -57,7 +57,7 @@ by {m} {c} {list} rs gives after numbers order listed kept =
     }
 
 pub shown : (m : Model) (c : Command) (list : List ℕ) → Shown m c list (step m c list)
-unfolding step numbered withNumber refusals results effect user role nouser norole assign deassign grant revoke inherit disinherit makeSet dropSet addMember dropMember setCardinality session activate drop end
+unfolding step numbered withNumber refusals results effect user role endAll hasOpen nouser norole assign deassign grant revoke inherit disinherit makeSet dropSet addMember dropMember setCardinality session activate drop end
 shown m (AddUser u) list = by _ _ _ refl refl (λ s. refl) (user-sound m (u .number))
 shown m (AddRole r) list = by _ _ _ refl refl (λ s. refl) (role-sound m (r .number))
 shown m (NoUser u) list = by _ _ _ refl refl (λ s. refl) (nouser-sound m (u .number))
@@ -80,3 +80,4 @@ shown m (OpenSession u) list = by _ _ _ refl refl (session-listed m (u .number) 
 shown m (Activate u s r) list = by _ _ _ refl refl (activate-listed m (u .number) (s .number) (r .number)) (activate-sound m (u .number) (s .number) (r .number))
 shown m (DropActive u s r) list = by _ _ _ refl refl (λ _. refl) (drop-sound m (u .number) (s .number) (r .number))
 shown m (EndSession u s) list = by _ _ _ refl refl (λ _. refl) (end-sound m (u .number) (s .number))
+shown m (EndAll u) list = by _ _ _ refl refl (λ s. refl) (endAll-sound m (u .number))

@@ -1,15 +1,15 @@
 -- The conditions of the refusals are what the paper's words say. Assumes nothing.
 use mathlib.Core.Bool.{Bool, true, false, not, _&&_, _||_}
 use mathlib.Core.List.{List, [], _∷_, List·Memᴰ, List·Memᴰ·head, List·Memᴰ·tail, List·Memᴰ·not-nil}
-use mathlib.Core.Logic.{_⊎_, inl, inr, _↔_}
+use mathlib.Core.Logic.{_⊎_, inl, inr, ⊎-elim, _↔_}
 use mathlib.Core.Path.{_≡_, refl, sym, ap, subst, _∙_}
 use Prim.Native.Nat.{ℕ, _+_, _≤_, _<_, _^_}
 use native.Mathlib.Omega.{arith}
-use lib.Dec.{leb, ltb}
-use borrow.Author.Tests.{leb-true, le-leb, leb-false, not-false}
+use lib.Dec.{eqb, leb, ltb}
+use borrow.Author.Tests.{leb-true, le-leb, leb-false, eqb-true, eq-eqb, not-false}
 use Rattle.roleset.specs.Bounded.{some}
-use Rattle.roleset.specs.Roles.{has, with, count, subset}
-use Rattle.roleset.proofs.BoundedLaws.{clash, or-cases, or-left, or-right}
+use Rattle.roleset.specs.Roles.{has, with, none, count, subset}
+use Rattle.roleset.proofs.BoundedLaws.{clash, or-cases, or-left, or-right, and-left, and-right, and-both, some-elim, some-intro}
 use Rattle.roleset.proofs.Laws.{has-none, those-small, with-small}
 use Rattle.hierarchy.specs.Lines.{Inherits}
 use Rattle.model.specs.Lists.{someFrom, listed, setOf}
@@ -19,12 +19,12 @@ use Rattle.model.specs.Sound.{Existing, SetShape, Sound}
 use Rattle.model.specs.Step.{step}
 use Rattle.model.specs.Words.{dynamicBroken}
 use Rattle.model.specs.commands.Assigning.{assigned, granted}
-use Rattle.model.specs.commands.Users.{inSet}
+use Rattle.model.specs.commands.Users.{inSet, withoutUser}
 use Rattle.model.specs.commands.Inheriting.{lined}
 use Rattle.model.specs.commands.Sets.{setsOf, withSets, aSet}
 use Rattle.model.specs.commands.Sessions.{lowestFree, sessionSet, opened, openFor, activeSet}
 use Rattle.model.specs.declared.Command.{Command}
-use Rattle.model.specs.declared.Command.the-variants.{AddUser, AddRole, NoUser, NoRole, Assign, Deassign, Grant, Revoke, Inherit, Disinherit, MakeSet, DropSet, AddMember, DropMember, SetCardinality, OpenSession, Activate, DropActive, EndSession}
+use Rattle.model.specs.declared.Command.the-variants.{AddUser, AddRole, NoUser, NoRole, Assign, Deassign, Grant, Revoke, Inherit, Disinherit, MakeSet, DropSet, AddMember, DropMember, SetCardinality, OpenSession, Activate, DropActive, EndSession, EndAll}
 use Rattle.model.specs.declared.Kind.{Kind}
 use Rattle.model.specs.declared.Kind.the-variants.{Static, Dynamic}
 use Rattle.model.proofs.Puts.{put-other}
@@ -42,7 +42,7 @@ use Rattle.sound.proofs.Words.{InOrBelow, listed-within}
 use Rattle.demands.specs.Authorised.{Authorised}
 use Rattle.demands.specs.Broken.{Broken, StaticBroken, DynamicBroken}
 use Rattle.demands.specs.Conditions.{Conditions, OfLists, OfPolicy, NoneBefore}
-use Rattle.demands.specs.Demand2.{Applies, place, refusals, results, effect, wouldBreak}
+use Rattle.demands.specs.Demand2.{Applies, place, refusals, results, effect, wouldBreak, hasOpen}
 use Rattle.demands.specs.Demand3.{Rules}
 use Rattle.demands.specs.Many.{AsMany}
 use Rattle.demands.proofs.Broken.{authorises, broken-exact, static-exact, dynamic-exact}
@@ -89,18 +89,20 @@ module _ (m : Model) (s : Sound m) where
   kept-done : (n : ℕ) (Rule : Model → Type 0) → ((x : Model) → Sound x → Rule x → ⊥) → (c : Command) (list : List ℕ) → earlier (place n) (refusals m c list) ≡ true → asked n (refusals m c list) ≡ false → NoneBefore (refusals m c list) n → (asked n (refusals m c list) ≡ true) ↔ Rule (effect m c list)
   kept-done n Rule keeps c list before off none = ((λ h. clash (asked n (refusals m c list)) h off), (λ b. absurd (keeps (effect m c list) (effect-sound c list (all-clear n (refusals m c list) before none)) b)))
 
-  -- What leaves the users' authorisations and the static sets alone keeps the static rule,
-  static-same : (after : Model) → after .ssd ≡ m .ssd → after .assigned ≡ m .assigned → after .juniors ≡ m .juniors → after .roles ≡ m .roles → StaticBroken after → ⊥
-  static-same after sets table lines roles b = rules m s .static (record { who = b .who; name = b .name; there = sym (ap (λ (x : ℕ → RoleSet). x (b .name) .there) sets) ∙ b .there; many = subst (λ (x : ℕ → RoleSet). AsMany (x (b .name) .card) (λ r. (has (x (b .name) .roles) r ≡ true) × Authorised m (b .who) r)) sets (many-map (λ r h. (h .0, as-before r (h .1))) (b .many)) })
+  -- What assigns no more, and leaves the lines and the static sets alone, keeps the static rule,
+  static-fewer : (after : Model) → after .ssd ≡ m .ssd → ((u r : ℕ) → has (after .assigned u) r ≡ true → has (m .assigned u) r ≡ true) → after .juniors ≡ m .juniors → after .roles ≡ m .roles → StaticBroken after → ⊥
+  static-fewer after sets fewer lines roles b = rules m s .static (record { who = b .who; name = b .name; there = sym (ap (λ (x : ℕ → RoleSet). x (b .name) .there) sets) ∙ b .there; many = subst (λ (x : ℕ → RoleSet). AsMany (x (b .name) .card) (λ r. (has (x (b .name) .roles) r ≡ true) × Authorised m (b .who) r)) sets (many-map (λ r h. (h .0, as-before r (h .1))) (b .many)) })
     where
       as-before : (r : ℕ) → Authorised after (b .who) r → Authorised m (b .who) r
       as-before r a =
           record {
             exists = sym (ap (λ (x : ℕ). has x r) roles) ∙ a .exists;
-            through =
-                subst (λ (x : ℕ → ℕ). (has (x (b .who)) r ≡ true) ⊎ ((q : ℕ) × (has (x (b .who)) q ≡ true) × Inherits (m .juniors) q r)) table
-                (subst (λ (x : ℕ → ℕ). (has (after .assigned (b .who)) r ≡ true) ⊎ ((q : ℕ) × (has (after .assigned (b .who)) q ≡ true) × Inherits x q r)) lines (a .through));
+            through = ⊎-elim (λ h. inl (fewer (b .who) r h)) (λ h. inr (h .0, fewer (b .who) (h .0) (h .1), subst (λ (x : ℕ → ℕ). Inherits x (h .0) r) lines (h .2))) (a .through);
           }
+
+  -- so does what leaves the users' authorisations alone,
+  static-same : (after : Model) → after .ssd ≡ m .ssd → after .assigned ≡ m .assigned → after .juniors ≡ m .juniors → after .roles ≡ m .roles → StaticBroken after → ⊥
+  static-same after sets table = static-fewer after sets (λ u r h. sym (ap (λ (x : ℕ → ℕ). has (x u) r) table) ∙ h)
 
   -- and what leaves the sessions and the dynamic sets alone keeps the dynamic rule.
   dynamic-same : (after : Model) → after .dsd ≡ m .dsd → after .sessions ≡ m .sessions → DynamicBroken after → ⊥
@@ -170,6 +172,10 @@ module _ (m : Model) (s : Sound m) where
       (put-all (λ k set. (j : ℕ) → has set j ≡ true → has (m .roles) k ≡ true) (m .juniors) a (with (m .juniors a) b) (λ j e. not-false (has (m .roles) a) (there .0)) (λ k d j e. s .shape .seniors k j e))
       (existing-at m (m .juniors) a b (s .shape .juniors) (not-false (has (m .roles) b) (there .1))))
 
+  -- `nouser` takes assignments away
+  fewer-assigned : (u v r : ℕ) → has (put (m .assigned) u none v) r ≡ true → has (m .assigned v) r ≡ true
+  fewer-assigned u = put-all (λ v set. (r : ℕ) → has set r ≡ true → has (m .assigned v) r ≡ true) (m .assigned) u none (λ r e. clash (has 0 r) e (has-none r)) (λ v d r e. e)
+
   static-keeps : (x : Model) → Sound x → StaticBroken x → ⊥
   static-keeps x sx = rules x sx .static
 
@@ -177,10 +183,10 @@ module _ (m : Model) (s : Sound m) where
   dynamic-keeps x sx = rules x sx .dynamic
 
   static-asked : (c : Command) (list : List ℕ) → NoneBefore (refusals m c list) 10 → (asked 10 (refusals m c list) ≡ true) ↔ StaticBroken (effect m c list)
-  unfolding refusals effect granted opened activeSet
+  unfolding refusals effect withoutUser granted opened activeSet
   static-asked (AddUser u) list none = kept-done 10 StaticBroken static-keeps (AddUser u) list refl refl none
   static-asked (AddRole r) list none = kept-done 10 StaticBroken static-keeps (AddRole r) list refl refl none
-  static-asked (NoUser u) list none = kept-done 10 StaticBroken static-keeps (NoUser u) list refl refl none
+  static-asked (NoUser u) list none = off refl (static-fewer (effect m (NoUser u) list) refl (fewer-assigned (u .number)) refl refl)
   static-asked (NoRole r) list none = kept-done 10 StaticBroken static-keeps (NoRole r) list refl refl none
   static-asked (Assign u r) list none = assign-exact (u .number) (r .number) (not-yet 10 1 _ none (omega arith)) (not-yet 10 2 _ none (omega arith))
   static-asked (Deassign u r) list none = kept-done 10 StaticBroken static-keeps (Deassign u r) list refl refl none
@@ -200,12 +206,13 @@ module _ (m : Model) (s : Sound m) where
   static-asked (Activate u k r) list none = off refl (static-same (effect m (Activate u k r) list) refl refl refl refl)
   static-asked (DropActive u k r) list none = kept-done 10 StaticBroken static-keeps (DropActive u k r) list refl refl none
   static-asked (EndSession u k) list none = kept-done 10 StaticBroken static-keeps (EndSession u k) list refl refl none
+  static-asked (EndAll u) list none = kept-done 10 StaticBroken static-keeps (EndAll u) list refl refl none
 
   dynamic-asked : (c : Command) (list : List ℕ) → NoneBefore (refusals m c list) 11 → (asked 11 (refusals m c list) ≡ true) ↔ DynamicBroken (effect m c list)
-  unfolding refusals effect granted assigned lined opened activeSet setOf
+  unfolding refusals effect withoutUser granted assigned lined opened activeSet setOf
   dynamic-asked (AddUser u) list none = kept-done 11 DynamicBroken dynamic-keeps (AddUser u) list refl refl none
   dynamic-asked (AddRole r) list none = kept-done 11 DynamicBroken dynamic-keeps (AddRole r) list refl refl none
-  dynamic-asked (NoUser u) list none = kept-done 11 DynamicBroken dynamic-keeps (NoUser u) list refl refl none
+  dynamic-asked (NoUser u) list none = off refl (dynamic-same (effect m (NoUser u) list) refl refl)
   dynamic-asked (NoRole r) list none = kept-done 11 DynamicBroken dynamic-keeps (NoRole r) list refl refl none
   dynamic-asked (Assign u r) list none = off refl (dynamic-same (effect m (Assign u r) list) refl refl)
   dynamic-asked (Deassign u r) list none = kept-done 11 DynamicBroken dynamic-keeps (Deassign u r) list refl refl none
@@ -228,6 +235,7 @@ module _ (m : Model) (s : Sound m) where
       session-exact 64 (k .number) _ (omega arith) (s .shape .sessions (k .number) .numbered live) (with-small (m .sessions (k .number) .active) (r .number))
   dynamic-asked (DropActive u k r) list none = kept-done 11 DynamicBroken dynamic-keeps (DropActive u k r) list refl refl none
   dynamic-asked (EndSession u k) list none = kept-done 11 DynamicBroken dynamic-keeps (EndSession u k) list refl refl none
+  dynamic-asked (EndAll u) list none = kept-done 11 DynamicBroken dynamic-keeps (EndAll u) list refl refl none
 
   in-words : {n : ℕ} {Rule : Type 0} (c : Command) (list : List ℕ) → (asked n (refusals m c list) ≡ true) ↔ Rule → Applies (refusals m c list) n ↔ Rule
   in-words {n} c list e = ((λ a. e .0 (applies-asked n (refusals m c list) (shown m c list .ordered) a)), (λ b. asked-applies n (refusals m c list) (e .1 b)))
@@ -242,12 +250,21 @@ module _ (m : Model) (s : Sound m) where
         granted = grants-many m (s .shape);
         lined = lines-many m (s .shape);
         opened = sessions-many m (s .shape);
+        opens = opens-exact;
         lowest = λ free. let f = lowest-free m free in (f .within, f .free, λ k l. f .lowest k (omega arith) l);
         room = λ u roles free. sym (opened-asks-all m s u roles) ∙ room-asks-all m s u roles free;
         static = λ c list none. in-words c list (static-asked c list none);
         dynamic = λ c list none. in-words c list (dynamic-asked c list none);
       }
     where
+      opens-exact : (u : ℕ) → (hasOpen m u ≡ true) ↔ ((k : ℕ) × (m .sessions k .live ≡ true) × (m .sessions k .owner ≡ u))
+      opens-exact u =
+          let live : ℕ → Bool = λ k. m .sessions k .live in
+          let own : ℕ → Bool = λ k. eqb (m .sessions k .owner) u in (
+            (λ e. let f = some-elim 64 (λ k. live k && own k) e in (f .0, and-left (live (f .0)) (own (f .0)) (f .2), eqb-true (m .sessions (f .0) .owner) u (and-right (live (f .0)) (own (f .0)) (f .2)))),
+            (λ f. some-intro 64 (λ k. live k && own k) (f .0) (s .shape .sessions (f .0) .numbered (f .1)) (and-both (live (f .0)) (own (f .0)) (f .1) (eq-eqb (m .sessions (f .0) .owner) u (f .2)))),
+          )
+
       stands : (kind : Kind) (r : ℕ) → (inSet (setsOf kind m) r ≡ true) ↔ ((name : ℕ) × (setsOf kind m name .there ≡ true) × (has (setsOf kind m name .roles) r ≡ true))
       stands kind r =
           let x = inSet-exact m (setsOf kind m) (shape-of kind m (s .shape)) r in

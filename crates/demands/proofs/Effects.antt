@@ -27,7 +27,7 @@ use Rattle.model.specs.commands.Inheriting.{lined, unlined}
 use Rattle.model.specs.commands.Sets.{setsOf, aSet}
 use Rattle.model.specs.commands.Sessions.{lowestFree, sessionSet, opened, activeSet}
 use Rattle.model.specs.declared.Command.{Command}
-use Rattle.model.specs.declared.Command.the-variants.{AddUser, AddRole, NoUser, NoRole, Assign, Deassign, Grant, Revoke, Inherit, Disinherit, MakeSet, DropSet, AddMember, DropMember, SetCardinality, OpenSession, Activate, DropActive, EndSession}
+use Rattle.model.specs.declared.Command.the-variants.{AddUser, AddRole, NoUser, NoRole, Assign, Deassign, Grant, Revoke, Inherit, Disinherit, MakeSet, DropSet, AddMember, DropMember, SetCardinality, OpenSession, Activate, DropActive, EndSession, EndAll}
 use Rattle.model.specs.declared.Kind.{Kind}
 use Rattle.model.specs.declared.Kind.the-variants.{Static, Dynamic}
 use Rattle.model.proofs.Puts.{put-same, put-other}
@@ -120,7 +120,7 @@ ended : (u : ℕ) (x : Session) → x .live ≡ true → x .owner ≡ u → ende
 unfolding endedOf
 ended u x l o = rw (l, eq-eqb (x .owner) u o, endedOf)
 
-not-ended : (u : ℕ) (x : Session) → (x .live ≡ true → x .owner ≡ u → ⊥) → endedOf u x ≡ x
+pub not-ended : (u : ℕ) (x : Session) → (x .live ≡ true → x .owner ≡ u → ⊥) → endedOf u x ≡ x
 unfolding endedOf
 not-ended u x h = ap (λ (b : Bool). elim b as (λ _. Session) [ true ↦ closedSession | false ↦ x ]) (go (x .live) refl)
   where
@@ -166,7 +166,7 @@ changed : (m : Model) (c : Command) (list : List ℕ) → Sound m → Sound (eff
 unfolding effect refusals withoutUser allEnded withoutRole assigned deassigned granted revoked lined unlined opened activeSet shed assignments grants linesStanding
 changed m (AddUser u) list s t c = record { users = user-there (m .users) (u .number); only = refl }
 changed m (AddRole r) list s t c = record { roles = λ q. with-each (m .roles) (r .number) q (s .shape .roles) (leb-false 64 (r .number) (c .0)); only = refl }
-changed m (NoUser u) list s t c = record { users = user-gone (m .users) (u .number); assigned = emptied (m .assigned) (u .number); ended = λ k. ended (u .number) (m .sessions k); others = λ k. not-ended (u .number) (m .sessions k); only = ap (λ (n : ℕ). withUsers (withAssignments (allEnded m (u .number)) (withoutUser m (u .number) .assigned) n) (withoutUser m (u .number) .users)) (t .counted .assigned) }
+changed m (NoUser u) list s t c = record { users = user-gone (m .users) (u .number); assigned = emptied (m .assigned) (u .number); only = ap (λ (n : ℕ). withUsers (withAssignments m (withoutUser m (u .number) .assigned) n) (withoutUser m (u .number) .users)) (t .counted .assigned) }
 changed m (NoRole r) list s t c = record { roles = λ q. without-each (m .roles) (r .number) q (s .shape .roles); lines = λ a b. lines-stripped (m .juniors) (r .number) a b (λ k. s .shape .juniors k .small); assigned = λ v q. without-each (m .assigned v) (r .number) q (s .shape .assigned v .small); grants = λ p q. without-each (m .holders p) (r .number) q (s .shape .holders p .small); shedding = shedding m (withoutRole m (r .number)) s t refl; only = λ i. record { users = m .users; roles = x .roles; juniors = x .juniors; assigned = x .assigned; holders = x .holders; ssd = m .ssd; dsd = m .dsd; sessions = x .sessions; assignmentCount = t .counted .assigned i; grantCount = t .counted .granted i; lineCount = t .counted .lined i } }
   where
     x : Model
@@ -192,6 +192,7 @@ changed m (DropActive u k r) list s t c = session-becomes m (k .number) _ true (
     live-of : AllClear (refusals m (DropActive u k r) list) → m .sessions (k .number) .live ≡ true
     live-of c = not-false (m .sessions (k .number) .live) (or-no (sessionMissing m (k .number)) (roleMissing m (r .number)) (or-no (userMissing m (u .number)) _ (c .1 .0) .1) .0)
 changed m (EndSession u k) list s t c = session-becomes m (k .number) closedSession false 0 (λ q. false) refl refl has-none
+changed m (EndAll u) list s t c = record { ended = λ k. ended (u .number) (m .sessions k); others = λ k. not-ended (u .number) (m .sessions k); only = refl }
 
 -- a command that is done on a reachable policy changes what the paper says, member by member, and nothing else
 pub effects : Effects

@@ -17,3 +17,4 @@ pub mod Effects
 pub mod PolicyFile
 pub mod Room
 pub mod ShorterSheet
+pub mod TwoMoves

@@ -1,6 +1,6 @@
 -- Demand 2: "Each command changes exactly what the standard, as read in the paper, says, and is refused exactly in the listed cases. Access is
 -- granted exactly when an active role, or a role that one inherits, holds the permission." Assumes nothing.
-use mathlib.Core.Bool.{Bool, true, false, not, _||_}
+use mathlib.Core.Bool.{Bool, true, false, not, _&&_, _||_}
 use mathlib.Core.List.{List, [], _∷_, List·Memᴰ}
 use mathlib.Core.Logic.{_⊎_, _↔_}
 use mathlib.Core.Path.{_≡_}
@@ -14,13 +14,13 @@ use Rattle.model.specs.Model as model
 use Rattle.model.specs.Sheet.{Refusal, _when_, Told}
 use Rattle.model.specs.Step.{step}
 use Rattle.model.specs.Words.{authorised, staticBroken, dynamicBroken, shed, assignments, grants, linesStanding, sessionsOpen}
-use Rattle.model.specs.commands.Users.{inSet, withoutUser, withoutRole}
+use Rattle.model.specs.commands.Users.{inSet, allEnded, withoutUser, withoutRole}
 use Rattle.model.specs.commands.Assigning.{assigned, deassigned, granted, revoked}
 use Rattle.model.specs.commands.Inheriting.{lined, unlined, wouldCircle}
 use Rattle.model.specs.commands.Sets.{setsOf, withSets, ruleNumber, aSet}
 use Rattle.model.specs.commands.Sessions.{lowestFree, sessionSet, opened, activeSet, check}
 use Rattle.model.specs.declared.Command.{Command}
-use Rattle.model.specs.declared.Command.the-variants.{AddUser, AddRole, NoUser, NoRole, Assign, Deassign, Grant, Revoke, Inherit, Disinherit, MakeSet, DropSet, AddMember, DropMember, SetCardinality, OpenSession, Activate, DropActive, EndSession}
+use Rattle.model.specs.declared.Command.the-variants.{AddUser, AddRole, NoUser, NoRole, Assign, Deassign, Grant, Revoke, Inherit, Disinherit, MakeSet, DropSet, AddMember, DropMember, SetCardinality, OpenSession, Activate, DropActive, EndSession, EndAll}
 use Rattle.model.specs.declared.Kind.{Kind}
 use Rattle.model.specs.declared.Kind.the-variants.{Static, Dynamic}
 use Rattle.demands.specs.Authorised.{Effective}
@@ -37,7 +37,7 @@ unfoldable pub effect : Model → Command → List ℕ → Model
 -- "`user u`, `role r` add"
 effect m (AddUser u) list = withUsers m (put (m .users) (u .number) true)
 effect m (AddRole r) list = withRoles m (with (m .roles) (r .number))
--- "`nouser u`: ends the user's sessions, removes assignments"
+-- `nouser u`: removes the user and its assignments
 effect m (NoUser u) list = withoutUser m (u .number)
 -- "`norole r`: removes its assignments, grants and direct lines at either end, then sheds"
 effect m (NoRole r) list = shed (withoutRole m (r .number))
@@ -61,6 +61,8 @@ effect m (OpenSession u) list = opened m (u .number) (setOf list)
 effect m (Activate u s r) list = activeSet m (s .number) (with (m .sessions (s .number) .active) (r .number))
 effect m (DropActive u s r) list = activeSet m (s .number) (without (m .sessions (s .number) .active) (r .number))
 effect m (EndSession u s) list = sessionSet m (s .number) model.closedSession
+-- "`end-all u` ends the user's sessions"
+effect m (EndAll u) list = allEnded m (u .number)
 
 -- The results of the command: "`session u r..`: .. the result is the lowest free session number". No other command has a result.
 unfoldable pub results : Model → Command → List ℕ → List ℕ
@@ -83,6 +85,7 @@ results m (OpenSession u) list = lowestFree m ∷ []
 results m (Activate u s r) list = []
 results m (DropActive u s r) list = []
 results m (EndSession u s) list = []
+results m (EndAll u) list = []
 
 -- ---- the refusals of each command, as the paper lists them
 
@@ -98,6 +101,10 @@ wouldBreak Dynamic after = some 64 (dynamicBroken after)
 abbrev pub wouldBreakOpened : Model → Bool
 wouldBreakOpened after = some 65 (dynamicBroken after)
 
+-- 16: "the user has open sessions": one of the sessions 0 to 63 is open, and the user's.
+abbrev pub hasOpen : Model → ℕ → Bool
+hasOpen m u = some 64 (λ s. m .sessions s .live && eqb (m .sessions s .owner) u)
+
 infixl 90 _beyond_
 -- The number n "is beyond its range", whose last number this is: "Users are 0 to 255, roles 0 to 63, sessions 0 to 63, SSD sets 0 to 15, DSD sets
 -- 0 to 15. Operations 0 to 15 and objects 0 to 255".
@@ -109,8 +116,8 @@ unfoldable pub refusals : Model → Command → List ℕ → List Refusal
 -- "`user u`, `role r` add; 1, 4."
 refusals m (AddUser u) list = 1 when u .number beyond 255 ∷ 4 when m .users (u .number) ∷ []
 refusals m (AddRole r) list = 1 when r .number beyond 63 ∷ 4 when has (m .roles) (r .number) ∷ []
--- "`nouser u`: .. 1, 2."
-refusals m (NoUser u) list = 1 when u .number beyond 255 ∷ 2 when not (m .users (u .number)) ∷ []
+-- `nouser u`: 1, 2; "16, the user has open sessions, last in the order for `nouser`"
+refusals m (NoUser u) list = 1 when u .number beyond 255 ∷ 2 when not (m .users (u .number)) ∷ 16 when hasOpen m (u .number) ∷ []
 -- "`norole r`: .. 1, 2, 8."
 refusals m (NoRole r) list =
     1 when r .number beyond 63
@@ -222,6 +229,8 @@ refusals m (EndSession u s) list =
     ∷ 2 when (not (m .users (u .number)) || not (m .sessions (s .number) .live))
     ∷ 3 when not (eqb (m .sessions (s .number) .owner) (u .number))
     ∷ []
+-- "`end-all` answers 1 or 2"
+refusals m (EndAll u) list = 1 when u .number beyond 255 ∷ 2 when not (m .users (u .number)) ∷ []
 
 -- ---- exactly
 

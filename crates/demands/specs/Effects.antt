@@ -15,7 +15,7 @@ use Rattle.model.specs.Words.{permission}
 use Rattle.model.specs.commands.Sets.{setsOf, withSets}
 use Rattle.model.specs.commands.Sessions.{lowestFree}
 use Rattle.model.specs.declared.Command.{Command}
-use Rattle.model.specs.declared.Command.the-variants.{AddUser, AddRole, NoUser, NoRole, Assign, Deassign, Grant, Revoke, Inherit, Disinherit, MakeSet, DropSet, AddMember, DropMember, SetCardinality, OpenSession, Activate, DropActive, EndSession}
+use Rattle.model.specs.declared.Command.the-variants.{AddUser, AddRole, NoUser, NoRole, Assign, Deassign, Grant, Revoke, Inherit, Disinherit, MakeSet, DropSet, AddMember, DropMember, SetCardinality, OpenSession, Activate, DropActive, EndSession, EndAll}
 use Rattle.model.specs.declared.Kind.{Kind}
 use Rattle.demands.specs.Authorised.{Authorised}
 use Rattle.demands.specs.Reachable.{Reachable}
@@ -55,18 +55,14 @@ pub record RoleAdded (m after : Model) (r : ℕ) : Type 0 where
   -- Nothing but the roles is changed.
   pub only : after ≡ withRoles m (after .roles)
 
--- "`nouser u`: ends the user's sessions, removes assignments"
+-- `nouser u`: removes the user and its assignments. No session is touched.
 pub record UserGone (m after : Model) (u : ℕ) : Type 0 where
   -- The users are those that were, but for u,
   pub users : (v : ℕ) → after .users v ≡ (m .users v && not (eqb v u))
   -- and so are the assignments, but for those of u.
   pub assigned : (v q : ℕ) → has (after .assigned v) q ≡ (has (m .assigned v) q && not (eqb v u))
-  -- Every open session of u is closed,
-  pub ended : (s : ℕ) → m .sessions s .live ≡ true → m .sessions s .owner ≡ u → after .sessions s ≡ closedSession
-  -- and every other session is as it was.
-  pub others : (s : ℕ) → (m .sessions s .live ≡ true → m .sessions s .owner ≡ u → ⊥) → after .sessions s ≡ m .sessions s
-  -- Nothing but the users, the assignments and the sessions is changed.
-  pub only : after ≡ withUsers (withAssigned (withSessions m (after .sessions)) (after .assigned)) (after .users)
+  -- Nothing but the users and the assignments is changed.
+  pub only : after ≡ withUsers (withAssigned m (after .assigned)) (after .users)
 
 -- "`norole r`: removes its assignments, grants and direct lines at either end, then sheds .. Roles above and below it are not joined up."
 pub record RoleGone (m after : Model) (r : ℕ) : Type 0 where
@@ -137,6 +133,15 @@ pub record SessionBecomes (m after : Model) (s : ℕ) (isLive : Bool) (u : ℕ) 
   pub others : (k : ℕ) → (k ≡ s → ⊥) → after .sessions k ≡ m .sessions k
   pub only : after ≡ withSessions m (after .sessions)
 
+-- "`end-all u` ends the user's sessions"
+pub record AllEnded (m after : Model) (u : ℕ) : Type 0 where
+  -- Every open session of u is closed,
+  pub ended : (s : ℕ) → m .sessions s .live ≡ true → m .sessions s .owner ≡ u → after .sessions s ≡ closedSession
+  -- and every other session is as it was.
+  pub others : (s : ℕ) → (m .sessions s .live ≡ true → m .sessions s .owner ≡ u → ⊥) → after .sessions s ≡ m .sessions s
+  -- Nothing but the sessions is changed.
+  pub only : after ≡ withSessions m (after .sessions)
+
 -- ---- every command
 
 -- What the command changes, by the records above.
@@ -168,6 +173,7 @@ Changed m (Activate u s r) list after = SessionBecomes m after (s .number) true 
 Changed m (DropActive u s r) list after = SessionBecomes m after (s .number) true (u .number) (λ q. has (m .sessions (s .number) .active) q && not (eqb q (r .number)))
 -- `end u s`: not live
 Changed m (EndSession u s) list after = SessionBecomes m after (s .number) false 0 (λ q. false)
+Changed m (EndAll u) list after = AllEnded m after (u .number)
 
 -- A command that is done on a reachable policy changes that, and nothing else.
 abbrev pub Effects : Type 0

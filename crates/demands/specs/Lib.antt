@@ -11,3 +11,4 @@ pub mod Effects
 pub mod PolicyFile
 pub mod Room
 pub mod ShorterSheet
+pub mod TwoMoves

@@ -11,7 +11,7 @@ use Rattle.model.specs.Questions.{ask, assignedUsers, assignedRoles, authUsers,
 use Rattle.model.specs.Sheet.{verdict, settle}
 use Rattle.model.specs.Step.{step}
 use Rattle.model.specs.Words.{breaks, breaksSome, staticBroken, dynamicBroken, shedded, shed, sessionsOpen}
-use Rattle.model.specs.commands.Users.{user, role, nouser, norole, inSet, endedOf, allEnded, withoutUser, withoutRole}
+use Rattle.model.specs.commands.Users.{user, role, endAll, hasOpen, nouser, norole, inSet, endedOf, allEnded, withoutUser, withoutRole}
 use Rattle.model.specs.commands.Assigning.{assign, assigned, deassign, deassigned, grant, granted, revoke, revoked}
 use Rattle.model.specs.commands.Inheriting.{inherit, lined, disinherit, unlined}
 use Rattle.model.specs.commands.Sets.{broken, makeSet, dropSet, addMember, dropMember, setCardinality}
@@ -27,28 +27,28 @@ use Rattle.transcripts.specs.Rows.{lineOf}
 use Rattle.transcripts.proofs.Scripts.{plain, tallies, rightLines, noFeed, noFeeds, rightScript, prints-rows}
 use Rattle.edges.specs.Edges.{numbers, removals, sets, lists, forms, longLines, openSessions, Edges}
 
-numbers-right : rightScript (plain (numbers ++ removals)) "total 26 54" ≡ true
-unfolding some every tally total members has pack those with without union common minus subset isEmpty count juniorsOf walk reach turned atOrAbove rising someFrom listed setOf empty put ask assignedUsers assignedRoles authUsers authRoles sessionRoles roleOps userOps setNames setRoles setCount verdict settle step breaks breaksSome staticBroken dynamicBroken shedded shed sessionsOpen user role nouser norole inSet endedOf allEnded withoutUser withoutRole assign assigned deassign deassigned grant granted revoke revoked inherit lined disinherit unlined broken makeSet dropSet addMember dropMember setCardinality freeFrom opened session activeSet activate drop end permitted check decimal lead numbered takenFrom same words spelling takes placeIn which partsOf upTo render wordIn numbersIn parse meanings meant obey answerText totalText tallies rightLines noFeed noFeeds rightScript
+numbers-right : rightScript (plain (numbers ++ removals)) "total 26 57" ≡ true
+unfolding some every tally total members has pack those with without union common minus subset isEmpty count juniorsOf walk reach turned atOrAbove rising someFrom listed setOf empty put ask assignedUsers assignedRoles authUsers authRoles sessionRoles roleOps userOps setNames setRoles setCount verdict settle step breaks breaksSome staticBroken dynamicBroken shedded shed sessionsOpen user role endAll hasOpen nouser norole inSet endedOf allEnded withoutUser withoutRole assign assigned deassign deassigned grant granted revoke revoked inherit lined disinherit unlined broken makeSet dropSet addMember dropMember setCardinality freeFrom opened session activeSet activate drop end permitted check decimal lead numbered takenFrom same words spelling takes placeIn which partsOf upTo render wordIn numbersIn parse meanings meant obey answerText totalText tallies rightLines noFeed noFeeds rightScript
 numbers-right = refl
 
 sets-right : rightScript (plain sets) "total 15 36" ≡ true
-unfolding some every tally total members has pack those with without union common minus subset isEmpty count juniorsOf walk reach turned atOrAbove rising someFrom listed setOf empty put ask assignedUsers assignedRoles authUsers authRoles sessionRoles roleOps userOps setNames setRoles setCount verdict settle step breaks breaksSome staticBroken dynamicBroken shedded shed sessionsOpen user role nouser norole inSet endedOf allEnded withoutUser withoutRole assign assigned deassign deassigned grant granted revoke revoked inherit lined disinherit unlined broken makeSet dropSet addMember dropMember setCardinality freeFrom opened session activeSet activate drop end permitted check decimal lead numbered takenFrom same words spelling takes placeIn which partsOf upTo render wordIn numbersIn parse meanings meant obey answerText totalText tallies rightLines noFeed noFeeds rightScript
+unfolding some every tally total members has pack those with without union common minus subset isEmpty count juniorsOf walk reach turned atOrAbove rising someFrom listed setOf empty put ask assignedUsers assignedRoles authUsers authRoles sessionRoles roleOps userOps setNames setRoles setCount verdict settle step breaks breaksSome staticBroken dynamicBroken shedded shed sessionsOpen user role endAll hasOpen nouser norole inSet endedOf allEnded withoutUser withoutRole assign assigned deassign deassigned grant granted revoke revoked inherit lined disinherit unlined broken makeSet dropSet addMember dropMember setCardinality freeFrom opened session activeSet activate drop end permitted check decimal lead numbered takenFrom same words spelling takes placeIn which partsOf upTo render wordIn numbersIn parse meanings meant obey answerText totalText tallies rightLines noFeed noFeeds rightScript
 sets-right = refl
 
 lists-right : rightScript (plain lists) "total 9 12" ≡ true
-unfolding some every tally total members has pack those with without union common minus subset isEmpty count juniorsOf walk reach turned atOrAbove rising someFrom listed setOf empty put ask assignedUsers assignedRoles authUsers authRoles sessionRoles roleOps userOps setNames setRoles setCount verdict settle step breaks breaksSome staticBroken dynamicBroken shedded shed sessionsOpen user role nouser norole inSet endedOf allEnded withoutUser withoutRole assign assigned deassign deassigned grant granted revoke revoked inherit lined disinherit unlined broken makeSet dropSet addMember dropMember setCardinality freeFrom opened session activeSet activate drop end permitted check decimal lead numbered takenFrom same words spelling takes placeIn which partsOf upTo render wordIn numbersIn parse meanings meant obey answerText totalText tallies rightLines noFeed noFeeds rightScript
+unfolding some every tally total members has pack those with without union common minus subset isEmpty count juniorsOf walk reach turned atOrAbove rising someFrom listed setOf empty put ask assignedUsers assignedRoles authUsers authRoles sessionRoles roleOps userOps setNames setRoles setCount verdict settle step breaks breaksSome staticBroken dynamicBroken shedded shed sessionsOpen user role endAll hasOpen nouser norole inSet endedOf allEnded withoutUser withoutRole assign assigned deassign deassigned grant granted revoke revoked inherit lined disinherit unlined broken makeSet dropSet addMember dropMember setCardinality freeFrom opened session activeSet activate drop end permitted check decimal lead numbered takenFrom same words spelling takes placeIn which partsOf upTo render wordIn numbersIn parse meanings meant obey answerText totalText tallies rightLines noFeed noFeeds rightScript
 lists-right = refl
 
 forms-right : rightScript (plain forms) "total 2 26" ≡ true
-unfolding some every tally total members has pack those with without union common minus subset isEmpty count juniorsOf walk reach turned atOrAbove rising someFrom listed setOf empty put ask assignedUsers assignedRoles authUsers authRoles sessionRoles roleOps userOps setNames setRoles setCount verdict settle step breaks breaksSome staticBroken dynamicBroken shedded shed sessionsOpen user role nouser norole inSet endedOf allEnded withoutUser withoutRole assign assigned deassign deassigned grant granted revoke revoked inherit lined disinherit unlined broken makeSet dropSet addMember dropMember setCardinality freeFrom opened session activeSet activate drop end permitted check decimal lead numbered takenFrom same words spelling takes placeIn which partsOf upTo render wordIn numbersIn parse meanings meant obey answerText totalText tallies rightLines noFeed noFeeds rightScript
+unfolding some every tally total members has pack those with without union common minus subset isEmpty count juniorsOf walk reach turned atOrAbove rising someFrom listed setOf empty put ask assignedUsers assignedRoles authUsers authRoles sessionRoles roleOps userOps setNames setRoles setCount verdict settle step breaks breaksSome staticBroken dynamicBroken shedded shed sessionsOpen user role endAll hasOpen nouser norole inSet endedOf allEnded withoutUser withoutRole assign assigned deassign deassigned grant granted revoke revoked inherit lined disinherit unlined broken makeSet dropSet addMember dropMember setCardinality freeFrom opened session activeSet activate drop end permitted check decimal lead numbered takenFrom same words spelling takes placeIn which partsOf upTo render wordIn numbersIn parse meanings meant obey answerText totalText tallies rightLines noFeed noFeeds rightScript
 forms-right = refl
 
-openSessions-right : rightScript (plain openSessions) "total 70 4" ≡ true
-unfolding some every tally total members has pack those with without union common minus subset isEmpty count juniorsOf walk reach turned atOrAbove rising someFrom listed setOf empty put ask assignedUsers assignedRoles authUsers authRoles sessionRoles roleOps userOps setNames setRoles setCount verdict settle step breaks breaksSome staticBroken dynamicBroken shedded shed sessionsOpen user role nouser norole inSet endedOf allEnded withoutUser withoutRole assign assigned deassign deassigned grant granted revoke revoked inherit lined disinherit unlined broken makeSet dropSet addMember dropMember setCardinality freeFrom opened session activeSet activate drop end permitted check decimal lead numbered takenFrom same words spelling takes placeIn which partsOf upTo render wordIn numbersIn parse meanings meant obey answerText totalText tallies rightLines noFeed noFeeds rightScript
+openSessions-right : rightScript (plain openSessions) "total 81 9" ≡ true
+unfolding some every tally total members has pack those with without union common minus subset isEmpty count juniorsOf walk reach turned atOrAbove rising someFrom listed setOf empty put ask assignedUsers assignedRoles authUsers authRoles sessionRoles roleOps userOps setNames setRoles setCount verdict settle step breaks breaksSome staticBroken dynamicBroken shedded shed sessionsOpen user role endAll hasOpen nouser norole inSet endedOf allEnded withoutUser withoutRole assign assigned deassign deassigned grant granted revoke revoked inherit lined disinherit unlined broken makeSet dropSet addMember dropMember setCardinality freeFrom opened session activeSet activate drop end permitted check decimal lead numbered takenFrom same words spelling takes placeIn which partsOf upTo render wordIn numbersIn parse meanings meant obey answerText totalText tallies rightLines noFeed noFeeds rightScript
 openSessions-right = refl
 
 longLines-right : rightScript (plain longLines) "total 0 2" ≡ true
-unfolding some every tally total members has pack those with without union common minus subset isEmpty count juniorsOf walk reach turned atOrAbove rising someFrom listed setOf empty put ask assignedUsers assignedRoles authUsers authRoles sessionRoles roleOps userOps setNames setRoles setCount verdict settle step breaks breaksSome staticBroken dynamicBroken shedded shed sessionsOpen user role nouser norole inSet endedOf allEnded withoutUser withoutRole assign assigned deassign deassigned grant granted revoke revoked inherit lined disinherit unlined broken makeSet dropSet addMember dropMember setCardinality freeFrom opened session activeSet activate drop end permitted check decimal lead numbered takenFrom same words spelling takes placeIn which partsOf upTo render wordIn numbersIn parse meanings meant obey answerText totalText tallies rightLines noFeed noFeeds rightScript
+unfolding some every tally total members has pack those with without union common minus subset isEmpty count juniorsOf walk reach turned atOrAbove rising someFrom listed setOf empty put ask assignedUsers assignedRoles authUsers authRoles sessionRoles roleOps userOps setNames setRoles setCount verdict settle step breaks breaksSome staticBroken dynamicBroken shedded shed sessionsOpen user role endAll hasOpen nouser norole inSet endedOf allEnded withoutUser withoutRole assign assigned deassign deassigned grant granted revoke revoked inherit lined disinherit unlined broken makeSet dropSet addMember dropMember setCardinality freeFrom opened session activeSet activate drop end permitted check decimal lead numbered takenFrom same words spelling takes placeIn which partsOf upTo render wordIn numbersIn parse meanings meant obey answerText totalText tallies rightLines noFeed noFeeds rightScript
 longLines-right = refl
 
 -- a last line with no LF
@@ -59,13 +59,13 @@ last-lines = (refl, refl)
 pub edges : Edges
 edges =
     record {
-      numbers = prints-rows (numbers ++ removals) "total 26 54" numbers-right;
+      numbers = prints-rows (numbers ++ removals) "total 26 57" numbers-right;
       sets = prints-rows sets "total 15 36" sets-right;
       lists = prints-rows lists "total 9 12" lists-right;
       forms = prints-rows forms "total 2 26" forms-right;
       longLines = prints-rows longLines "total 0 2" longLines-right;
       lengths = (refl, refl);
-      openSessions = prints-rows openSessions "total 70 4" openSessions-right;
+      openSessions = prints-rows openSessions "total 81 9" openSessions-right;
       onlyLine = last-lines .0;
       lastLine = last-lines .1;
     }

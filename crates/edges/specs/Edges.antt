@@ -20,6 +20,8 @@ numbers =
     "role 64" ⇒ "1" ∷
     "nouser 254" ⇒ "2" ∷
     "nouser 256" ⇒ "1" ∷
+    "end-all 254" ⇒ "2" ∷
+    "end-all 256" ⇒ "1" ∷
     "norole 61" ⇒ "2" ∷
     "norole 64" ⇒ "1" ∷
     "assign 255 63" ⇒ "0" ∷
@@ -60,6 +62,8 @@ numbers =
     "end 256 0" ⇒ "1" ∷
     "end 255 64" ⇒ "1" ∷
     "end 255 63" ⇒ "2" ∷
+    -- session 0 is open
+    "nouser 255" ⇒ "16" ∷
     -- the same in questions
     "check 0 15 255" ⇒ "0 1" ∷
     "check 0 16 255" ⇒ "1" ∷
@@ -331,17 +335,37 @@ openSessions =
     "end 7 63" ⇒ "0" ∷
     "session 7" ⇒ "0 63" ∷
     "session 7" ⇒ "12" ∷
+    -- session 63 is free again, and of a free one no user is the owner: user 0 has none open
+    "end 7 63" ⇒ "0" ∷
+    "user 0" ⇒ "0" ∷
+    "nouser 0" ⇒ "0" ∷
+    -- session 63 alone is enough for 16
+    "user 0" ⇒ "0" ∷
+    "session 0" ⇒ "0 63" ∷
+    "nouser 0" ⇒ "16" ∷
+    -- the sessions of user 0 end, and those of user 7 stay
+    "end-all 0" ⇒ "0" ∷
+    "session-roles 63" ⇒ "2" ∷
+    "session-roles 0" ⇒ "0" ∷
+    "session-roles 62" ⇒ "0" ∷
+    "nouser 0" ⇒ "0" ∷
+    -- 63 sessions end at once
+    "nouser 7" ⇒ "16" ∷
+    "end-all 7" ⇒ "0" ∷
+    "session-roles 0" ⇒ "2" ∷
+    "session-roles 62" ⇒ "2" ∷
+    "nouser 7" ⇒ "0" ∷
     []
 
 -- Each script prints what stands beside its lines, and the total.
 pub record Edges : Type 0 where
-  pub numbers : Prints (numbers ++ removals) "total 26 54"
+  pub numbers : Prints (numbers ++ removals) "total 26 57"
   pub sets : Prints sets "total 15 36"
   pub lists : Prints lists "total 9 12"
   pub forms : Prints forms "total 2 26"
   pub longLines : Prints longLines "total 0 2"
   pub lengths : (length (bytes bytes512) ≡ 512) × (length (bytes bytes513) ≡ 513)
-  pub openSessions : Prints openSessions "total 70 4"
+  pub openSessions : Prints openSessions "total 81 9"
   -- "A line ends at LF; the last may lack it, and nothing after the last LF is no line.": the only line, and the second of two, without LF
   pub onlyLine : runScript (bytes "user 7") ≡ lineOf "0" ++ lineOf "total 1 0"
   pub lastLine : runScript (lineOf "user 7" ++ bytes "role 3") ≡ lineOf "0" ++ (lineOf "0" ++ lineOf "total 2 0")

@@ -76,6 +76,7 @@ pub fn step(state: &mut [u64; PLACES], c: Command, list: &[u16]) -> Stepped
         Command::Activate(u, x, r) => plain(sessions::activate(state, u, x, r)),
         Command::DropActive(u, x, r) => plain(sessions::drop(state, u, x, r)),
         Command::EndSession(u, x) => plain(sessions::end(state, u, x)),
+        Command::EndAll(u) => plain(users::end_all(state, u)),
     }
 }
 

@@ -8,13 +8,13 @@ use lib.ListN.{length}
 use Rattle.model.specs.Model.{Model}
 use Rattle.model.specs.Sheet.{Told, Refusal, verdict, settle, done, refused}
 use Rattle.model.specs.Step.{step}
-use Rattle.model.specs.commands.Users.{user, role, nouser, norole}
+use Rattle.model.specs.commands.Users.{user, role, endAll, nouser, norole}
 use Rattle.model.specs.commands.Assigning.{assign, deassign, grant, revoke}
 use Rattle.model.specs.commands.Inheriting.{inherit, disinherit}
 use Rattle.model.specs.commands.Sets.{makeSet, dropSet, addMember, dropMember, setCardinality}
 use Rattle.model.specs.commands.Sessions.{session, activate, drop, end}
 use Rattle.model.specs.declared.Command.{Command}
-use Rattle.model.specs.declared.Command.the-variants.{AddUser, AddRole, NoUser, NoRole, Assign, Deassign, Grant, Revoke, Inherit, Disinherit, MakeSet, DropSet, AddMember, DropMember, SetCardinality, OpenSession, Activate, DropActive, EndSession}
+use Rattle.model.specs.declared.Command.the-variants.{AddUser, AddRole, NoUser, NoRole, Assign, Deassign, Grant, Revoke, Inherit, Disinherit, MakeSet, DropSet, AddMember, DropMember, SetCardinality, OpenSession, Activate, DropActive, EndSession, EndAll}
 
 -- a refusal has no results
 no-more : (rs : List Refusal) (m : Model) (results : List ℕ) (after : Model) → length results ≤ 1 → length (settle rs m results after .results) ≤ 1
@@ -26,7 +26,7 @@ no-more rs m results after h = go (eqb (verdict rs) 0)
     go false = omega arith
 
 pub few-results : (m : Model) (c : Command) (list : List ℕ) → length (step m c list .results) ≤ 1
-unfolding step user role nouser norole assign deassign grant revoke inherit disinherit makeSet dropSet addMember dropMember setCardinality session activate drop end
+unfolding step user role endAll nouser norole assign deassign grant revoke inherit disinherit makeSet dropSet addMember dropMember setCardinality session activate drop end
 few-results m (AddUser u) list = no-more _ m _ _ (omega arith)
 few-results m (AddRole r) list = no-more _ m _ _ (omega arith)
 few-results m (NoUser u) list = no-more _ m _ _ (omega arith)
@@ -46,3 +46,4 @@ few-results m (OpenSession u) list = no-more _ m _ _ (omega arith)
 few-results m (Activate u s r) list = no-more _ m _ _ (omega arith)
 few-results m (DropActive u s r) list = no-more _ m _ _ (omega arith)
 few-results m (EndSession u s) list = no-more _ m _ _ (omega arith)
+few-results m (EndAll u) list = no-more _ m _ _ (omega arith)

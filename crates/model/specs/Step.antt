@@ -3,13 +3,13 @@ use mathlib.Core.List.{List}
 use Prim.Native.Nat.{ℕ}
 use Rattle.model.specs.Model.{Model}
 use Rattle.model.specs.Sheet.{Told}
-use Rattle.model.specs.commands.Users.{user, role, nouser, norole}
+use Rattle.model.specs.commands.Users.{user, role, endAll, nouser, norole}
 use Rattle.model.specs.commands.Assigning.{assign, deassign, grant, revoke}
 use Rattle.model.specs.commands.Inheriting.{inherit, disinherit}
 use Rattle.model.specs.commands.Sets.{makeSet, dropSet, addMember, dropMember, setCardinality}
 use Rattle.model.specs.commands.Sessions.{session, activate, drop, end}
 use Rattle.model.specs.declared.Command.{Command}
-use Rattle.model.specs.declared.Command.the-variants.{AddUser, AddRole, NoUser, NoRole, Assign, Deassign, Grant, Revoke, Inherit, Disinherit, MakeSet, DropSet, AddMember, DropMember, SetCardinality, OpenSession, Activate, DropActive, EndSession}
+use Rattle.model.specs.declared.Command.the-variants.{AddUser, AddRole, NoUser, NoRole, Assign, Deassign, Grant, Revoke, Inherit, Disinherit, MakeSet, DropSet, AddMember, DropMember, SetCardinality, OpenSession, Activate, DropActive, EndSession, EndAll}
 
 -- the command on the policy and sessions; the list is the roles that `ssd`, `dsd` and `session` name
 unfoldable pub step : Model → Command → List ℕ → Told
@@ -32,3 +32,4 @@ step m (OpenSession u) list = session m (u .number) list
 step m (Activate u s r) list = activate m (u .number) (s .number) (r .number)
 step m (DropActive u s r) list = drop m (u .number) (s .number) (r .number)
 step m (EndSession u s) list = end m (u .number) (s .number)
+step m (EndAll u) list = endAll m (u .number)

@@ -46,6 +46,7 @@ pub enum Command {
     Activate(User, Session, Role),
     DropActive(User, Session, Role),
     EndSession(User, Session),
+    EndAll(User),
 }
 
 // Every question.

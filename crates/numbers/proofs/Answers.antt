@@ -24,6 +24,7 @@ use Rattle.numbers.specs.declared.Answer.the-variants.{
   TableFull,
   NotOfForm,
   BufferShort,
+  HasOpenSessions,
 }
 use Rattle.numbers.specs.declared.Named.{Named}
 use Rattle.numbers.specs.declared.Named.the-variants.{Nothing, Is}
@@ -46,6 +47,7 @@ answer-back BreaksDynamic = refl
 answer-back TableFull = refl
 answer-back NotOfForm = refl
 answer-back BufferShort = refl
+answer-back HasOpenSessions = refl
 
 -- the answer that is named; Done where none is
 named : Named → Answer
@@ -94,7 +96,7 @@ unnamed n [] u = refl
 unnamed n (a ∷ l) u = rw (ne-eqb (numberOf a) n (λ e. u .0 (sym e)), withNumber) (unnamed n l (u .1))
 
 -- there are no further numbers
-pub number-below : (a : Answer) → numberOf a < 16
+pub number-below : (a : Answer) → numberOf a < 17
 number-below Done = lit< tt
 number-below BeyondRange = lit< tt
 number-below Missing = lit< tt
@@ -110,3 +112,4 @@ number-below BreaksDynamic = lit< tt
 number-below TableFull = lit< tt
 number-below NotOfForm = lit< tt
 number-below BufferShort = lit< tt
+number-below HasOpenSessions = lit< tt

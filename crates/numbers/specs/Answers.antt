@@ -21,6 +21,7 @@ use Rattle.numbers.specs.declared.Answer.the-variants.{
   TableFull,
   NotOfForm,
   BufferShort,
+  HasOpenSessions,
 }
 use Rattle.numbers.specs.declared.Named.{Named}
 use Rattle.numbers.specs.declared.Named.the-variants.{Nothing, Is}
@@ -41,6 +42,7 @@ numberOf BreaksDynamic = 11  -- a DSD rule would be broken in some session
 numberOf TableFull = 12  -- the table that would grow is full
 numberOf NotOfForm = 14  -- the text, list or file is not of the form
 numberOf BufferShort = 15  -- the lent output buffer is shorter than the whole result
+numberOf HasOpenSessions = 16  -- the user has open sessions
 
 -- all the answers
 abbrev pub sheet : List Answer
@@ -60,6 +62,7 @@ sheet =
     TableFull ∷
     NotOfForm ∷
     BufferShort ∷
+    HasOpenSessions ∷
     []
 
 -- the one of these answers that has the number, or none

@@ -39,6 +39,7 @@ pub enum Answer {
     TableFull,
     NotOfForm,
     BufferShort,
+    HasOpenSessions,
 }
 
 // The paper's number of an answer.
@@ -61,6 +62,7 @@ pub fn number_of(a: Answer) -> u16
         Answer::TableFull => 12,
         Answer::NotOfForm => 14,
         Answer::BufferShort => 15,
+        Answer::HasOpenSessions => 16,
     }
 }
 
@@ -90,6 +92,7 @@ pub fn answer_of(n: u16) -> Named
         12 => Named::Is(Answer::TableFull),
         14 => Named::Is(Answer::NotOfForm),
         15 => Named::Is(Answer::BufferShort),
+        16 => Named::Is(Answer::HasOpenSessions),
         _ => Named::Nothing,
     }
 }

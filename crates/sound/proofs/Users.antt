@@ -1,25 +1,27 @@
--- `user`, `role` and `nouser` keep a model sound. Assumes nothing.
-use mathlib.Core.Bool.{Bool, true, false, _&&_}
+-- `user`, `role`, `end-all` and `nouser` keep a model sound. Assumes nothing.
+use mathlib.Core.Bool.{Bool, true, false}
 use mathlib.Core.Path.{_≡_, refl, _∙_}
 use Prim.Native.Nat.{ℕ, _<_}
 use native.Mathlib.Omega.{arith}
 use lib.Dec.{eqb}
 use borrow.Author.Tests.{leb-false, eqb-false}
-use Rattle.roleset.specs.Roles.{has, with, none}
-use Rattle.roleset.proofs.BoundedLaws.{clash}
+use Rattle.roleset.specs.Roles.{has, with}
+use Rattle.roleset.specs.Roles as roles
+use Rattle.roleset.proofs.BoundedLaws.{clash, some-none, some-false}
 use Rattle.roleset.proofs.Laws.{with-small, has-none}
 use Rattle.hierarchy.specs.Walks.{reach}
 use Rattle.model.specs.Model.{Model, Session, closedSession, put}
-use Rattle.model.specs.Words.{assignments, grants, linesStanding}
+use Rattle.model.specs.Words.{authorised, breaksSome, dynamicBroken, assignments, grants, linesStanding}
 use Rattle.model.specs.Sound.{Existing, SessionShape, Shape, Counted, Sound}
-use Rattle.model.specs.commands.Users.{user, role, nouser, withoutUser, allEnded, endedOf}
+use Rattle.model.specs.commands.Users.{user, role, openOf, endedOf, allEnded, endAll, hasOpen, withoutUser, nouser}
 use Rattle.sound.proofs.Sheet.{kept}
 use Rattle.model.proofs.Puts.{put-other}
 use Rattle.sound.proofs.Put.{put-all}
 use Rattle.sound.proofs.Members.{with-old, and-no}
 use Rattle.sound.proofs.Counting.{one-emptied}
 use Rattle.sound.proofs.Carried.{role-small, existing-none, existing-in, set-in, session-none, closed-idle}
-use Rattle.sound.proofs.Changing.{names-changed, fewer-sound}
+use Rattle.sound.proofs.Breaking.{some-breaks-fewer}
+use Rattle.sound.proofs.Changing.{names-changed, sessions-changed, fewer-sound}
 
 -- `user u` keeps a sound model sound.
 pub user-sound : (m : Model) (u : ℕ) → Sound m → Sound (user m u .after)
@@ -43,36 +45,52 @@ role-sound m r s =
     (with-small (m .roles) r)
     (λ k e. with-old (m .roles) r k (role-small m (s .shape) k e) e))
 
--- what holds of a session that is not live, and of one that the user does not own, holds of the session that is left
-ended-all : (P : Session → Type 0) (u : ℕ) (x : Session) → P closedSession → ((x .live && eqb (x .owner) u) ≡ false → P x) → P (endedOf u x)
+-- what holds of a closed session, and of one that is not the user's or not open, holds of the session that is left
+pub ended-all : (P : Session → Type 0) (u : ℕ) (x : Session) → P closedSession → (openOf u x ≡ false → P x) → P (endedOf u x)
 unfolding endedOf
-ended-all P u x closed other = go (x .live && eqb (x .owner) u) refl
+ended-all P u x closed other = go (openOf u x) refl
   where
-    go : (b : Bool) → (x .live && eqb (x .owner) u) ≡ b → P (endedOf u x)
+    go : (b : Bool) → openOf u x ≡ b → P (endedOf u x)
     go true e = rw (e, endedOf) closed
     go false e = rw (e, endedOf) (other e)
 
-module _ (m : Model) (u : ℕ) (s : Sound m) where
-  -- a live session that is left has another owner
-  other-owner : (k : ℕ) → (m .sessions k .live && eqb (m .sessions k .owner) u) ≡ false → m .sessions k .live ≡ true → m .sessions k .owner ≡ u → ⊥
-  other-owner k e l = eqb-false (m .sessions k .owner) u (and-no (m .sessions k .live) (eqb (m .sessions k .owner) u) e l)
+-- `end-all u` keeps a sound model sound.
+pub endAll-sound : (m : Model) (u : ℕ) → Sound m → Sound (endAll m u .after)
+unfolding endAll allEnded dynamicBroken
+endAll-sound m u s =
+    kept Sound _ m _ _ refl s
+    (λ c. sessions-changed m s (λ k. endedOf u (m .sessions k))
+    (λ k. ended-all (SessionShape m k) u (m .sessions k) (session-none m k) (λ e. s .shape .sessions k))
+    (λ k r. ended-all (λ x. has (x .active) r ≡ true → has (authorised m (x .owner)) r ≡ true) u (m .sessions k) (λ e. clash (has 0 r) e (has-none r)) (λ e. s .rules .active k r))
+    (λ k. ended-all (λ x. breaksSome (m .dsd) (x .active) ≡ false) u (m .sessions k) (some-breaks-fewer (m .dsd) 0 (m .sessions k .active) (λ r l e. clash (has 0 r) e (has-none r)) (s .rules .dynamic k)) (λ e. s .rules .dynamic k)))
 
-  -- Without a user, its assignments and its sessions, a model keeps its shape,
-  without-user-shape : Shape (withoutUser m u)
-  unfolding withoutUser allEnded
-  without-user-shape =
+-- after it the user has no open session
+pub none-open : (m : Model) (u : ℕ) → hasOpen (allEnded m u) u ≡ false
+unfolding hasOpen allEnded
+none-open m u = some-none 64 (λ k. openOf u (endedOf u (m .sessions k))) (λ k l. ended-all (λ x. openOf u x ≡ false) u (m .sessions k) refl (λ e. e))
+
+module _ (m : Model) (u : ℕ) (s : Sound m) where
+  -- where the user has no open session, every open one has another owner
+  other-owner : hasOpen m u ≡ false → (k : ℕ) → m .sessions k .live ≡ true → m .sessions k .owner ≡ u → ⊥
+  unfolding hasOpen
+  other-owner none k l = eqb-false (m .sessions k .owner) u (and-no (m .sessions k .live) (eqb (m .sessions k .owner) u) (some-false 64 (λ j. openOf u (m .sessions j)) none k (s .shape .sessions k .numbered l)) l)
+
+  -- Without a user that has no open session, and without its assignments, a model keeps its shape,
+  without-user-shape : hasOpen m u ≡ false → Shape (withoutUser m u)
+  unfolding withoutUser
+  without-user-shape none =
       record {
         users = put-all (λ k b. b ≡ true → k < 256) (m .users) u false (λ e. clash false e refl) (λ k d. x .users k);
         roles = x .roles;
         seniors = x .seniors;
         juniors = λ k. existing-in m m′ (λ r e. e) (x .juniors k);
-        assignees = put-all (λ k set. (r : ℕ) → has set r ≡ true → put (m .users) u false k ≡ true) (m .assigned) u none (λ r e. clash (has 0 r) e (has-none r)) (λ k d r e. put-other (m .users) u false k d ∙ x .assignees k r e);
-        assigned = put-all (λ k set. Existing m′ set) (m .assigned) u none (existing-none m′) (λ k d. existing-in m m′ (λ r e. e) (x .assigned k));
+        assignees = put-all (λ k set. (r : ℕ) → has set r ≡ true → put (m .users) u false k ≡ true) (m .assigned) u roles.none (λ r e. clash (has 0 r) e (has-none r)) (λ k d r e. put-other (m .users) u false k d ∙ x .assignees k r e);
+        assigned = put-all (λ k set. Existing m′ set) (m .assigned) u roles.none (existing-none m′) (λ k d. existing-in m m′ (λ r e. e) (x .assigned k));
         permissions = x .permissions;
         holders = λ p. existing-in m m′ (λ r e. e) (x .holders p);
         ssd = λ n. set-in m m′ (λ r e. e) (x .ssd n);
         dsd = λ n. set-in m m′ (λ r e. e) (x .dsd n);
-        sessions = λ k. ended-all (λ y. SessionShape m′ k y) u (m .sessions k) (session-none m′ k) (λ e. left k e (x .sessions k));
+        sessions = λ k. left k (x .sessions k);
       }
     where
       m′ : Model
@@ -81,30 +99,30 @@ module _ (m : Model) (u : ℕ) (s : Sound m) where
       x : Shape m
       x = s .shape
 
-      left : (k : ℕ) → (m .sessions k .live && eqb (m .sessions k .owner) u) ≡ false → SessionShape m k (m .sessions k) → SessionShape m′ k (m .sessions k)
-      left k e y = record { closed = y .closed; numbered = y .numbered; owned = λ l. put-other (m .users) u false (m .sessions k .owner) (other-owner k e l) ∙ y .owned l; active = existing-in m m′ (λ r h. h) (y .active) }
+      left : (k : ℕ) → SessionShape m k (m .sessions k) → SessionShape m′ k (m .sessions k)
+      left k y = record { closed = y .closed; numbered = y .numbered; owned = λ l. put-other (m .users) u false (m .sessions k .owner) (other-owner none k l) ∙ y .owned l; active = existing-in m m′ (λ r h. h) (y .active) }
 
   -- what is kept of its assignments is less by what the user had,
   without-user-counted : u < 256 → Counted (withoutUser m u)
-  unfolding withoutUser allEnded assignments grants linesStanding
+  unfolding withoutUser assignments grants linesStanding
   without-user-counted l = record { assigned = omega (arith, s .counted .assigned, one-emptied 256 (m .assigned) u l); granted = s .counted .granted; lined = s .counted .lined }
 
   -- and it stays sound.
-  without-user-sound : u < 256 → Sound (withoutUser m u)
-  unfolding withoutUser allEnded
-  without-user-sound l =
-      fewer-sound m s (withoutUser m u) without-user-shape (without-user-counted l)
+  without-user-sound : u < 256 → hasOpen m u ≡ false → Sound (withoutUser m u)
+  unfolding withoutUser
+  without-user-sound l none =
+      fewer-sound m s (withoutUser m u) (without-user-shape none) (without-user-counted l)
       (λ a j e. e)
-      (put-all (λ k set. (r : ℕ) → has set r ≡ true → has (m .assigned k) r ≡ true) (m .assigned) u none (λ r e. clash (has 0 r) e (has-none r)) (λ k d r e. e))
+      (put-all (λ k set. (r : ℕ) → has set r ≡ true → has (m .assigned k) r ≡ true) (m .assigned) u roles.none (λ r e. clash (has 0 r) e (has-none r)) (λ k d r e. e))
       (λ p r e. e)
-      (λ k r. ended-all (λ y. has (y .active) r ≡ true → has (m .sessions k .active) r ≡ true) u (m .sessions k) (λ e. clash (has 0 r) e (has-none r)) (λ e h. h))
-      (λ k r. ended-all (λ y. has (y .active) r ≡ true → has (reach (m .juniors) (put (m .assigned) u none (y .owner))) r ≡ true) u (m .sessions k) (λ e. clash (has 0 r) e (has-none r)) (λ e h. still k r e h (m .sessions k .live) refl))
+      (λ k r e. e)
+      (λ k r h. still k r h (m .sessions k .live) refl)
     where
-      still : (k r : ℕ) → (m .sessions k .live && eqb (m .sessions k .owner) u) ≡ false → has (m .sessions k .active) r ≡ true → (b : Bool) → m .sessions k .live ≡ b → has (reach (m .juniors) (put (m .assigned) u none (m .sessions k .owner))) r ≡ true
-      still k r e h true l = rw (put-other (m .assigned) u none (m .sessions k .owner) (other-owner k e l)) (s .rules .active k r h)
-      still k r e h false l = clash (has (m .sessions k .active) r) h (closed-idle m (s .shape) k l r)
+      still : (k r : ℕ) → has (m .sessions k .active) r ≡ true → (b : Bool) → m .sessions k .live ≡ b → has (reach (m .juniors) (put (m .assigned) u roles.none (m .sessions k .owner))) r ≡ true
+      still k r h true e = rw (put-other (m .assigned) u roles.none (m .sessions k .owner) (other-owner none k e)) (s .rules .active k r h)
+      still k r h false e = clash (has (m .sessions k .active) r) h (closed-idle m (s .shape) k e r)
 
 -- `nouser u` keeps a sound model sound.
 pub nouser-sound : (m : Model) (u : ℕ) → Sound m → Sound (nouser m u .after)
 unfolding nouser
-nouser-sound m u s = kept Sound _ m _ _ refl s (λ c. without-user-sound m u s (leb-false 256 u (c .0)))
+nouser-sound m u s = kept Sound _ m _ _ refl s (λ c. without-user-sound m u s (leb-false 256 u (c .0)) (c .1 .1 .0))

@@ -34,7 +34,7 @@ fn senior(depth: u16, b: u16) -> Role {
     }
 }
 
-// `user` and `nouser`, `role` and `norole`: done, refused with 4 and 8.
+// `user`, `nouser` and `end-all`, `role` and `norole`: done, refused with 4, 8 and 16. Of the users with a session open, 0 to 15, and those with none.
 fn of_users(state: &mut [u64; PLACES], m: u64, b: u16) -> Answer {
     match m {
         0 => users::user(state, User { number: 255 }),
@@ -44,6 +44,13 @@ fn of_users(state: &mut [u64; PLACES], m: u64, b: u16) -> Answer {
         4 => roles::role(state, Role { number: 63 }),
         5 => roles::role(state, Role { number: b }),
         6 => roles::norole(state, of_bench(b, 0)),
+        7 => users::nouser(state, User { number: b }),
+        8 => users::end_all(
+            state,
+            User {
+                number: b % 16 + 16,
+            },
+        ),
         _ => Answer::Done,
     }
 }
@@ -119,7 +126,7 @@ fn opened(state: &mut [u64; PLACES], u: User, list: &[u16]) -> Answer {
     o.answer
 }
 
-// `session` and `end`, `activate` and `drop`: done, refused with 9, 3, 4, 5 and 11. Sixteen sessions are open, so that the next is session 16. The two roles of move 68 are those that a dynamic set holds apart.
+// `session` and `end`, `activate` and `drop`: done, refused with 9, 3, 4, 5 and 11. Sixteen sessions are open, so that the next is session 16. The two roles of move 68 are those that a dynamic set holds apart; move 69 opens a session for a user with none.
 fn of_sessions(state: &mut [u64; PLACES], m: u64, depth: u16, b: u16) -> Answer {
     let lead = top(depth, b);
     let list = [lead];
@@ -135,6 +142,13 @@ fn of_sessions(state: &mut [u64; PLACES], m: u64, depth: u16, b: u16) -> Answer 
         66 => sessions::activate(state, User { number: b }, own, Role { number: lead }),
         67 => sessions::drop(state, User { number: b }, own, of_bench(b, 2)),
         68 => opened(state, User { number: b }, &pair),
+        69 => opened(
+            state,
+            User {
+                number: b % 16 + 16,
+            },
+            &list,
+        ),
         _ => Answer::Done,
     }
 }

@@ -1,5 +1,5 @@
 -- What one turn of a sweep does to one session: shedding, and ending. Assumes nothing.
-use mathlib.Core.Bool.{Bool, true, false, _&&_, and-false}
+use mathlib.Core.Bool.{Bool, true, false, _&&_}
 use mathlib.Core.Logic.{_⊎_, inl, inr}
 use mathlib.Core.Path.{_≡_, refl, sym, ap, _∙_, fun-ext}
 use Prim.Native.Nat.{ℕ, _+_, _≤_, _<_}
@@ -12,7 +12,7 @@ use Rattle.hierarchy.specs.Walks.{reach}
 use Rattle.model.specs.Model.{Model, Session, closedSession, put, withSessions}
 use Rattle.model.specs.Words.{shedded}
 use Rattle.model.specs.commands.Sessions.{sessionSet}
-use Rattle.model.specs.commands.Users.{endedOf, allEnded}
+use Rattle.model.specs.commands.Users.{openOf, endedOf, allEnded}
 use Rattle.model.proofs.Puts.{put-same, put-other}
 
 module _ (juniors assigned : ℕ → ℕ) (s : Session) where
@@ -26,18 +26,14 @@ module _ (juniors assigned : ℕ → ℕ) (s : Session) where
   unfolding shedded
   keeps-dead h = rw (shedded, h)
 
--- a live session of the user ends; one that is not live, or another's, is as it was
-pub end-own : (u : ℕ) (s : Session) → s .live ≡ true → eqb (s .owner) u ≡ true → closedSession ≡ endedOf u s
+-- an open session of the user ends; any other is as it was
+pub end-own : (u : ℕ) (s : Session) → openOf u s ≡ true → closedSession ≡ endedOf u s
 unfolding endedOf
-end-own u s h e = rw (h, e, endedOf)
+end-own u s e = sym (ap (λ (b : Bool). elim b as (λ _. Session) [ true ↦ closedSession | false ↦ s ]) e)
 
-pub end-dead : (u : ℕ) (s : Session) → s .live ≡ false → s ≡ endedOf u s
+pub end-other : (u : ℕ) (s : Session) → openOf u s ≡ false → s ≡ endedOf u s
 unfolding endedOf
-end-dead u s h = sym (ap (λ (b : Bool). elim (b && eqb (s .owner) u) [ true ↦ closedSession | false ↦ s ]) h)
-
-pub end-other : (u : ℕ) (s : Session) → eqb (s .owner) u ≡ false → s ≡ endedOf u s
-unfolding endedOf
-end-other u s e = sym (ap (λ (b : Bool). elim b [ true ↦ closedSession | false ↦ s ]) (ap (λ (b : Bool). s .live && b) e ∙ and-false (s .live)))
+end-other u s e = sym (ap (λ (b : Bool). elim b as (λ _. Session) [ true ↦ closedSession | false ↦ s ]) e)
 
 -- the sessions of the user below n have ended, and all else is as it was
 module _ (m : Model) (u : ℕ) where
@@ -75,4 +71,4 @@ module _ (m : Model) (u : ℕ) where
     where
       go : (k : ℕ) → Dec (k < n) → after .sessions k ≡ endedOf u (m .sessions k)
       go k (yes p) = d .done k p
-      go k (no p) = let z : n ≤ k = omega arith in d .left k z ∙ end-dead u (m .sessions k) (ap (λ (s : Session). s .live) (past k z))
+      go k (no p) = let z : n ≤ k = omega arith in d .left k z ∙ end-other u (m .sessions k) (ap (openOf u) (past k z))

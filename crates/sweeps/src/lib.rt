@@ -5,7 +5,7 @@ ghost use Rattle.model.specs.Model.{Session};
 ghost use Rattle.model.specs.Words.{shedded};
 ghost use Rattle.model.specs.commands.Sessions.{lowestFree};
 ghost use Rattle.model.specs.commands.Sets.{broken};
-ghost use Rattle.model.specs.commands.Users.{allEnded};
+ghost use Rattle.model.specs.commands.Users.{openOf, allEnded, hasOpen};
 ghost use Rattle.model.specs.declared.Kind.the-variants.{Static, Dynamic};
 ghost use Rattle.state.specs.View.{part, view};
 ghost use Rattle.sweeps.specs.Sweeps.{asksStatic, ShedsAll, Strips};
@@ -123,6 +123,13 @@ pub fn shed<'a>(
     active
 }
 
+// Is the session open, and the user's? A closed one has the owner 0, so the owner alone does not tell.
+fn open_of(session: SessionRecord, u: User) -> bool
+    ensures { λ b. ⌜ b ≡ openOf (u .number) session ⌝ }
+{
+    session.live && session.owner == u.number as u64
+}
+
 // The sessions of the user end; another's stay.
 pub fn end_all(state: &mut [u64; PLACES], u: User)
     ensures { λ _. ⌜ view (now (state .exit)) ≡ allEnded (view (now (state .entry))) (u .number) ⌝ }
@@ -131,11 +138,26 @@ pub fn end_all(state: &mut [u64; PLACES], u: User)
     while k < 64 {
         let x = Session { number: k };
         let session = session_at(state, x);
-        if session.live && session.owner == u.number as u64 {
+        if open_of(session, u) {
             close_session(state, x);
         }
         k += 1;
     }
+}
+
+// Has the user an open session? The first one ends the sweep.
+pub fn has_open(state: &[u64; PLACES], u: User) -> bool
+    ensures { λ b. ⌜ b ≡ hasOpen (view (now (state .entry))) (u .number) ⌝ }
+{
+    let mut k: u16 = 0;
+    while k < 64 {
+        let session = session_at(state, Session { number: k });
+        if open_of(session, u) {
+            return true;
+        }
+        k += 1;
+    }
+    false
 }
 
 // The session with the lowest number that no live one has; session 64, which is beyond its range, where there is none.

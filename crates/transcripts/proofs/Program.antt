@@ -9,7 +9,8 @@ use Rattle.program.proofs.Whole.{whole}
 use Rattle.transcripts.specs.Program.{Program}
 use Rattle.transcripts.specs.Rows.{lineOf}
 use Rattle.transcripts.specs.Story.{Story}
-use Rattle.transcripts.proofs.Examples.{paper-printed, story-printed}
+use Rattle.transcripts.specs.Leaver.{Leaver}
+use Rattle.transcripts.proofs.Examples.{paper-printed, story-printed, leaver-printed}
 
 nothing : runScript [] ≡ lineOf "total 0 0"
 unfolding runScript runLines totalText numbered decimal lead partsOf
@@ -22,6 +23,9 @@ refusal = refl
 
 pub story-holds : Story
 story-holds = record { told = story-printed }
+
+pub leaver-holds : Leaver
+leaver-holds = record { told = leaver-printed }
 
 pub program : Program
 program =

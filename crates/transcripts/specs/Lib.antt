@@ -4,3 +4,4 @@ pub mod Rows
 pub mod Program
 pub mod Desk
 pub mod Story
+pub mod Leaver

@@ -22,7 +22,7 @@ use Rattle.demands.proofs.Conditions.{conditions}
 use Rattle.demands.proofs.Demand3.{demand3}
 use Rattle.unique.specs.Handed.{Handed, Owned, empty}
 -- ---- written by tests/unique.py: their names
-use Rattle.unique.specs.Handed.{user, nouser, role, norole, assign, deassign, grant, revoke, inherit, disinherit, make-set, drop-set, add-member, drop-member, set-cardinality, session, activate, drop, end, step, load, answer-line, turn, begin, next, marruskil-start, marruskil-obey, marruskil-load}
+use Rattle.unique.specs.Handed.{user, end-all, nouser, role, norole, assign, deassign, grant, revoke, inherit, disinherit, make-set, drop-set, add-member, drop-member, set-cardinality, session, activate, drop, end, step, load, answer-line, turn, begin, next, marruskil-start, marruskil-obey, marruskil-load}
 
 -- ---- end of what tests/unique.py writes
 
@@ -48,6 +48,7 @@ unfolding steps.step told toldOpened
 reachable (empty c) = subst Reachable (sym (c .met)) start
 -- ---- written by tests/unique.py: the commands
 reachable (user c h) = stepped _ (reachable h) (commands.AddUser (c .given .1 .0)) [] (c .result) _ (c .met)
+reachable (end-all c h) = stepped _ (reachable h) (commands.EndAll (c .given .1 .0)) [] (c .result) _ (c .met)
 reachable (nouser c h) = stepped _ (reachable h) (commands.NoUser (c .given .1 .0)) [] (c .result) _ (c .met)
 reachable (role c h) = stepped _ (reachable h) (commands.AddRole (c .given .1 .0)) [] (c .result) _ (c .met)
 reachable (norole c h) = stepped _ (reachable h) (commands.NoRole (c .given .1 .0)) [] (c .result) _ (c .met)

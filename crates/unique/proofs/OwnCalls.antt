@@ -80,6 +80,7 @@ of-commands =
     record {
       -- ---- written by tests/unique.py: the commands
       user = λ c h. does h (commands.AddUser (c .given .1 .0)) [] (c .met);
+      end-all = λ c h. does h (commands.EndAll (c .given .1 .0)) [] (c .met);
       nouser = λ c h. does h (commands.NoUser (c .given .1 .0)) [] (c .met);
       role = λ c h. does h (commands.AddRole (c .given .1 .0)) [] (c .met);
       norole = λ c h. does h (commands.NoRole (c .given .1 .0)) [] (c .met);

@@ -106,6 +106,7 @@ sweeps =
       ask-set = λ κs a x y e f vx vy p q. p ∙ sym q;
       shed = λ κs a x y e f vx vy p q. laws.sheds-all-one p q;
       end-all = λ κs a x y e f sx sy p q. (refl, laws.states sx sy p q);
+      has-open = λ κs a x y e f vx vy p q. p ∙ sym q;
       lowest-free = λ κs a x y e f vx vy p q. p ∙ sym q;
       strip = λ κs a x y e f vx vy p q. laws.strips-one p q;
     }
@@ -120,6 +121,7 @@ pub users : promises.Users
 users =
     record {
       user = λ κs a x y e f sx sy p q. laws.outcomes sx sy p q;
+      end-all = λ κs a x y e f sx sy p q. laws.outcomes sx sy p q;
       nouser = λ κs a x y e f sx sy p q. laws.outcomes sx sy p q;
     }
 

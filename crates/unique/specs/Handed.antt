@@ -8,7 +8,7 @@
 -- `state.stores` (put_all, put_user, put_roles, put_juniors, put_assigned, put_holders, put_lines, put_assignments, put_set, put_members,
 -- clear_set, open_session, put_active, close_session, put_all_active): each stores one part of the state as it is given, for the commands, which
 -- ask their refusals first.
--- `sweeps` (end_all, strip): passes of `nouser` and `norole` over the sessions, and over a table that is lent as a slice.
+-- `sweeps` (end_all, strip): passes of `end-all` and `norole` over the sessions, and over a table that is lent as a slice.
 -- `policyread` (gather): the numbers of any file, stored without a test, for `load`, which tests them before it stores them as the state.
 -- ---- end of what tests/unique.py writes
 use mathlib.Core.List.{List}
@@ -51,6 +51,7 @@ pub data Handed : List ℕ → Type 0 where
   empty : (c : Call state.stores.start.Kinds.ps state.stores.start.Kinds.r state.stores.start.Reads.Post) → Handed (c .exits .0 .now)
   -- ---- written by tests/unique.py: the functions that change the state and answer
   user : (c : Call users.user.Kinds.ps users.user.Kinds.r users.user.Reads.Post) → Handed (c .given .0 .now) → Handed (c .exits .0 .now)
+  end-all : (c : Call users.end_all.Kinds.ps users.end_all.Kinds.r users.end_all.Reads.Post) → Handed (c .given .0 .now) → Handed (c .exits .0 .now)
   nouser : (c : Call users.nouser.Kinds.ps users.nouser.Kinds.r users.nouser.Reads.Post) → Handed (c .given .0 .now) → Handed (c .exits .0 .now)
   role : (c : Call roles.role.Kinds.ps roles.role.Kinds.r roles.role.Reads.Post) → Handed (c .given .0 .now) → Handed (c .exits .0 .now)
   norole : (c : Call roles.norole.Kinds.ps roles.norole.Kinds.r roles.norole.Reads.Post) → Handed (c .given .0 .now) → Handed (c .exits .0 .now)

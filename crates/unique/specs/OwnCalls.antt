@@ -79,6 +79,7 @@ toldStepped x l = record { answer = numberOf (x .answer); results = given (x .re
 pub record Commands : Type 0 where
   -- ---- written by tests/unique.py: the commands
   pub user : (c : Call users.user.Kinds.ps users.user.Kinds.r users.user.Reads.Post) → Obeyed (c .given .0 .now) (commands.AddUser (c .given .1 .0)) [] (told (c .result) (c .exits .0 .now))
+  pub end-all : (c : Call users.end_all.Kinds.ps users.end_all.Kinds.r users.end_all.Reads.Post) → Obeyed (c .given .0 .now) (commands.EndAll (c .given .1 .0)) [] (told (c .result) (c .exits .0 .now))
   pub nouser : (c : Call users.nouser.Kinds.ps users.nouser.Kinds.r users.nouser.Reads.Post) → Obeyed (c .given .0 .now) (commands.NoUser (c .given .1 .0)) [] (told (c .result) (c .exits .0 .now))
   pub role : (c : Call roles.role.Kinds.ps roles.role.Kinds.r roles.role.Reads.Post) → Obeyed (c .given .0 .now) (commands.AddRole (c .given .1 .0)) [] (told (c .result) (c .exits .0 .now))
   pub norole : (c : Call roles.norole.Kinds.ps roles.norole.Kinds.r roles.norole.Reads.Post) → Obeyed (c .given .0 .now) (commands.NoRole (c .given .1 .0)) [] (told (c .result) (c .exits .0 .now))

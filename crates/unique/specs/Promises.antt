@@ -119,6 +119,7 @@ pub record Sweeps : Type 0 where
   pub ask-set : Unique sweeps.ask_set.Kinds.ps sweeps.ask_set.Kinds.r sweeps.ask_set.Reads.Post
   pub shed : Unique sweeps.shed.Kinds.ps sweeps.shed.Kinds.r sweeps.shed.Reads.Post
   pub end-all : UniqueState sweeps.end_all.Kinds.ps sweeps.end_all.Kinds.r sweeps.end_all.Reads.Post (λ κs e. e .0 .now)
+  pub has-open : Unique sweeps.has_open.Kinds.ps sweeps.has_open.Kinds.r sweeps.has_open.Reads.Post
   pub lowest-free : Unique sweeps.lowest_free.Kinds.ps sweeps.lowest_free.Kinds.r sweeps.lowest_free.Reads.Post
   pub strip : UniqueLent sweeps.strip.Kinds.ps sweeps.strip.Kinds.r sweeps.strip.Reads.Post (λ κs e. e .0 .now)
 
@@ -127,6 +128,7 @@ pub record Lists : Type 0 where
 
 pub record Users : Type 0 where
   pub user : UniqueState users.user.Kinds.ps users.user.Kinds.r users.user.Reads.Post (λ κs e. e .0 .now)
+  pub end-all : UniqueState users.end_all.Kinds.ps users.end_all.Kinds.r users.end_all.Reads.Post (λ κs e. e .0 .now)
   pub nouser : UniqueState users.nouser.Kinds.ps users.nouser.Kinds.r users.nouser.Reads.Post (λ κs e. e .0 .now)
 
 pub record Roles : Type 0 where

@@ -1,6 +1,6 @@
-// The commands `user` and `nouser`.
+// The commands `user`, `end-all` and `nouser`.
 ghost use mathlib.Core.Path.{_≡_};
-ghost use Rattle.model.specs.commands.Users.{user, nouser};
+ghost use Rattle.model.specs.commands.Users.{user, endAll, nouser};
 ghost use Rattle.state.specs.View.{view, told};
 use numbers::Answer;
 use numbers::User;
@@ -26,7 +26,21 @@ pub fn user(state: &mut [u64; PLACES], u: User) -> Answer
     Answer::Done
 }
 
-// The user's sessions end, its assignments go, and it exists no longer; 1, 2.
+// The user's sessions end, and nothing else is changed; 1, 2.
+pub fn end_all(state: &mut [u64; PLACES], u: User) -> Answer
+    ensures { λ a. ⌜ told a (now (state .exit)) ≡ endAll (view (now (state .entry))) (u .number) ⌝ }
+{
+    if numbers::user_beyond(u) {
+        return Answer::BeyondRange;
+    }
+    if !has_user(state, u) {
+        return Answer::Missing;
+    }
+    sweeps::end_all(state, u);
+    Answer::Done
+}
+
+// The user's assignments go, and it exists no longer; 1, 2, 16: only where it has no open session. No session is touched.
 pub fn nouser(state: &mut [u64; PLACES], u: User) -> Answer
     ensures { λ a. ⌜ told a (now (state .exit)) ≡ nouser (view (now (state .entry))) (u .number) ⌝ }
 {
@@ -36,9 +50,11 @@ pub fn nouser(state: &mut [u64; PLACES], u: User) -> Answer
     if !has_user(state, u) {
         return Answer::Missing;
     }
+    if sweeps::has_open(state, u) {
+        return Answer::HasOpenSessions;
+    }
     let gone = roleset::size(assigned_to(state, u));
     let left = less(assignment_count(state), gone);
-    sweeps::end_all(state, u);
     put_assigned(state, u, 0, left);
     put_user(state, u, false);
     Answer::Done

@@ -64,11 +64,12 @@ words =
     word "dsd-sets" 0 ∷
     word "dsd-roles" 1 ∷
     word "dsd-count" 1 ∷
+    word "end-all" 1 ∷
     []
 
 -- how many there are
 abbrev pub wordCount : ℕ
-wordCount = 41
+wordCount = 42
 
 pub words-count : length words ≡ wordCount
 unfolding words

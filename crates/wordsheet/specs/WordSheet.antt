@@ -41,7 +41,7 @@ people =
     "assigned-roles 5" ⇒ "2" ∷
     []
 
--- `session`, `activate`, `drop`, `end`; `session-roles`
+-- `session`, `activate`, `drop`, `end`, `end-all`; `session-roles`; and `nouser` with sessions open
 abbrev pub sessions : List Row
 sessions =
     "user 3" ⇒ "0" ∷
@@ -66,6 +66,24 @@ sessions =
     "assigned-roles 5" ⇒ "0 2 4" ∷
     "session-roles 1" ⇒ "2" ∷
     "session-roles 0" ⇒ "0" ∷
+    -- user 5 opens session 1 again, and user 3 a second one
+    "session 5 4" ⇒ "0 1" ∷
+    "session 3" ⇒ "0 2" ∷
+    -- a user with open sessions is not deleted
+    "nouser 3" ⇒ "16" ∷
+    "session-roles 2" ⇒ "0" ∷
+    -- all sessions of user 3 end, and no other; the user stays
+    "end-all 3" ⇒ "0" ∷
+    "session-roles 0" ⇒ "2" ∷
+    "session-roles 2" ⇒ "2" ∷
+    "session-roles 1" ⇒ "0 4" ∷
+    "assigned-roles 3" ⇒ "0" ∷
+    -- with none open that is done too
+    "end-all 3" ⇒ "0" ∷
+    -- and then the user goes
+    "nouser 3" ⇒ "0" ∷
+    "end-all 3" ⇒ "2" ∷
+    "session-roles 1" ⇒ "0 4" ∷
     []
 
 -- `grant`; `role-ops`, `user-ops`, `check`
@@ -198,6 +216,7 @@ oneTooFew =
     "ssd-count" ⇒ "14" ∷
     "dsd-roles" ⇒ "14" ∷
     "dsd-count" ⇒ "14" ∷
+    "end-all" ⇒ "14" ∷
     []
 
 -- and each with one too many, but for `session`, `ssd` and `dsd`, which a list follows
@@ -241,13 +260,14 @@ oneTooMany =
     "dsd-sets 1" ⇒ "14" ∷
     "dsd-roles 1 2" ⇒ "14" ∷
     "dsd-count 1 2" ⇒ "14" ∷
+    "end-all 1 2" ⇒ "14" ∷
     []
 
 -- Each script prints what stands beside its lines, and the total.
 pub record WordSheet : Type 0 where
   pub people : Prints people "total 24 1"
-  pub sessions : Prints sessions "total 18 1"
+  pub sessions : Prints sessions "total 27 5"
   pub permissions : Prints (granting ++ (permissions ++ revoking)) "total 23 0"
   pub sets : Prints sets "total 32 3"
-  pub oneTooFew : Prints oneTooFew "total 0 39"
-  pub oneTooMany : Prints oneTooMany "total 0 38"
+  pub oneTooFew : Prints oneTooFew "total 0 40"
+  pub oneTooMany : Prints oneTooMany "total 0 39"

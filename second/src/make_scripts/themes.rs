@@ -1,11 +1,11 @@
 //! Themes. Each begins a script; random steps fill it up.
 
 use super::{named, Draft, LONGEST_SCRIPT};
-use crate::words::WORDS;
+use crate::words::{Takes, WORDS};
 
 /// Scripts take these in turn.
 pub const THEMES: &[fn(&mut Draft)] =
-    &[mixed, deep, full_assignments, crowded, full_grants, malformed, full_lines, mixed, full_sessions, wide];
+    &[mixed, deep, full_assignments, crowded, full_grants, malformed, full_lines, mixed, full_sessions, leavers, wide];
 
 fn mixed(draft: &mut Draft) {
     draft.users = draft.random().number(2, 12);
@@ -37,6 +37,17 @@ fn fill<const N: usize>(
     draft.say(remove, &within[1]);
     draft.say(add, &beyond[1]);
     draft.say(add, &beyond[2]);
+}
+
+/// Deletes a user in two moves, and asks after each what stands of the assignments and of all sessions. While a session of the
+/// user's is open, the first line is refused (16) and changes nothing.
+fn leave(draft: &mut Draft, user: u16) {
+    let open = Takes::Session.existing(&draft.state).unwrap_or_default();
+    for word in ["nouser", "end-all", "nouser"] {
+        draft.say(word, &[user]);
+        draft.say("assigned-roles", &[user]);
+        open.iter().for_each(|&session| draft.say("session-roles", &[session]));
+    }
 }
 
 /// Few users and roles, so that rules are always close.
@@ -96,7 +107,12 @@ fn full_assignments(draft: &mut Draft) {
         draft.say("assign", &[200, others[0]]);
         (0..6).for_each(|user| draft.say("assign", &[user, spare]));
     });
-    draft.say("nouser", &[pairs[0][0]]);
+    // A deletion that is refused leaves no room for another assignment.
+    let leaver = pairs[0][0];
+    draft.say("session", &[leaver]);
+    draft.say("nouser", &[leaver]);
+    draft.say("assign", &[33, others[1]]);
+    leave(draft, leaver);
     draft.say("assign", &[33, others[1]]);
     draft.say("assigned-users", &[others[1]]);
 }
@@ -181,8 +197,32 @@ fn full_sessions(draft: &mut Draft) {
     draft.say("norole", &[1]);
     draft.say("deassign", &[1, 3]);
     draft.say("disinherit", &[3, 4]);
-    draft.say("nouser", &[2]);
+    leave(draft, 2);
     draft.open_all_sessions();
+}
+
+/// All 64 sessions, the last that of a user with no other. Then all users leave, one after another; and one who came back, when
+/// `end` has ended the only session.
+fn leavers(draft: &mut Draft) {
+    begin(draft, 4, 5);
+    for user in 0..4 {
+        draft.say("assign", &[user, user]);
+        draft.say("assign", &[user, 4]);
+    }
+    for _ in 0..63 {
+        let owner = draft.random().number(0, 2);
+        draft.say("session", &[owner, 4]);
+    }
+    draft.say("session", &[3, 3, 4]);
+    for user in [3, 0, 1, 2] {
+        leave(draft, user);
+    }
+    draft.say("user", &[0]);
+    draft.say("session", &[0]);
+    draft.say("nouser", &[0]);
+    draft.say("end", &[0, 0]);
+    draft.say("nouser", &[0]);
+    draft.add_users(0..4);
 }
 
 /// Every kind of line that is not of the form, many times.

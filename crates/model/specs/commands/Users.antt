@@ -1,4 +1,4 @@
--- `user`, `role`, `nouser`, `norole`. Assumes nothing.
+-- `user`, `role`, `end-all`, `nouser`, `norole`. Assumes nothing.
 use mathlib.Core.Bool.{Bool, true, false, not, _&&_, _||_}
 use mathlib.Core.List.{List, [], _∷_}
 use Prim.Native.Nat.{ℕ, _+_, _-_}
@@ -18,19 +18,32 @@ user m u = settle (1 when userBeyond u ∷ 4 when m .users u ∷ []) m [] (withU
 unfoldable pub role : Model → ℕ → Told
 role m r = settle (1 when roleBeyond r ∷ 4 when has (m .roles) r ∷ []) m [] (withRoles m (with (m .roles) r))
 
+-- the session is open, and the user's. (The owner of a closed one is 0, as user 0's is.)
+abbrev pub openOf : ℕ → Session → Bool
+openOf u s = s .live && eqb (s .owner) u
+
 -- the session of the user u ends; another's stays
 unfoldable pub endedOf : ℕ → Session → Session
-endedOf u s = elim (s .live && eqb (s .owner) u) [ true ↦ model.closedSession | false ↦ s ]
+endedOf u s = elim (openOf u s) [ true ↦ model.closedSession | false ↦ s ]
 
--- "`nouser u`: ends the user's sessions, removes assignments; 1, 2."
 unfoldable pub allEnded : Model → ℕ → Model
 allEnded m u = withSessions m (λ k. endedOf u (m .sessions k))
 
-unfoldable pub withoutUser : Model → ℕ → Model
-withoutUser m u = withUsers (withAssignments (allEnded m u) (put (m .assigned) u none) (m .assignmentCount - count (m .assigned u))) (put (m .users) u false)
+-- "a new `end-all u` ends the user's sessions .. `end-all` with no session open is done and changes nothing .. `end-all` answers 1 or 2."
+unfoldable pub endAll : Model → ℕ → Told
+endAll m u = settle (1 when userBeyond u ∷ 2 when userMissing m u ∷ []) m [] (allEnded m u)
 
+-- "the user has open sessions"
+unfoldable pub hasOpen : Model → ℕ → Bool
+hasOpen m u = some 64 (λ k. openOf u (m .sessions k))
+
+-- the user and its assignments are gone; no session is touched
+unfoldable pub withoutUser : Model → ℕ → Model
+withoutUser m u = withUsers (withAssignments m (put (m .assigned) u none) (m .assignmentCount - count (m .assigned u))) (put (m .users) u false)
+
+-- "`nouser` works only when none is open": 1, 2, and "16, the user has open sessions, last in the order for `nouser`"
 unfoldable pub nouser : Model → ℕ → Told
-nouser m u = settle (1 when userBeyond u ∷ 2 when userMissing m u ∷ []) m [] (withoutUser m u)
+nouser m u = settle (1 when userBeyond u ∷ 2 when userMissing m u ∷ 16 when hasOpen m u ∷ []) m [] (withoutUser m u)
 
 -- "the role to be deleted stands in an SSD or DSD set"
 unfoldable pub inSet : (ℕ → RoleSet) → ℕ → Bool

@@ -1,6 +1,6 @@
 -- Each arm names the answer whose number it is; what no arm has is the number of none. Assumes nothing.
 use Rattle.numbers.specs.Answers.{sheet}
-use Rattle.numbers.specs.declared.Answer.the-variants.{Done, BeyondRange, Missing, OtherOwner, AlreadyThere, NotThere, InheritsItself, BadCardinality, StandsInSet, NotAuthorised, BreaksStatic, BreaksDynamic, TableFull, NotOfForm, BufferShort}
+use Rattle.numbers.specs.declared.Answer.the-variants.{Done, BeyondRange, Missing, OtherOwner, AlreadyThere, NotThere, InheritsItself, BadCardinality, StandsInSet, NotAuthorised, BreaksStatic, BreaksDynamic, TableFull, NotOfForm, BufferShort, HasOpenSessions}
 use Rattle.numbers.proofs.Answers.{named-by, unnamed}
 use Rattle.numbers.proofs.answer_of.Statement.{statement}
 use Rattle.numbers.proofs.answer_of.Tie as tie
@@ -51,9 +51,12 @@ returns-15 : tie.Need-returns-15
 returns-15 c = named-by BufferShort _ (c .match .keys15)
 
 returns-16 : tie.Need-returns-16
-returns-16 c =
+returns-16 c = named-by HasOpenSessions _ (c .match .keys16)
+
+returns-17 : tie.Need-returns-17
+returns-17 c =
     let rest = c .match .rest in
-    unnamed _ sheet (rest .0 .0 .0 .0 .0 .0 .0 .0 .0 .0 .0 .0 .0 .0 .1, (rest .0 .0 .0 .0 .0 .0 .0 .0 .0 .0 .0 .0 .0 .1, (rest .0 .0 .0 .0 .0 .0 .0 .0 .0 .0 .0 .0 .1, (rest .0 .0 .0 .0 .0 .0 .0 .0 .0 .0 .0 .1, (rest .0 .0 .0 .0 .0 .0 .0 .0 .0 .0 .1, (rest .0 .0 .0 .0 .0 .0 .0 .0 .0 .1, (rest .0 .0 .0 .0 .0 .0 .0 .0 .1, (rest .0 .0 .0 .0 .0 .0 .0 .1, (rest .0 .0 .0 .0 .0 .0 .1, (rest .0 .0 .0 .0 .0 .1, (rest .0 .0 .0 .0 .1, (rest .0 .0 .0 .1, (rest .0 .0 .1, (rest .0 .1, (rest .1, tt)))))))))))))))
+    unnamed _ sheet (rest .0 .0 .0 .0 .0 .0 .0 .0 .0 .0 .0 .0 .0 .0 .0 .1, (rest .0 .0 .0 .0 .0 .0 .0 .0 .0 .0 .0 .0 .0 .0 .1, (rest .0 .0 .0 .0 .0 .0 .0 .0 .0 .0 .0 .0 .0 .1, (rest .0 .0 .0 .0 .0 .0 .0 .0 .0 .0 .0 .0 .1, (rest .0 .0 .0 .0 .0 .0 .0 .0 .0 .0 .0 .1, (rest .0 .0 .0 .0 .0 .0 .0 .0 .0 .0 .1, (rest .0 .0 .0 .0 .0 .0 .0 .0 .0 .1, (rest .0 .0 .0 .0 .0 .0 .0 .0 .1, (rest .0 .0 .0 .0 .0 .0 .0 .1, (rest .0 .0 .0 .0 .0 .0 .1, (rest .0 .0 .0 .0 .0 .1, (rest .0 .0 .0 .0 .1, (rest .0 .0 .0 .1, (rest .0 .0 .1, (rest .0 .1, (rest .1, tt))))))))))))))))
 
 pub answer-of-spec : {M : Type 1} → statement M
-answer-of-spec = tie.close (tie.spec returns returns-2 returns-3 returns-4 returns-5 returns-6 returns-7 returns-8 returns-9 returns-10 returns-11 returns-12 returns-13 returns-14 returns-15 returns-16)
+answer-of-spec = tie.close (tie.spec returns returns-2 returns-3 returns-4 returns-5 returns-6 returns-7 returns-8 returns-9 returns-10 returns-11 returns-12 returns-13 returns-14 returns-15 returns-16 returns-17)

@@ -1,14 +1,14 @@
 -- The loop's invariant: the sessions passed are ended if they are the user's, and all else is as before. Assumes nothing.
 use borrow.Author.Needs.{needs}
 use mathlib.Core.Logic.{⊎-elim}
-use mathlib.Core.Path.{_≡_, ap, _∙_}
+use mathlib.Core.Path.{_≡_, sym, ap, _∙_}
 use Prim.Native.Nat.{_≤_, _-_}
 use native.Mathlib.Omega.{arith}
-use Rattle.model.specs.commands.Users.{endedOf}
+use Rattle.model.specs.commands.Users.{openOf, endedOf}
 use Rattle.state.specs.View.{view}
 use Rattle.state.proofs.Stored.{in-range}
 use Rattle.sweeps.proofs.Shedding.{view-past}
-use Rattle.sweeps.proofs.SweepSteps.{Ended, ended-start, ended-one, ended-none, ended-all, end-own, end-dead, end-other}
+use Rattle.sweeps.proofs.SweepSteps.{Ended, ended-start, ended-one, ended-none, ended-all, end-own, end-other}
 use Rattle.sweeps.proofs.end_all.Statement.{statement}
 use Rattle.sweeps.proofs.end_all.Tie as tie
 
@@ -27,14 +27,16 @@ found c = c .session-at .ensures ∙ c .before .before .before .loop .inv .1 .le
 
 loop-again : tie.Need-loop-again Inv-loop μ-loop
 loop-again c =
-    let at = c .before .before .before .before in
+    let at = c .before .before .before .before .before in
     let m = view (at .before .args .state .now) in
     let u = at .before .args .u .number in
     let k = at .loop .k in
-    let now = found (c .before) in
+    let session = c .before .before .session-at .result in
+    let now = found (c .before .before) in
+    let asked : openOf u session ≡ c .before .open-of .result = sym (c .before .open-of .ensures) in
     ⊎-elim
-    (λ w. (omega arith, ended-one m u k (view (at .loop .state)) (view (c .if1 .state)) (at .loop .inv .1) (ap view (w .6) ∙ w .5 .ensures ∙ in-range 64 k _ _ (omega arith)) (end-own u (c .before .session-at .result) (w .0 .taken) (w .3 .taken) ∙ ap (endedOf u) now)))
-    (λ w. (omega arith, rw (w .1) (ended-none m u k (view (at .loop .state)) (at .loop .inv .1) (rw now at (⊎-elim (λ v. end-other u (c .before .session-at .result) (v .3 .left)) (λ v. end-dead u (c .before .session-at .result) (v .left)) (w .0 .came))))))
+    (λ w. (omega arith, ended-one m u k (view (at .loop .state)) (view (c .if1 .state)) (at .loop .inv .1) (ap view (w .3) ∙ w .2 .ensures ∙ in-range 64 k _ _ (omega arith)) (end-own u session (asked ∙ w .0 .taken) ∙ ap (endedOf u) now)))
+    (λ w. (omega arith, rw (w .1) (ended-none m u k (view (at .loop .state)) (at .loop .inv .1) (rw now at (end-other u session (asked ∙ w .0 .left))))))
     (c .if1 .came)
 
 returns : tie.Need-returns Inv-loop μ-loop
