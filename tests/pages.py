@@ -10,7 +10,8 @@
 - docs/STORY.md: its lines with examples/story.script; its sentences with the comments above the statements that it names.
 - Every example line of these pages, and every exercise, is run and its answer compared.
 - The files that these pages and README.md name are there.
-- README.md's first script, examples/tour.txt and examples/story.txt, and the scripts that crates/transcripts proves something of, with examples/.
+- README.md's scripts, examples/tour.txt, examples/story.txt and examples/leaver.txt, and the scripts that crates/transcripts proves something of, with
+  examples/.
 """
 import re
 import subprocess
@@ -197,7 +198,7 @@ def check_commands(all_words, scene):
     same("docs/COMMANDS.md, the ranges", things, {thing: str(ranges()[thing + "s"] - 1) for thing in ("user", "role", "session", "set", "operation", "object")})
     rows = [row for table in tables(page) for row in table]
     named = [quoted(row.get("Command") or row["Question"])[0].split(" ")[0] for row in rows]
-    same("docs/COMMANDS.md, the words", named, list(all_words))
+    same("docs/COMMANDS.md, the words", sorted(named), sorted(all_words))
     for name, row in zip(named, rows):
         if name in all_words:
             check_command_row(row, all_words[name], scene)
@@ -313,12 +314,25 @@ def check_readme():
     holds("README.md does not name examples/first.script", "`examples/first.script`" in page)
 
 
-def check_story_text():
-    lines, printed, total = example("story")
-    shown = [columns(line) for line in read("examples/story.txt").split("\n")[2:] if line]
-    same("examples/story.txt, the lines", [row[0] for row in shown[:-1]], lines)
-    same("examples/story.txt, the answers", [row[1] for row in shown[:-1]], printed)
-    same("examples/story.txt, the total", shown[-1], [total])
+def check_leaver():
+    """The lines of README.md that matter, as the script has them, in their order."""
+    page = block(read("README.md"), r"## A student leaves\n", r"\n## ")
+    lines, printed, _ = example("leaver")
+    told = iter(zip(lines, printed))
+    shown = [columns(line) for line in page.split("\n") if line.startswith("    ")]
+    holds("README.md shows no line of examples/leaver.script", shown)
+    for row in shown:
+        holds(f"README.md: `{row[0]}` is not answered {row[1]} in examples/leaver.script, after the line above", tuple(row[:2]) in told)
+    holds("README.md does not name examples/leaver.script", "`examples/leaver.script`" in page)
+
+
+def check_told(name):
+    """A script that is told line by line: the line, its answer, what it means."""
+    lines, printed, total = example(name)
+    shown = [columns(line) for line in read(f"examples/{name}.txt").split("\n")[2:] if line]
+    same(f"examples/{name}.txt, the lines", [row[0] for row in shown[:-1]], lines)
+    same(f"examples/{name}.txt, the answers", [row[1] for row in shown[:-1]], printed)
+    same(f"examples/{name}.txt, the total", shown[-1], [total])
 
 
 def check_tour():
@@ -352,9 +366,12 @@ def main():
         check_citations(page)
         check_files(page)
     check_readme()
-    check_story_text()
+    check_leaver()
+    check_told("story")
+    check_told("leaver")
     check_tour()
     check_proved("crates/transcripts/specs/Story.antt", "story", "story")
+    check_proved("crates/transcripts/specs/Leaver.antt", "leaver", "leaver")
     check_proved("crates/transcripts/specs/Program.antt", "example", "paper")
     for fault in faults:
         print("pages: " + fault)

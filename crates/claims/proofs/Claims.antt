@@ -28,6 +28,7 @@ use Rattle.misreadings.proofs.Bench.{inherited-grant}
 use Rattle.misreadings.proofs.Readings.{readings, wrong-rules}
 use Rattle.misreadings.proofs.ShutOut.{shut-out}
 use Rattle.misreadings.proofs.Reviewers.{reviewers-shut-out}
+use Rattle.misreadings.proofs.Deleting.{deleting-shut-out}
 use Rattle.clibrary.proofs.Calling.{longest-answer}
 use Rattle.unique.proofs.Promises as promises
 use Rattle.unique.proofs.Handed.{owned}
@@ -108,6 +109,7 @@ claims =
       wrong-rules = wrong-rules;
       shut-out = shut-out;
       reviewers-shut-out = reviewers-shut-out;
+      deleting-shut-out = deleting-shut-out;
       own-calls = own-calls;
       longest-answer = longest-answer;
       owned = owned;

@@ -34,6 +34,7 @@ use Rattle.edges.specs.LongScripts.{LongScripts}
 use Rattle.benchsheet.specs.BenchSheet.{Bench}
 use Rattle.misreadings.specs.Readings.{examples, answered, expected, InheritedGrant, WrongRules}
 use Rattle.misreadings.specs.ShutOut.{ShutOut, ReviewersShutOut}
+use Rattle.misreadings.specs.Deleting.{DeletingShutOut}
 use Rattle.clibrary.specs.Calls.{LongestAnswer}
 use Rattle.unique.specs.Promises as promises
 use Rattle.unique.specs.Handed.{Owned}
@@ -124,6 +125,7 @@ pub record Claims : Type 0 where
   pub wrong-rules : WrongRules
   pub shut-out : ShutOut
   pub reviewers-shut-out : ReviewersShutOut
+  pub deleting-shut-out : DeletingShutOut
   -- ---- the code's own calls, its own states, its buffers, and every number of its state
   pub own-calls : OwnCalls
   pub longest-answer : LongestAnswer

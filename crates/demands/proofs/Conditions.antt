@@ -42,7 +42,7 @@ use Rattle.sound.proofs.Words.{InOrBelow, listed-within}
 use Rattle.demands.specs.Authorised.{Authorised}
 use Rattle.demands.specs.Broken.{Broken, StaticBroken, DynamicBroken}
 use Rattle.demands.specs.Conditions.{Conditions, OfLists, OfPolicy, NoneBefore}
-use Rattle.demands.specs.Demand2.{Applies, place, refusals, results, effect, wouldBreak, hasOpen}
+use Rattle.demands.specs.Demand2.{Applies, place, refusals, results, effect, wouldBreak, OpenOf, hasOpen}
 use Rattle.demands.specs.Demand3.{Rules}
 use Rattle.demands.specs.Many.{AsMany}
 use Rattle.demands.proofs.Broken.{authorises, broken-exact, static-exact, dynamic-exact}
@@ -257,12 +257,12 @@ module _ (m : Model) (s : Sound m) where
         dynamic = λ c list none. in-words c list (dynamic-asked c list none);
       }
     where
-      opens-exact : (u : ℕ) → (hasOpen m u ≡ true) ↔ ((k : ℕ) × (m .sessions k .live ≡ true) × (m .sessions k .owner ≡ u))
+      opens-exact : (u : ℕ) → (hasOpen m u ≡ true) ↔ ((k : ℕ) × OpenOf m u k)
       opens-exact u =
           let live : ℕ → Bool = λ k. m .sessions k .live in
           let own : ℕ → Bool = λ k. eqb (m .sessions k .owner) u in (
-            (λ e. let f = some-elim 64 (λ k. live k && own k) e in (f .0, and-left (live (f .0)) (own (f .0)) (f .2), eqb-true (m .sessions (f .0) .owner) u (and-right (live (f .0)) (own (f .0)) (f .2)))),
-            (λ f. some-intro 64 (λ k. live k && own k) (f .0) (s .shape .sessions (f .0) .numbered (f .1)) (and-both (live (f .0)) (own (f .0)) (f .1) (eq-eqb (m .sessions (f .0) .owner) u (f .2)))),
+            (λ e. let f = some-elim 64 (λ k. live k && own k) e in (f .0, (and-left (live (f .0)) (own (f .0)) (f .2), eqb-true (m .sessions (f .0) .owner) u (and-right (live (f .0)) (own (f .0)) (f .2))))),
+            (λ f. some-intro 64 (λ k. live k && own k) (f .0) (s .shape .sessions (f .0) .numbered (f .1 .0)) (and-both (live (f .0)) (own (f .0)) (f .1 .0) (eq-eqb (m .sessions (f .0) .owner) u (f .1 .1)))),
           )
 
       stands : (kind : Kind) (r : ℕ) → (inSet (setsOf kind m) r ≡ true) ↔ ((name : ℕ) × (setsOf kind m name .there ≡ true) × (has (setsOf kind m name .roles) r ≡ true))

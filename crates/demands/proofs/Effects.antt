@@ -116,7 +116,7 @@ user-gone users u v = go (eqb v u) refl
     go true e = ap (put users u false) (eqb-true v u e) ∙ put-same users u false ∙ sym (and-false (users v))
     go false e = put-other users u false v (eqb-false v u e) ∙ sym (and-true (users v))
 
-ended : (u : ℕ) (x : Session) → x .live ≡ true → x .owner ≡ u → endedOf u x ≡ closedSession
+pub ended : (u : ℕ) (x : Session) → x .live ≡ true → x .owner ≡ u → endedOf u x ≡ closedSession
 unfolding endedOf
 ended u x l o = rw (l, eq-eqb (x .owner) u o, endedOf)
 
@@ -192,7 +192,7 @@ changed m (DropActive u k r) list s t c = session-becomes m (k .number) _ true (
     live-of : AllClear (refusals m (DropActive u k r) list) → m .sessions (k .number) .live ≡ true
     live-of c = not-false (m .sessions (k .number) .live) (or-no (sessionMissing m (k .number)) (roleMissing m (r .number)) (or-no (userMissing m (u .number)) _ (c .1 .0) .1) .0)
 changed m (EndSession u k) list s t c = session-becomes m (k .number) closedSession false 0 (λ q. false) refl refl has-none
-changed m (EndAll u) list s t c = record { ended = λ k. ended (u .number) (m .sessions k); others = λ k. not-ended (u .number) (m .sessions k); only = refl }
+changed m (EndAll u) list s t c = record { ended = λ k o. ended (u .number) (m .sessions k) (o .0) (o .1); others = λ k other. not-ended (u .number) (m .sessions k) (λ l o. other (l, o)); only = refl }
 
 -- a command that is done on a reachable policy changes what the paper says, member by member, and nothing else
 pub effects : Effects

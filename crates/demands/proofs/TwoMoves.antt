@@ -10,7 +10,7 @@ use lib.Dec.{eqb}
 use borrow.Author.Tests.{leb-false, lt-leb, eqb-true, not-false}
 use Rattle.roleset.specs.Bounded.{bit}
 use Rattle.roleset.specs.Roles.{has, common, isEmpty}
-use Rattle.roleset.proofs.BoundedLaws.{clash}
+use Rattle.roleset.proofs.BoundedLaws.{clash, never}
 use Rattle.hierarchy.specs.Walks.{reach}
 use Rattle.numbers.specs.declared.User.{User}
 use Rattle.model.specs.Model.{Model, RoleSet, Session, closedSession, withUsers, withAssigned, withSessions}
@@ -32,13 +32,13 @@ use Rattle.sound.proofs.Sessions.{lowest-free}
 use Rattle.sound.proofs.Sheet.{AllClear, kept, settle-answer, settle-done, settle-refused}
 use Rattle.sound.proofs.Users.{none-open}
 use Rattle.sound.proofs.Words.{shed-stays}
-use Rattle.demands.specs.Demand2.{refusals, results, effect, setMade}
+use Rattle.demands.specs.Demand2.{refusals, results, effect, setMade, OpenOf}
 use Rattle.demands.specs.Effects.{Changed}
 use Rattle.demands.specs.Reachable.{Reachable, after}
-use Rattle.demands.specs.TwoMoves.{TwoMoves, GoneInOneMove, inOneMove, first, second, OpenOf, ChecksAlike, Ends, one, all, Meanwhile, nothing, then}
+use Rattle.demands.specs.TwoMoves.{TwoMoves, GoneInOneMove, inOneMove, first, second, ChecksAlike, Ends, one, all, Meanwhile, nothing, then}
 use Rattle.demands.proofs.Commands.{shown}
 use Rattle.demands.proofs.Conditions.{conditions}
-use Rattle.demands.proofs.Effects.{effects, not-ended}
+use Rattle.demands.proofs.Effects.{effects, ended, not-ended}
 use Rattle.demands.proofs.Kept.{reachable-sound}
 
 -- ---- the lists of refusals
@@ -76,7 +76,7 @@ module _ (m : Model) (u : User) where
 
   -- where the first was done, the second is done, and what is left is what the one move left
   gone : verdict (two m n) ≡ 0 → nouser (allEnded m n) n ≡ inOneMove m n
-  unfolding nouser withoutUser allEnded
+  unfolding nouser withoutUser allEnded endedOf
   gone z =
       settle-done (three (allEnded m n) n) (allEnded m n) [] (withoutUser (allEnded m n) n) (none-more (userBeyond n) (userMissing m n) (hasOpen (allEnded m n) n) (none-open m n) ∙ z)
       ∙ sym (settle-done (two m n) m [] _ z)
@@ -110,8 +110,8 @@ module _ (m : Model) (u : User) where
       record {
         users = λ v. goes .users v ∙ ap (λ (t : Model). t .users v && not (eqb v (u .number))) (ends .only);
         assigned = λ v q. goes .assigned v q ∙ ap (λ (t : Model). has (t .assigned v) q && not (eqb v (u .number))) (ends .only);
-        ended = λ k l o. same k ∙ ends .ended k l o;
-        others = λ k other. same k ∙ ends .others k other;
+        ended = λ k l o. same k ∙ ends .ended k (l, o);
+        others = λ k other. same k ∙ ends .others k (λ o. other (o .0) (o .1));
         only = goes .only ∙ ap (λ (t : Model). withUsers (withAssigned t (y .assigned)) (y .users)) (ends .only) ∙ ap (λ (t : Model). withUsers (withAssigned (withSessions m (t .sessions)) (y .assigned)) (y .users)) (sym (goes .only));
       }
     where
@@ -179,6 +179,32 @@ untouched : (m : Model) (u : User) (s : ℕ) → Spared m s (step m (NoUser u) [
 unfolding step nouser withoutUser
 untouched m u s = kept (Spared m s) (three m (u .number)) m [] (withoutUser m (u .number)) refl (refl, λ op obj. (refl, refl)) (λ c. (refl, alike m (withoutUser m (u .number)) s refl refl refl))
 
+only : (m : Model) (u : User) → first m u .after ≡ withSessions m (first m u .after .sessions)
+unfolding step endAll allEnded
+only m u = kept (λ x. x ≡ withSessions m (x .sessions)) (two m (u .number)) m [] (allEnded m (u .number)) refl refl (λ c. refl)
+
+ended-each : (m : Model) (u : User) → first m u .answer ≡ 0 → (s : ℕ) → OpenOf m (u .number) s → first m u .after .sessions s ≡ closedSession
+unfolding step endAll allEnded
+ended-each m u z s o =
+    let clear : verdict (two m (u .number)) ≡ 0 = sym (settle-answer (two m (u .number)) m [] (allEnded m (u .number))) ∙ z in
+    ap (λ (t : Told). t .after .sessions s) (settle-done (two m (u .number)) m [] (allEnded m (u .number)) clear) ∙ ended (u .number) (m .sessions s) (o .0) (o .1)
+
+unlisted : (m : Model) (u : User) (list : List ℕ) → (step m (EndAll u) list ≡ first m u) × (step m (NoUser u) list ≡ step m (NoUser u) [])
+unfolding step
+unlisted m u list = (refl, refl)
+
+-- a user of a reachable policy that has no open session has none of the 64
+none-of : (m : Model) → Reachable m → (u : ℕ) → ((s : ℕ) → OpenOf m u s → ⊥) → hasOpen m u ≡ false
+unfolding hasOpen
+none-of m p u none = never (hasOpen m u) (λ e. let f = conditions .policy m p .opens u .0 e in none (f .0) (f .1))
+
+deletable : (m : Model) → Reachable m → (u : User) → m .users (u .number) ≡ true → ((s : ℕ) → OpenOf m (u .number) s → ⊥) → step m (NoUser u) [] .answer ≡ 0
+unfolding step nouser verdict
+deletable m p u there none =
+    let n = u .number in
+    let within : userBeyond n ≡ false = lt-leb 256 n (reachable-sound p .shape .users n there) in
+    settle-answer (three m n) m [] (withoutUser m n) ∙ rw (within, there, none-of m p n none)
+
 -- only the third holds
 only-third : (a b c : Bool) → a ≡ false → b ≡ true → c ≡ true → verdict (1 when a ∷ 2 when not b ∷ 16 when c ∷ []) ≡ 16
 unfolding verdict
@@ -189,7 +215,7 @@ only-third false false c e f g = clash false f refl
 
 has-one : (m : Model) → Reachable m → (u s : ℕ) → OpenOf m u s → hasOpen m u ≡ true
 unfolding hasOpen
-has-one m p u s o = conditions .policy m p .opens u .1 (s, o .0, o .1)
+has-one m p u s o = conditions .policy m p .opens u .1 (s, o)
 
 idle : (m : Model) → Reachable m → (u : User) → m .users (u .number) ≡ true → ((s : ℕ) → OpenOf m (u .number) s → ⊥) → first m u ≡ done [] m
 unfolding step endAll allEnded verdict
@@ -273,4 +299,4 @@ goes-on sound u s o (then {x = x} w c list spared) =
 
 -- Deleting a user in two moves.
 pub two-moves : TwoMoves
-two-moves = record { answered = λ m u. (answered m u, silent m u); together = together; follows = follows; leave = λ m p u. leave m u p; idle = idle; others = others; sixteen = sixteen; untouched = untouched; goes-on = λ p u s o w. goes-on (reachable-sound p) u s o w .0 }
+two-moves = record { unlisted = unlisted; answered = λ m u. (answered m u, silent m u); together = together; follows = follows; leave = λ m p u. leave m u p; ended = ended-each; others = others; only = only; idle = idle; untouched = untouched; sixteen = sixteen; deletable = deletable; goes-on = λ p u s o w. goes-on (reachable-sound p) u s o w .0 }

@@ -20,7 +20,7 @@ use Rattle.model.specs.declared.Kind.{Kind}
 use Rattle.model.specs.declared.Kind.the-variants.{Dynamic}
 use Rattle.demands.specs.Authorised.{Authorised}
 use Rattle.demands.specs.Broken.{StaticBroken, DynamicBroken}
-use Rattle.demands.specs.Demand2.{Applies, place, refusals, effect, wouldBreak, wouldBreakOpened, hasOpen}
+use Rattle.demands.specs.Demand2.{Applies, place, refusals, effect, wouldBreak, wouldBreakOpened, OpenOf, hasOpen}
 use Rattle.demands.specs.Many.{AsMany, Ascending}
 use Rattle.demands.specs.Reachable.{Reachable}
 
@@ -54,8 +54,8 @@ pub record OfPolicy (m : Model) : Type 0 where
   pub granted : (n : ℕ) → (n ≤ grants m) ↔ AsMany n (λ (p : ℕ × ℕ). has (m .holders (p .0)) (p .1) ≡ true)
   pub lined : (n : ℕ) → (n ≤ linesStanding m) ↔ AsMany n (λ (p : ℕ × ℕ). has (m .juniors (p .0)) (p .1) ≡ true)
   pub opened : (n : ℕ) → (n ≤ sessionsOpen m) ↔ AsMany n (λ s. m .sessions s .live ≡ true)
-  -- 16: "the user has open sessions": some session is open, and the user's. (The owner of a closed one is 0 too, so that user 0 is no case of its own.)
-  pub opens : (u : ℕ) → (hasOpen m u ≡ true) ↔ ((s : ℕ) × (m .sessions s .live ≡ true) × (m .sessions s .owner ≡ u))
+  -- 16: "the user has open sessions": some session is open, and the user's.
+  pub opens : (u : ℕ) → (hasOpen m u ≡ true) ↔ ((s : ℕ) × OpenOf m u s)
   -- "the lowest free session number": where fewer than 64 sessions are open it is one of the 64, is free, and every lower one is taken.
   pub lowest : sessionsOpen m < 64 → (lowestFree m < 64) × (m .sessions (lowestFree m) .live ≡ false) × ((k : ℕ) → k < lowestFree m → m .sessions k .live ≡ true)
   -- 11 of `session`: where there is room the session to be opened is one of the 64.

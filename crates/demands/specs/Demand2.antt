@@ -87,7 +87,7 @@ results m (DropActive u s r) list = []
 results m (EndSession u s) list = []
 results m (EndAll u) list = []
 
--- ---- the refusals of each command, as the paper lists them
+-- ---- the refusals of each command, as the paper lists them (16 and `end-all`: request 4)
 
 -- 10: "an SSD rule would be broken for some user"; 11: "a DSD rule would be broken in some session". It is asked of the policy and
 -- sessions as they would be after the command.
@@ -101,7 +101,11 @@ wouldBreak Dynamic after = some 64 (dynamicBroken after)
 abbrev pub wouldBreakOpened : Model → Bool
 wouldBreakOpened after = some 65 (dynamicBroken after)
 
--- 16: "the user has open sessions": one of the sessions 0 to 63 is open, and the user's.
+-- Session s is open, and the user's. (The owner of a closed one is 0, so the owner alone does not tell.)
+abbrev pub OpenOf : Model → ℕ → ℕ → Type 0
+OpenOf m u s = (m .sessions s .live ≡ true) × (m .sessions s .owner ≡ u)
+
+-- 16: "the user has open sessions": one of the sessions 0 to 63 is.
 abbrev pub hasOpen : Model → ℕ → Bool
 hasOpen m u = some 64 (λ s. m .sessions s .live && eqb (m .sessions s .owner) u)
 

@@ -18,6 +18,7 @@ use Rattle.model.specs.declared.Command.{Command}
 use Rattle.model.specs.declared.Command.the-variants.{AddUser, AddRole, NoUser, NoRole, Assign, Deassign, Grant, Revoke, Inherit, Disinherit, MakeSet, DropSet, AddMember, DropMember, SetCardinality, OpenSession, Activate, DropActive, EndSession, EndAll}
 use Rattle.model.specs.declared.Kind.{Kind}
 use Rattle.demands.specs.Authorised.{Authorised}
+use Rattle.demands.specs.Demand2.{OpenOf}
 use Rattle.demands.specs.Reachable.{Reachable}
 
 -- ---- a table of sets of roles: the assignments by user, the lines by senior, the grants by permission
@@ -136,9 +137,9 @@ pub record SessionBecomes (m after : Model) (s : ℕ) (isLive : Bool) (u : ℕ) 
 -- "`end-all u` ends the user's sessions"
 pub record AllEnded (m after : Model) (u : ℕ) : Type 0 where
   -- Every open session of u is closed,
-  pub ended : (s : ℕ) → m .sessions s .live ≡ true → m .sessions s .owner ≡ u → after .sessions s ≡ closedSession
+  pub ended : (s : ℕ) → OpenOf m u s → after .sessions s ≡ closedSession
   -- and every other session is as it was.
-  pub others : (s : ℕ) → (m .sessions s .live ≡ true → m .sessions s .owner ≡ u → ⊥) → after .sessions s ≡ m .sessions s
+  pub others : (s : ℕ) → (OpenOf m u s → ⊥) → after .sessions s ≡ m .sessions s
   -- Nothing but the sessions is changed.
   pub only : after ≡ withSessions m (after .sessions)
 

@@ -26,8 +26,8 @@ pub record ShorterSheet : Type 0 where
   -- "the number stays unused": it is no answer's number, and going back from it there is no answer.
   pub unused : (a : Answer) → numberOf a ≡ 13 → ⊥
   pub names-none : answerOf 13 ≡ Nothing
-  -- "and all else stays": every other number of 0 to 16, the last on the sheet, is an answer's.
-  pub others : (n : ℕ) → n < 17 → (n ≡ 13 → ⊥) → OnSheet n
+  -- "and all else stays": every other number of 0 to 15 is an answer's.
+  pub others : (n : ℕ) → n < 16 → (n ≡ 13 → ⊥) → OnSheet n
   -- No command, no question and no load answers it, on any policy.
   pub commands : (m : Model) (c : Command) (list : List ℕ) → step m c list .answer ≡ 13 → ⊥
   pub questions : (m : Model) (room : ℕ) (q : Question) → ask m room q .answer ≡ 13 → ⊥

@@ -1,4 +1,4 @@
--- "Deleting a student in two moves": `end-all u` and then `nouser u` do together what `nouser u` did alone, and until then the user's sessions go on.
+-- "Deleting a student in two moves": `end-all u` and then `nouser u` do together what `nouser u` did alone, and `nouser` by itself ends no session.
 -- Assumes nothing.
 use mathlib.Core.Bool.{true, false, not, _&&_}
 use mathlib.Core.List.{List, [], _∷_}
@@ -11,23 +11,27 @@ use Rattle.numbers.specs.declared.Session.{Session}
 use Rattle.model.specs.Model.{Model, closedSession, put, withUsers, withAssigned, withAssignments, withSessions}
 use Rattle.model.specs.Sheet.{_when_, Told, settle, done, refused}
 use Rattle.model.specs.Step.{step}
-use Rattle.model.specs.commands.Users.{allEnded}
 use Rattle.model.specs.commands.Sessions.{check}
 use Rattle.model.specs.declared.Command.{Command}
 use Rattle.model.specs.declared.Command.the-variants.{NoUser, EndSession, EndAll}
-use Rattle.demands.specs.Demand2.{_beyond_}
+use Rattle.demands.specs.Demand2.{_beyond_, OpenOf}
 use Rattle.demands.specs.Reachable.{Reachable}
 
 -- ---- `nouser` before there were two moves
 
--- What it told: "ends the user's sessions, removes assignments; 1, 2."
+-- The policy and sessions after it: "ends the user's sessions, removes assignments".
+abbrev pub goneInOneMove : Model → ℕ → Model
+goneInOneMove m u =
+    withUsers
+    (withAssignments
+    (withSessions m (λ s. elim (m .sessions s .live && eqb (m .sessions s .owner) u) [ true ↦ closedSession | false ↦ m .sessions s ]))
+    (put (m .assigned) u none)
+    (m .assignmentCount - count (m .assigned u)))
+    (put (m .users) u false)
+
+-- What it told: ".. 1, 2."
 abbrev pub inOneMove : Model → ℕ → Told
-inOneMove m u =
-    settle
-    (1 when u beyond 255 ∷ 2 when not (m .users u) ∷ [])
-    m
-    []
-    (withUsers (withAssignments (allEnded m u) (put (m .assigned) u none) (m .assignmentCount - count (m .assigned u))) (put (m .users) u false))
+inOneMove m u = settle (1 when u beyond 255 ∷ 2 when not (m .users u) ∷ []) m [] (goneInOneMove m u)
 
 -- What it changed, member by member, where it was done.
 pub record GoneInOneMove (m after : Model) (u : ℕ) : Type 0 where
@@ -53,10 +57,6 @@ second m u = step (first m u .after) (NoUser u) []
 
 -- ---- what goes on
 
--- Session s is open, and the user's.
-abbrev pub OpenOf : Model → ℕ → ℕ → Type 0
-OpenOf m u s = (m .sessions s .live ≡ true) × (m .sessions s .owner ≡ u)
-
 -- Every `check` on session s is told the same answer and the same results in both.
 abbrev pub ChecksAlike : Model → Model → ℕ → Type 0
 ChecksAlike m after s = (op obj : ℕ) → (check after s op obj .answer ≡ check m s op obj .answer) × (check after s op obj .results ≡ check m s op obj .results)
@@ -72,27 +72,38 @@ pub data Meanwhile (u s : ℕ) (m : Model) : Model → Type 0 where
   then : {x : Model} → Meanwhile u s m x → (c : Command) (list : List ℕ) → (Ends u s c → ⊥) → Meanwhile u s m (step x c list .after)
 
 pub record TwoMoves : Type 0 where
-  -- ---- two moves are one: on any policy, with any number
+  -- Neither command takes a list of roles: one that is passed beside it is not looked at.
+  pub unlisted : (m : Model) (u : User) (list : List ℕ) → (step m (EndAll u) list ≡ first m u) × (step m (NoUser u) list ≡ step m (NoUser u) [])
+  -- ---- two moves are one
 
-  -- `end-all u` is answered what `nouser u` was, and has no results,
+  -- On any policy and with any number, `end-all u` is answered what `nouser u` was answered alone, and has no results;
   pub answered : (m : Model) (u : User) → (first m u .answer ≡ inOneMove m (u .number) .answer) × (first m u .results ≡ [])
   -- and then `nouser u` tells what it told alone: its answer, no results, and the policy and sessions that it left.
   pub together : (m : Model) (u : User) → second m u ≡ inOneMove m (u .number)
   -- So after a done `end-all u` the second move is done,
   pub follows : (m : Model) (u : User) → first m u .answer ≡ 0 → second m u .answer ≡ 0
-  -- and both leave of a reachable policy, member by member, what the one move left.
+  -- and of a reachable policy both leave, member by member, what the one move left.
   pub leave : (m : Model) → Reachable m → (u : User) → first m u .answer ≡ 0 → GoneInOneMove m (second m u .after) (u .number)
-  -- ---- whom `end-all` leaves alone
+  -- ---- `end-all`, on any policy
 
-  -- "`end-all` with no session open is done and changes nothing."
-  pub idle : (m : Model) → Reachable m → (u : User) → m .users (u .number) ≡ true → ((s : ℕ) → OpenOf m (u .number) s → ⊥) → first m u ≡ done [] m
-  -- On any policy, every session that is not an open one of the user is as it was, and so is every `check` on it.
+  -- Done, it closes every open session of the user.
+  pub ended : (m : Model) (u : User) → first m u .answer ≡ 0 → (s : ℕ) → OpenOf m (u .number) s → first m u .after .sessions s ≡ closedSession
+  -- Every other session is as it was, and every `check` on it is told the same.
   pub others : (m : Model) (u : User) (s : ℕ) → (OpenOf m (u .number) s → ⊥) → (first m u .after .sessions s ≡ m .sessions s) × ChecksAlike m (first m u .after) s
-  -- ---- what `nouser` leaves alone
+  -- Nothing but the sessions is changed.
+  pub only : (m : Model) (u : User) → first m u .after ≡ withSessions m (first m u .after .sessions)
+  -- "`end-all` with no session open is done and changes nothing", for a user of a reachable policy.
+  pub idle : (m : Model) → Reachable m → (u : User) → m .users (u .number) ≡ true → ((s : ℕ) → OpenOf m (u .number) s → ⊥) → first m u ≡ done [] m
+  -- ---- `nouser`
 
-  -- A user with an open session is not deleted: 16, and nothing is changed, its assignments included.
-  pub sixteen : (m : Model) → Reachable m → (u : User) (s : ℕ) → OpenOf m (u .number) s → step m (NoUser u) [] ≡ refused 16 m
-  -- On any policy `nouser`, done or refused, touches no session and no `check`.
+  -- On any policy, done or refused, it leaves every session as it was, and every `check` is told the same.
   pub untouched : (m : Model) (u : User) (s : ℕ) → (step m (NoUser u) [] .after .sessions s ≡ m .sessions s) × ChecksAlike m (step m (NoUser u) [] .after) s
-  -- "A session watched by another teacher": whatever the commands, it stays open, and its owner's, until one of them ends it.
+  -- On a reachable policy a user with an open session is refused with 16, and nothing is changed, the user's assignments included;
+  pub sixteen : (m : Model) → Reachable m → (u : User) (s : ℕ) → OpenOf m (u .number) s → step m (NoUser u) [] ≡ refused 16 m
+  -- and one with none can be deleted, user 0 too.
+  pub deletable : (m : Model) → Reachable m → (u : User) → m .users (u .number) ≡ true → ((s : ℕ) → OpenOf m (u .number) s → ⊥) → step m (NoUser u) [] .answer ≡ 0
+  -- ---- a session that another teacher is watching
+
+  -- From a reachable policy on, under any commands, it stays open and its owner's until one of them ends it. (A load is no command: it replaces all
+  -- sessions.)
   pub goes-on : {m x : Model} → Reachable m → (u s : ℕ) → OpenOf m u s → Meanwhile u s m x → OpenOf x u s

@@ -335,7 +335,7 @@ openSessions =
     "end 7 63" ⇒ "0" ∷
     "session 7" ⇒ "0 63" ∷
     "session 7" ⇒ "12" ∷
-    -- session 63 is free again, and of a free one no user is the owner: user 0 has none open
+    -- session 63 is closed, and that its owner is 0 does not make it user 0's: user 0 has none open
     "end 7 63" ⇒ "0" ∷
     "user 0" ⇒ "0" ∷
     "nouser 0" ⇒ "0" ∷

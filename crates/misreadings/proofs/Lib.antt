@@ -1,4 +1,5 @@
 pub mod Bench
 pub mod Readings
 pub mod ShutOut
+pub mod Deleting
 pub mod Reviewers

@@ -1,4 +1,5 @@
--- The answer sheet: the paper's number of each answer, with the paper's sentence beside it, and the answer of a number, if it has one.
+-- The answer sheet: the paper's number of each answer, with the paper's sentence beside it (of 16 those of request 4), and the answer of a number, if
+-- it has one.
 -- Assumes nothing.
 use mathlib.Core.Bool.{true, false}
 use mathlib.Core.List.{List, [], _∷_}

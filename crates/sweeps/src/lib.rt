@@ -127,7 +127,10 @@ pub fn shed<'a>(
 fn open_of(session: SessionRecord, u: User) -> bool
     ensures { λ b. ⌜ b ≡ openOf (u .number) session ⌝ }
 {
-    session.live && session.owner == u.number as u64
+    let live = session.live;
+    let owner = session.owner;
+    let user = u.number as u64;
+    live && owner == user
 }
 
 // The sessions of the user end; another's stay.
@@ -149,13 +152,13 @@ pub fn end_all(state: &mut [u64; PLACES], u: User)
 pub fn has_open(state: &[u64; PLACES], u: User) -> bool
     ensures { λ b. ⌜ b ≡ hasOpen (view (now (state .entry))) (u .number) ⌝ }
 {
-    let mut k: u16 = 0;
-    while k < 64 {
-        let session = session_at(state, Session { number: k });
+    let mut at: u16 = 0;
+    while at < 64 {
+        let session = session_at(state, Session { number: at });
         if open_of(session, u) {
             return true;
         }
-        k += 1;
+        at += 1;
     }
     false
 }

@@ -36,7 +36,7 @@ story-right : rightScript (plain story) "total 22 3" ≡ true
 unfolding some every tally total members has pack those with without union common minus subset isEmpty count juniorsOf walk reach rising someFrom listed setOf empty put ask assignedRoles authRoles sessionRoles verdict settle step breaks breaksSome staticBroken dynamicBroken shedded shed assignments grants linesStanding sessionsOpen user role norole inSet withoutRole assign assigned deassign deassigned grant granted inherit lined disinherit unlined broken makeSet dropMember freeFrom opened session activeSet activate permitted check end decimal lead numbered takenFrom same words spelling takes placeIn which partsOf upTo render wordIn numbersIn parse meanings meant obey answerText totalText tallies rightLines noFeed noFeeds rightScript
 story-right = refl
 
-leaver-right : rightScript (plain leaver) "total 16 2" ≡ true
+leaver-right : rightScript (plain leaver) "total 17 2" ≡ true
 unfolding some every tally total members has pack those with without union common minus subset isEmpty count juniorsOf walk reach rising someFrom listed setOf empty put ask assignedUsers assignedRoles authRoles sessionRoles verdict settle step breaks breaksSome staticBroken dynamicBroken shedded shed assignments grants linesStanding sessionsOpen user role endedOf allEnded endAll hasOpen withoutUser nouser norole inSet withoutRole assign assigned deassign deassigned grant granted inherit lined disinherit unlined broken makeSet dropMember freeFrom opened session activeSet activate permitted check end decimal lead numbered takenFrom same words spelling takes placeIn which partsOf upTo render wordIn numbersIn parse meanings meant obey answerText totalText tallies rightLines noFeed noFeeds rightScript
 leaver-right = refl
 
@@ -46,5 +46,5 @@ paper-printed = prints-rows example "total 14 2" paper-right
 pub story-printed : Prints story "total 22 3"
 story-printed = prints-rows story "total 22 3" story-right
 
-pub leaver-printed : Prints leaver "total 16 2"
-leaver-printed = prints-rows leaver "total 16 2" leaver-right
+pub leaver-printed : Prints leaver "total 17 2"
+leaver-printed = prints-rows leaver "total 17 2" leaver-right

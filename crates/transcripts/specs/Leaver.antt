@@ -10,8 +10,8 @@ leaver =
     "user 8" ⇒ "0" ∷
     -- review
     "role 3" ⇒ "0" ∷
-    -- to review is operation 2 on object 30, a pressure map
-    "grant 2 30 3" ⇒ "0" ∷
+    -- to review is operation 1 on object 30, a pressure map
+    "grant 1 30 3" ⇒ "0" ∷
     "assign 7 3" ⇒ "0" ∷
     "assign 8 3" ⇒ "0" ∷
     -- 7 opens session 0; another teacher is watching its review
@@ -23,13 +23,15 @@ leaver =
     -- nothing has changed: 7 has the role still,
     "assigned-roles 7" ⇒ "0 3" ∷
     -- and the review goes on
-    "check 0 2 30" ⇒ "0 1" ∷
-    -- the teacher has seen enough: the sessions of 7 end, and nothing else
+    "check 0 1 30" ⇒ "0 1" ∷
+    -- the teacher has seen enough: the sessions of 7 end, and nothing else:
     "end-all 7" ⇒ "0" ∷
+    -- 7 has the role still
+    "assigned-roles 7" ⇒ "0 3" ∷
     -- session 0 is gone;
-    "check 0 2 30" ⇒ "2" ∷
+    "check 0 1 30" ⇒ "2" ∷
     -- session 1, of another user, goes on
-    "check 1 2 30" ⇒ "0 1" ∷
+    "check 1 1 30" ⇒ "0 1" ∷
     -- now 7 can go, and the assignments with 7
     "nouser 7" ⇒ "0" ∷
     "assigned-users 3" ⇒ "0 8" ∷
@@ -39,4 +41,4 @@ leaver =
     []
 
 pub record Leaver : Type 0 where
-  pub told : Prints leaver "total 16 2"
+  pub told : Prints leaver "total 17 2"

@@ -31,7 +31,7 @@ people-right : rightScript (plain people) "total 24 1" ≡ true
 unfolding some every tally total members has pack those with without union common minus subset isEmpty count juniorsOf walk reach turned atOrAbove rising someFrom listed setOf empty put ask assignedUsers assignedRoles authUsers authRoles sessionRoles roleOps userOps setNames setRoles setCount verdict settle step breaks breaksSome staticBroken dynamicBroken shedded shed sessionsOpen user role endAll hasOpen nouser norole inSet endedOf allEnded withoutUser withoutRole assign assigned deassign deassigned grant granted revoke revoked inherit lined disinherit unlined broken makeSet dropSet addMember dropMember setCardinality freeFrom opened session activeSet activate drop end permitted check decimal lead numbered takenFrom same words spelling takes placeIn which partsOf upTo render wordIn numbersIn parse meanings meant obey answerText totalText tallies rightLines noFeed noFeeds rightScript
 people-right = refl
 
-sessions-right : rightScript (plain sessions) "total 27 5" ≡ true
+sessions-right : rightScript (plain sessions) "total 29 6" ≡ true
 unfolding some every tally total members has pack those with without union common minus subset isEmpty count juniorsOf walk reach turned atOrAbove rising someFrom listed setOf empty put ask assignedUsers assignedRoles authUsers authRoles sessionRoles roleOps userOps setNames setRoles setCount verdict settle step breaks breaksSome staticBroken dynamicBroken shedded shed sessionsOpen user role endAll hasOpen nouser norole inSet endedOf allEnded withoutUser withoutRole assign assigned deassign deassigned grant granted revoke revoked inherit lined disinherit unlined broken makeSet dropSet addMember dropMember setCardinality freeFrom opened session activeSet activate drop end permitted check decimal lead numbered takenFrom same words spelling takes placeIn which partsOf upTo render wordIn numbersIn parse meanings meant obey answerText totalText tallies rightLines noFeed noFeeds rightScript
 sessions-right = refl
 
@@ -65,7 +65,7 @@ unfolding said
 word-sheet =
     record {
       people = prints-rows people "total 24 1" people-right;
-      sessions = prints-rows sessions "total 27 5" sessions-right;
+      sessions = prints-rows sessions "total 29 6" sessions-right;
       permissions = prints-said (plain granting ++ (said ++ plain revoking)) "total 23 0" permissions-right;
       sets = prints-rows sets "total 32 3" sets-right;
       oneTooFew = prints-rows oneTooFew "total 0 40" oneTooFew-right;

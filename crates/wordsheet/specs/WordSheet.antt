@@ -66,7 +66,7 @@ sessions =
     "assigned-roles 5" ⇒ "0 2 4" ∷
     "session-roles 1" ⇒ "2" ∷
     "session-roles 0" ⇒ "0" ∷
-    -- user 5 opens session 1 again, and user 3 a second one
+    -- user 5 opens a session, which gets the free number 1, and user 3 a second one
     "session 5 4" ⇒ "0 1" ∷
     "session 3" ⇒ "0 2" ∷
     -- a user with open sessions is not deleted
@@ -84,6 +84,10 @@ sessions =
     "nouser 3" ⇒ "0" ∷
     "end-all 3" ⇒ "2" ∷
     "session-roles 1" ⇒ "0 4" ∷
+    -- a user whose sessions end keeps its roles
+    "end-all 5" ⇒ "0" ∷
+    "session-roles 1" ⇒ "2" ∷
+    "assigned-roles 5" ⇒ "0 2 4" ∷
     []
 
 -- `grant`; `role-ops`, `user-ops`, `check`
@@ -266,7 +270,7 @@ oneTooMany =
 -- Each script prints what stands beside its lines, and the total.
 pub record WordSheet : Type 0 where
   pub people : Prints people "total 24 1"
-  pub sessions : Prints sessions "total 27 5"
+  pub sessions : Prints sessions "total 29 6"
   pub permissions : Prints (granting ++ (permissions ++ revoking)) "total 23 0"
   pub sets : Prints sets "total 32 3"
   pub oneTooFew : Prints oneTooFew "total 0 40"

@@ -18,7 +18,7 @@ user m u = settle (1 when userBeyond u ∷ 4 when m .users u ∷ []) m [] (withU
 unfoldable pub role : Model → ℕ → Told
 role m r = settle (1 when roleBeyond r ∷ 4 when has (m .roles) r ∷ []) m [] (withRoles m (with (m .roles) r))
 
--- the session is open, and the user's. (The owner of a closed one is 0, as user 0's is.)
+-- the session is open, and the user's. (The owner of a closed one is 0, so the owner alone does not tell.)
 abbrev pub openOf : ℕ → Session → Bool
 openOf u s = s .live && eqb (s .owner) u
 

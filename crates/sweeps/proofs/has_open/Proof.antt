@@ -25,21 +25,21 @@ abbrev asked : tie.Start Inv-loop μ-loop → ℕ → Bool
 asked c s = openOf (c .args .u .number) (view (c .args .state .now) .sessions s)
 
 -- what is found of one session
-found : (c : tie.After-open-of Inv-loop μ-loop) → asked (c .before .before .before .before) (c .before .before .before .loop .k) ≡ c .open-of .result
+found : (c : tie.After-open-of Inv-loop μ-loop) → asked (c .before .before .before .before) (c .before .before .before .loop .at) ≡ c .open-of .result
 found c = ap (openOf (c .before .before .before .before .args .u .number)) (sym (c .before .session-at .ensures)) ∙ sym (c .open-of .ensures)
 
 returns : tie.Need-returns Inv-loop μ-loop
 unfolding hasOpen
 returns c =
-    let at = c .before .before .before .before in
-    sym (some-intro 64 (asked (at .before)) (at .loop .k) (c .before .before .before .loop-test .taken) (found (c .before) ∙ c .if1 .taken))
+    let place = c .before .before .before .before in
+    sym (some-intro 64 (asked (place .before)) (place .loop .at) (c .before .before .before .loop-test .taken) (found (c .before) ∙ c .if1 .taken))
 
 loop-again : tie.Need-loop-again Inv-loop μ-loop
 loop-again c = (omega arith, some-more _ _ (c .before .before .before .before .loop .inv .1) (found (c .before) ∙ c .if1 .left))
 
 returns-2 : tie.Need-returns-2 Inv-loop μ-loop
 unfolding hasOpen
-returns-2 c = let whole : c .before .loop .k ≡ 64 = omega arith in sym (rw whole at (c .before .loop .inv .1))
+returns-2 c = let whole : c .before .loop .at ≡ 64 = omega arith in sym (rw whole at (c .before .loop .inv .1))
 
 pub has-open-spec : {M : Type 1} → statement M
 has-open-spec =
