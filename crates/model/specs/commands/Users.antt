@@ -1,4 +1,4 @@
--- `user`, `role`, `end-all`, `nouser`, `norole`. Assumes nothing.
+-- `user`, `role`, `norole`; `end-all` and `nouser` as request 4 has them. Assumes nothing.
 use mathlib.Core.Bool.{Bool, true, false, not, _&&_, _||_}
 use mathlib.Core.List.{List, [], _∷_}
 use Prim.Native.Nat.{ℕ, _+_, _-_}
