@@ -98,9 +98,9 @@ pub record TwoMoves : Type 0 where
 
   -- On any policy, done or refused, it leaves every session as it was, and every `check` is told the same.
   pub untouched : (m : Model) (u : User) (s : ℕ) → (step m (NoUser u) [] .after .sessions s ≡ m .sessions s) × ChecksAlike m (step m (NoUser u) [] .after) s
-  -- On a reachable policy a user with an open session is refused with 16, and nothing is changed, the user's assignments included;
+  -- On a reachable policy `nouser` of a user with an open session is refused with 16, and nothing is changed, the user's assignments included;
   pub sixteen : (m : Model) → Reachable m → (u : User) (s : ℕ) → OpenOf m (u .number) s → step m (NoUser u) [] ≡ refused 16 m
-  -- and one with none can be deleted, user 0 too.
+  -- and of one with none it is done, of user 0 too.
   pub deletable : (m : Model) → Reachable m → (u : User) → m .users (u .number) ≡ true → ((s : ℕ) → OpenOf m (u .number) s → ⊥) → step m (NoUser u) [] .answer ≡ 0
   -- ---- a session that another teacher is watching
 

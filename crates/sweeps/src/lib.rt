@@ -130,7 +130,13 @@ fn open_of(session: SessionRecord, u: User) -> bool
     let live = session.live;
     let owner = session.owner;
     let user = u.number as u64;
-    live && owner == user
+    if !live {
+        return false;
+    }
+    if owner == user {
+        return true;
+    }
+    false
 }
 
 // The sessions of the user end; another's stay.
