@@ -2,7 +2,7 @@
 use mathlib.Core.Bool.{Bool, true, false}
 use mathlib.Core.List.{List, [], _∷_, List·Memᴰ, List·Memᴰ·head}
 use mathlib.Core.Logic.{_⊎_, inl, inr, _↔_}
-use mathlib.Core.Path.{_≡_, refl, sym, ap, _∙_}
+use mathlib.Core.Path.{_≡_, refl}
 use Prim.Native.Nat.{ℕ, _≤_, _<_, _^_}
 use native.Mathlib.Omega.{arith}
 use native.Mathlib.Decide.{decLt}
@@ -10,19 +10,19 @@ use lib.ListN.{length}
 use Rattle.roleset.specs.Bounded.{some}
 use Rattle.roleset.specs.Roles.{has, common, count}
 use Rattle.roleset.proofs.BoundedLaws.{clash, some-intro, some-elim}
-use Rattle.roleset.proofs.Laws.{member-small, has-none, common-small}
+use Rattle.roleset.proofs.Laws.{member-small, common-small}
 use Rattle.hierarchy.proofs.WalkLaws.{reach-small}
-use Rattle.model.specs.Model.{Model, RoleSet, Session}
-use Rattle.model.specs.Words.{authorised, breaks, breaksSome, staticBroken, dynamicBroken}
-use Rattle.model.specs.Sound.{Shape, Sound}
+use Rattle.model.specs.Model.{Model, RoleSet, Session, withSessions}
+use Rattle.model.specs.Words.{authorised, counted, breaks, breaksSome, staticBroken, dynamicBroken}
+use Rattle.model.specs.Sound.{Existing, Shape, Sound}
 use Rattle.model.specs.declared.Kind.{Kind}
 use Rattle.model.specs.declared.Kind.the-variants.{Static, Dynamic}
 use Rattle.sound.proofs.Breaking.{breaks-exact, some-breaks}
-use Rattle.sound.proofs.Carried.{no-session-beyond}
+use Rattle.sound.proofs.Counted.{counted-small, none-counted-beyond}
 use Rattle.sound.proofs.Members.{common-member, common-intro}
 use Rattle.sound.proofs.Words.{InOrBelow, reached-exact}
 use Rattle.demands.specs.Authorised.{Authorised}
-use Rattle.demands.specs.Broken.{Broken, StaticBroken, DynamicBroken}
+use Rattle.demands.specs.Broken.{Broken, StaticBroken, Counts, DynamicBroken}
 use Rattle.demands.specs.Demand2.{wouldBreak}
 use Rattle.demands.specs.Many.{AsMany}
 use Rattle.demands.proofs.Counts.{many-in}
@@ -87,6 +87,10 @@ nobody-beyond m x u r l a = go (a .through)
     go (inl h) = let small = x .users u (x .assignees u r h) in omega arith
     go (inr q) = let small = x .users u (x .assignees u (q .0) (q .1)) in omega arith
 
+-- The computed set of the roles that a dynamic set counts of a session is what the words say, whatever the sessions.
+pub counts : (m : Model) → Shape m → (sessions : ℕ → Session) (s : ℕ) → Existing m (sessions s .active) → (r : ℕ) → (has (counted (withSessions m sessions) s) r ≡ true) ↔ Counts (withSessions m sessions) s r
+counts m x sessions s e r = ((λ h. h), (λ h. h))
+
 two-above : {n : ℕ} → 2 ≤ n → 0 < n
 two-above h = omega arith
 
@@ -96,4 +100,4 @@ static-exact m x = broken-exact 256 (m .ssd) (authorised m) (Authorised m) (λ u
 
 pub dynamic-exact : (m : Model) → Shape m → (wouldBreak Dynamic m ≡ true) ↔ DynamicBroken m
 unfolding dynamicBroken
-dynamic-exact m x = broken-exact 64 (m .dsd) (λ s. m .sessions s .active) (λ s r. has (m .sessions s .active) r ≡ true) (λ s. x .sessions s .active .small) (λ s r. ((λ h. h), (λ h. h))) (λ s r l h. clash (has (m .sessions s .active) r) h (ap (λ (y : Session). has (y .active) r) (no-session-beyond m x s l) ∙ has-none r)) (λ name. x .dsd name .named) (λ name t. two-above (x .dsd name .atLeast t))
+dynamic-exact m x = broken-exact 64 (m .dsd) (counted m) (Counts m) (λ s. counted-small m s (x .sessions s .active .small)) (λ s. counts m x (m .sessions) s (x .sessions s .active)) (λ s r l h. clash (has (counted m s) r) (counts m x (m .sessions) s (x .sessions s .active) r .1 h) (none-counted-beyond m x (m .juniors) (m .lineCount) s l r)) (λ name. x .dsd name .named) (λ name t. two-above (x .dsd name .atLeast t))

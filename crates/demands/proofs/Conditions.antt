@@ -3,21 +3,21 @@ use mathlib.Core.Bool.{Bool, true, false, not, _&&_, _||_}
 use mathlib.Core.List.{List, [], _∷_, List·Memᴰ, List·Memᴰ·head, List·Memᴰ·tail, List·Memᴰ·not-nil}
 use mathlib.Core.Logic.{_⊎_, inl, inr, ⊎-elim, _↔_}
 use mathlib.Core.Path.{_≡_, refl, sym, ap, subst, _∙_}
-use Prim.Native.Nat.{ℕ, _+_, _≤_, _<_, _^_}
+use Prim.Native.Nat.{ℕ, _+_, _≤_, _<_}
 use native.Mathlib.Omega.{arith}
 use lib.Dec.{eqb, leb, ltb}
 use borrow.Author.Tests.{leb-true, le-leb, leb-false, eqb-true, eq-eqb, not-false}
 use Rattle.roleset.specs.Bounded.{some}
 use Rattle.roleset.specs.Roles.{has, with, none, count, subset}
 use Rattle.roleset.proofs.BoundedLaws.{clash, or-cases, or-left, or-right, and-left, and-right, and-both, some-elim, some-intro}
-use Rattle.roleset.proofs.Laws.{has-none, those-small, with-small}
+use Rattle.roleset.proofs.Laws.{has-none}
 use Rattle.hierarchy.specs.Lines.{Inherits}
 use Rattle.model.specs.Lists.{someFrom, listed, setOf}
 use Rattle.model.specs.Model.{Model, RoleSet, Session, put}
 use Rattle.model.specs.Sheet.{Told}
 use Rattle.model.specs.Sound.{Existing, SetShape, Sound}
 use Rattle.model.specs.Step.{step}
-use Rattle.model.specs.Words.{dynamicBroken}
+use Rattle.model.specs.Words.{counted, dynamicBroken}
 use Rattle.model.specs.commands.Assigning.{assigned, granted}
 use Rattle.model.specs.commands.Users.{inSet, withoutUser}
 use Rattle.model.specs.commands.Inheriting.{lined}
@@ -29,7 +29,8 @@ use Rattle.model.specs.declared.Kind.{Kind}
 use Rattle.model.specs.declared.Kind.the-variants.{Static, Dynamic}
 use Rattle.model.proofs.Puts.{put-other}
 use Rattle.sound.proofs.Asked.{opened-asks-all, room-asks-all}
-use Rattle.sound.proofs.Carried.{existing-at, no-session-beyond, member-there}
+use Rattle.sound.proofs.Carried.{existing-with, existing-at, no-session-beyond, member-there}
+use Rattle.sound.proofs.Counted.{counts-none, counted-small}
 use Rattle.sound.proofs.Changing.{lines-shape, assigned-shape, sets-shape}
 use Rattle.sound.proofs.Inheriting.{circle-exact}
 use Rattle.sound.proofs.Members.{or-no}
@@ -40,12 +41,12 @@ use Rattle.sound.proofs.Shedding.{inSet-exact}
 use Rattle.sound.proofs.Sheet.{AllClear, clear-done, settle-done}
 use Rattle.sound.proofs.Words.{InOrBelow, listed-within}
 use Rattle.demands.specs.Authorised.{Authorised}
-use Rattle.demands.specs.Broken.{Broken, StaticBroken, DynamicBroken}
+use Rattle.demands.specs.Broken.{StaticBroken, Counts, DynamicBroken}
 use Rattle.demands.specs.Conditions.{Conditions, OfLists, OfPolicy, NoneBefore}
 use Rattle.demands.specs.Demand2.{Applies, place, refusals, results, effect, wouldBreak, OpenOf, hasOpen}
 use Rattle.demands.specs.Demand3.{Rules}
 use Rattle.demands.specs.Many.{AsMany}
-use Rattle.demands.proofs.Broken.{authorises, broken-exact, static-exact, dynamic-exact}
+use Rattle.demands.proofs.Broken.{authorises, counts, broken-exact, static-exact, dynamic-exact}
 use Rattle.demands.proofs.Cases.{asked, asked-applies, applies-asked, not-yet, earlier, all-clear}
 use Rattle.demands.proofs.Commands.{shown}
 use Rattle.demands.proofs.Counts.{many-in, assignments-many, grants-many, lines-many, sessions-many}
@@ -104,9 +105,12 @@ module _ (m : Model) (s : Sound m) where
   static-same : (after : Model) → after .ssd ≡ m .ssd → after .assigned ≡ m .assigned → after .juniors ≡ m .juniors → after .roles ≡ m .roles → StaticBroken after → ⊥
   static-same after sets table = static-fewer after sets (λ u r h. sym (ap (λ (x : ℕ → ℕ). has (x u) r) table) ∙ h)
 
-  -- and what leaves the sessions and the dynamic sets alone keeps the dynamic rule.
-  dynamic-same : (after : Model) → after .dsd ≡ m .dsd → after .sessions ≡ m .sessions → DynamicBroken after → ⊥
-  dynamic-same after sets sessions b = rules m s .dynamic (subst (λ (x : ℕ → Session). Broken (m .dsd) (λ k r. has (x k .active) r ≡ true)) sessions (subst (λ (x : ℕ → RoleSet). Broken x (λ k r. has (after .sessions k .active) r ≡ true)) sets b))
+  -- and what leaves the sessions, the lines, the roles and the dynamic sets alone keeps the dynamic rule.
+  dynamic-same : (after : Model) → after .dsd ≡ m .dsd → after .sessions ≡ m .sessions → after .juniors ≡ m .juniors → after .roles ≡ m .roles → DynamicBroken after → ⊥
+  dynamic-same after sets sessions lines roles b = rules m s .dynamic (record { who = b .who; name = b .name; there = sym (ap (λ (x : ℕ → RoleSet). x (b .name) .there) sets) ∙ b .there; many = subst (λ (x : ℕ → RoleSet). AsMany (x (b .name) .card) (λ r. (has (x (b .name) .roles) r ≡ true) × Counts m (b .who) r)) sets (many-map (λ r h. (h .0, as-before r (h .1))) (b .many)) })
+    where
+      as-before : (r : ℕ) → Counts after (b .who) r → Counts m (b .who) r
+      as-before r h = sym (ap (λ (x : ℕ → Session). has (x (b .who) .active) r) sessions) ∙ h
 
   -- a rule that is not on the list, and that the command cannot break
   off : {b : Bool} {Rule : Type 0} → b ≡ false → (Rule → ⊥) → (b ≡ true) ↔ Rule
@@ -140,15 +144,21 @@ module _ (m : Model) (s : Sound m) where
 
   -- ---- one session changed
 
-  session-exact : (n k : ℕ) (new : Session) → 64 ≤ n → k < n → new .active < 2 ^ 64 → (some n (dynamicBroken (sessionSet m k new)) ≡ true) ↔ DynamicBroken (sessionSet m k new)
+  session-exact : (n k : ℕ) (new : Session) → 64 ≤ n → k < n → Existing m (new .active) → (some n (dynamicBroken (sessionSet m k new)) ≡ true) ↔ DynamicBroken (sessionSet m k new)
   unfolding dynamicBroken
-  session-exact n k new most l small =
-      broken-exact n (m .dsd) (λ i. put (m .sessions) k new i .active) (λ i r. has (put (m .sessions) k new i .active) r ≡ true)
-      (put-all (λ i x. x .active < 2 ^ 64) (m .sessions) k new small (λ i d. s .shape .sessions i .active .small))
-      (λ i r. ((λ h. h), (λ h. h)))
-      (λ i r beyond h. clash (has (put (m .sessions) k new i .active) r) h (ap (λ (x : Session). has (x .active) r) (put-other (m .sessions) k new i (λ e. omega arith) ∙ no-session-beyond m (s .shape) i (omega arith)) ∙ has-none r))
+  session-exact n k new most l existing =
+      broken-exact n (m .dsd) (counted after) (Counts after)
+      (λ i. counted-small after i (exist i .small))
+      (λ i. counts m (s .shape) (put (m .sessions) k new) i (exist i))
+      (λ i r beyond h. clash (has (counted after i) r) (counts m (s .shape) (put (m .sessions) k new) i (exist i) r .1 h) (counts-none after i (λ j. ap (λ (x : Session). has (x .active) j) (put-other (m .sessions) k new i (λ e. omega arith) ∙ no-session-beyond m (s .shape) i (omega arith)) ∙ has-none j) r))
       (λ name. s .shape .dsd name .named)
       (λ name t. let two = s .shape .dsd name .atLeast t in omega arith)
+    where
+      after : Model
+      after = sessionSet m k new
+
+      exist : (i : ℕ) → Existing m (put (m .sessions) k new i .active)
+      exist = put-all (λ i x. Existing m (x .active)) (m .sessions) k new existing (λ i d. s .shape .sessions i .active)
 
   -- ---- every command
 
@@ -212,13 +222,13 @@ module _ (m : Model) (s : Sound m) where
   unfolding refusals effect withoutUser granted assigned lined opened activeSet setOf
   dynamic-asked (AddUser u) list none = kept-done 11 DynamicBroken dynamic-keeps (AddUser u) list refl refl none
   dynamic-asked (AddRole r) list none = kept-done 11 DynamicBroken dynamic-keeps (AddRole r) list refl refl none
-  dynamic-asked (NoUser u) list none = off refl (dynamic-same (effect m (NoUser u) list) refl refl)
+  dynamic-asked (NoUser u) list none = off refl (dynamic-same (effect m (NoUser u) list) refl refl refl refl)
   dynamic-asked (NoRole r) list none = kept-done 11 DynamicBroken dynamic-keeps (NoRole r) list refl refl none
-  dynamic-asked (Assign u r) list none = off refl (dynamic-same (effect m (Assign u r) list) refl refl)
+  dynamic-asked (Assign u r) list none = off refl (dynamic-same (effect m (Assign u r) list) refl refl refl refl)
   dynamic-asked (Deassign u r) list none = kept-done 11 DynamicBroken dynamic-keeps (Deassign u r) list refl refl none
-  dynamic-asked (Grant op obj r) list none = off refl (dynamic-same (effect m (Grant op obj r) list) refl refl)
+  dynamic-asked (Grant op obj r) list none = off refl (dynamic-same (effect m (Grant op obj r) list) refl refl refl refl)
   dynamic-asked (Revoke op obj r) list none = kept-done 11 DynamicBroken dynamic-keeps (Revoke op obj r) list refl refl none
-  dynamic-asked (Inherit a b) list none = off refl (dynamic-same (effect m (Inherit a b) list) refl refl)
+  dynamic-asked (Inherit a b) list none = off refl (rules m s .dynamic)
   dynamic-asked (Disinherit a b) list none = kept-done 11 DynamicBroken dynamic-keeps (Disinherit a b) list refl refl none
   dynamic-asked (MakeSet Static name n) list none = kept-done 11 DynamicBroken dynamic-keeps (MakeSet Static name n) list refl refl none
   dynamic-asked (MakeSet Dynamic name n) list none = set-exact Dynamic (name .number) (aSet n (setOf list)) (made-shape (name .number) n list (not-yet 11 1 _ none (omega arith)) (not-yet 11 2 _ none (omega arith)) (not-yet 11 7 _ none (omega arith)))
@@ -228,11 +238,12 @@ module _ (m : Model) (s : Sound m) where
   dynamic-asked (DropMember kind name r) list none = kept-done 11 DynamicBroken dynamic-keeps (DropMember kind name r) list refl refl none
   dynamic-asked (SetCardinality Static name n) list none = kept-done 11 DynamicBroken dynamic-keeps (SetCardinality Static name n) list refl refl none
   dynamic-asked (SetCardinality Dynamic name n) list none = set-exact Dynamic (name .number) (aSet n (m .dsd (name .number) .roles)) (sized-shape Dynamic (name .number) n (not-yet 11 2 _ none (omega arith)) (not-yet 11 7 _ none (omega arith)))
-  dynamic-asked (OpenSession u) list none = session-exact 65 (lowestFree m) (openFor (u .number) (setOf list)) (omega arith) (omega (arith, lowest-within m)) (those-small (listed list))
+  dynamic-asked (OpenSession u) list none = session-exact 65 (lowestFree m) (openFor (u .number) (setOf list)) (omega arith) (omega (arith, lowest-within m)) (listed-existing m list (not-false (subset (setOf list) (m .roles)) (or-no (not (m .users (u .number))) (not (subset (setOf list) (m .roles))) (not-yet 11 2 (refusals m (OpenSession u) list) none (omega arith)) .1)))
   dynamic-asked (Activate u k r) list none =
       let there = or-no (not (m .users (u .number))) (not (m .sessions (k .number) .live) || not (has (m .roles) (r .number))) (not-yet 11 2 (refusals m (Activate u k r) list) none (omega arith)) in
-      let live = not-false (m .sessions (k .number) .live) (or-no (not (m .sessions (k .number) .live)) (not (has (m .roles) (r .number))) (there .1) .0) in
-      session-exact 64 (k .number) _ (omega arith) (s .shape .sessions (k .number) .numbered live) (with-small (m .sessions (k .number) .active) (r .number))
+      let both = or-no (not (m .sessions (k .number) .live)) (not (has (m .roles) (r .number))) (there .1) in
+      let live = not-false (m .sessions (k .number) .live) (both .0) in
+      session-exact 64 (k .number) _ (omega arith) (s .shape .sessions (k .number) .numbered live) (existing-with m (m .sessions (k .number) .active) (r .number) (s .shape .sessions (k .number) .active) (not-false (has (m .roles) (r .number)) (both .1)))
   dynamic-asked (DropActive u k r) list none = kept-done 11 DynamicBroken dynamic-keeps (DropActive u k r) list refl refl none
   dynamic-asked (EndSession u k) list none = kept-done 11 DynamicBroken dynamic-keeps (EndSession u k) list refl refl none
   dynamic-asked (EndAll u) list none = kept-done 11 DynamicBroken dynamic-keeps (EndAll u) list refl refl none

@@ -18,6 +18,10 @@ pub record Broken (sets : ℕ → RoleSet) (Holds : ℕ → ℕ → Type 0) : Ty
 abbrev pub StaticBroken : Model → Type 0
 StaticBroken m = Broken (m .ssd) (Authorised m)
 
+-- A dynamic set counts the role r of session s: the session has it active.
+abbrev pub Counts : Model → ℕ → ℕ → Type 0
+Counts m s r = has (m .sessions s .active) r ≡ true
+
 -- Some session has as many roles of a dynamic set active as its cardinality.
 abbrev pub DynamicBroken : Model → Type 0
-DynamicBroken m = Broken (m .dsd) (λ s r. has (m .sessions s .active) r ≡ true)
+DynamicBroken m = Broken (m .dsd) (Counts m)

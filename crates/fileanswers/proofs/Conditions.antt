@@ -17,14 +17,15 @@ use Rattle.hierarchy.specs.Walks.{circular}
 use Rattle.hierarchy.proofs.CircleLaws.{circular-sound, circular-complete}
 use Rattle.hierarchy.proofs.WalkLaws.{reach-small}
 use Rattle.model.specs.Model.{Model, RoleSet, Session}
-use Rattle.model.specs.Words.{authorised, breaks, breaksSome, staticBroken, dynamicBroken}
+use Rattle.model.specs.Words.{authorised, counted, breaks, breaksSome, staticBroken, dynamicBroken}
 use Rattle.model.specs.commands.Sets.{setsOf, badCardinality}
 use Rattle.model.specs.declared.Kind.{Kind}
 use Rattle.model.specs.declared.Kind.the-variants.{Static, Dynamic}
 use Rattle.policyform.specs.Form.{SetForm, Formed}
 use Rattle.policyform.specs.Rules.{badSet, unauthorised}
 use Rattle.demands.specs.Authorised.{InOrBelow, Authorised}
-use Rattle.demands.specs.Broken.{StaticBroken, DynamicBroken}
+use Rattle.sound.proofs.Counted.{counted-small}
+use Rattle.demands.specs.Broken.{StaticBroken, Counts, DynamicBroken}
 use Rattle.demands.specs.Many.{AsMany}
 use Rattle.demands.proofs.Broken.{broken-exact}
 use Rattle.demands.proofs.Counts.{many-in}
@@ -132,9 +133,16 @@ module _ (m : Model) (f : Formed m) where
 
   -- ---- 11
 
+  counts-formed : (s r : ℕ) → (has (counted m s) r ≡ true) ↔ Counts m s r
+  counts-formed s r = ((λ e. e), (λ e. e))
+
+  -- no session past 63 has one
+  counts-live : (s r : ℕ) → 64 ≤ s → Counts m s r → ⊥
+  counts-live s r l h = let open-one = f .sessions s .numbered (live-active s r h) in omega arith
+
   pub dynamic-says : (BadCardinality m → ⊥) → (some 64 (dynamicBroken m) ≡ true) ↔ DynamicBroken m
   unfolding dynamicBroken
-  dynamic-says fine = broken-exact 64 (m .dsd) (λ s. m .sessions s .active) (λ s r. has (m .sessions s .active) r ≡ true) (λ s. f .sessions s .active .small) (λ s r. ((λ e. e), (λ e. e))) (λ s r l h. let open-one = f .sessions s .numbered (live-active s r h) in let z : ⊥ = omega arith in z) (λ name. f .dsd name .named) (at-least fine Dynamic)
+  dynamic-says fine = broken-exact 64 (m .dsd) (counted m) (Counts m) (λ s. counted-small m s (f .sessions s .active .small)) counts-formed counts-live (λ name. f .dsd name .named) (at-least fine Dynamic)
 
   abbrev pub asked : Asked m
   asked = record { circle = circular (m .juniors); circle-says = circle-says; cardinality = badSet (m .ssd) || badSet (m .dsd); cardinality-says = cardinality-says; owner = unauthorised m; owner-says = owner-says; static = some 256 (staticBroken m); static-says = static-says; dynamic = some 64 (dynamicBroken m); dynamic-says = dynamic-says }

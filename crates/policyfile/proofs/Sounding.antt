@@ -16,8 +16,8 @@ use Rattle.model.specs.Words.{authorised, staticBroken, dynamicBroken}
 use Rattle.model.specs.Sound.{SetShape, Shape, Sound}
 use Rattle.model.specs.commands.Sets.{badCardinality}
 use Rattle.sound.proofs.Sheet.{AllClear, clear-done, done-clear}
-use Rattle.sound.proofs.Breaking.{none-held}
 use Rattle.sound.proofs.Carried.{lines-small, no-session-beyond}
+use Rattle.sound.proofs.Counted.{dynamic-beyond}
 use Rattle.sound.proofs.Inheriting.{static-beyond}
 use Rattle.policyform.specs.Form.{SetForm, Formed}
 use Rattle.policyform.specs.Rules.{badSet, unauthorised, rulesBroken}
@@ -95,7 +95,7 @@ module _ (m : Model) (f : Formed m) (e : verdict (rulesBroken m) ≡ 0) where
     where
       go : Dec (s < 64) → dynamicBroken m s ≡ false
       go (yes l) = some-false 64 (dynamicBroken m) (clear .1 .1 .1 .1 .0) s l
-      go (no l) = none-held (m .dsd) (m .sessions s .active) (λ n. shape .dsd n .atLeast) (λ k. ap (λ (x : Session). has (x .active) k) (no-session-beyond m shape s (omega arith)) ∙ has-none k)
+      go (no l) = dynamic-beyond m shape (m .juniors) (m .lineCount) s (omega arith)
 
   -- A model that may stand in a file and breaks no rule is sound.
   pub formed-sound : Sound m

@@ -19,6 +19,7 @@ use Rattle.model.specs.declared.Kind.the-variants.{Static, Dynamic}
 use Rattle.model.proofs.Puts.{put-same, put-other}
 use Rattle.sound.proofs.Breaking.{some-breaks, none-breaks, each-unbroken}
 use Rattle.sound.proofs.Changing.{held}
+use Rattle.sound.proofs.Counted.{countedOf}
 use Rattle.sound.proofs.Sets.{askedOf, broken-some, rule-of}
 use Rattle.sound.proofs.Sessions.{lowest-free, lowest-within}
 
@@ -40,7 +41,7 @@ assign-asks-all m s u r user = one-asked 256 (staticBroken (assigned m u r)) u (
 pub session-asks-all : (m : Model) → Sound m → (n k : ℕ) (new : Session) → k < n → dynamicBroken (sessionSet m k new) k ≡ some n (dynamicBroken (sessionSet m k new))
 unfolding dynamicBroken
 session-asks-all m s n k new l = one-asked n (dynamicBroken (sessionSet m k new)) k l
-    (λ i d. ap (λ (y : Session). breaksSome (m .dsd) (y .active)) (put-other (m .sessions) k new i d) ∙ s .rules .dynamic i)
+    (λ i d. ap (λ (y : Session). breaksSome (m .dsd) (countedOf m y)) (put-other (m .sessions) k new i d) ∙ s .rules .dynamic i)
 
 -- `session`: so it is of the session to be opened, among the 64 that there may be and, where all of these are open, the one that has no room,
 pub opened-asks-all : (m : Model) → Sound m → (u roles : ℕ) → dynamicBroken (opened m u roles) (lowestFree m) ≡ some 65 (dynamicBroken (opened m u roles))

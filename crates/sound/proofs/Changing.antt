@@ -17,6 +17,7 @@ use Rattle.model.specs.declared.Kind.the-variants.{Static, Dynamic}
 use Rattle.sound.proofs.Counting.{no-fuller}
 use Rattle.sound.proofs.Breaking.{some-breaks-fewer}
 use Rattle.sound.proofs.Carried.{existing-in, set-in, session-in}
+use Rattle.sound.proofs.Counted.{countedOf, dynamic-fewer}
 
 -- ---- the shape of a model whose users and roles are those of another, or more
 
@@ -54,7 +55,7 @@ same-shape : (m m′ : Model) (x : Shape m) → m .users ≡ m′ .users → m .
 same-shape m m′ x users roles n =
     named-shape m m′ (λ r e. sym (ap (λ (k : ℕ). has k r) roles) ∙ e) (λ u e. sym (ap (λ (f : ℕ → Bool). f u) users) ∙ e) (subst (λ (k : ℕ). k < 2 ^ 64) roles (x .roles)) (λ u e. x .users u (ap (λ (f : ℕ → Bool). f u) users ∙ e)) n
 
--- the roles that a set of a kind counts: those that user i is authorised for, or those that session i has active
+-- the roles that a set of a kind counts: those that user i is authorised for, or those that count of session i
 abbrev pub held : Kind → Model → ℕ → ℕ
 held Static m u = authorised m u
 held Dynamic m s = counted m s
@@ -94,15 +95,15 @@ module _ (m : Model) (s : Sound m) where
         rules = record { acyclic = s .rules .acyclic; active = s .rules .active; static = s .rules .static; dynamic = s .rules .dynamic };
       }
 
-  -- More lines, n of them, without a circle, that break the static rule for no user.
-  pub lines-changed : (new : ℕ → ℕ) (n : ℕ) → ((a j : ℕ) → line (m .juniors) a j ≡ true → line new a j ≡ true) → ((a j : ℕ) → line new a j ≡ true → has (m .roles) a ≡ true) → ((a : ℕ) → Existing m (new a)) → n ≡ standing 64 new → n ≤ 512 → Acyclic new → ((u : ℕ) → staticBroken (withLines m new n) u ≡ false) → Sound (withLines m new n)
-  unfolding dynamicBroken assignments grants linesStanding
-  lines-changed new n grown seniors existing counted few acyclic unbroken =
+  -- More lines, n of them, without a circle, that break the static rule for no user and the dynamic rule in no session.
+  pub lines-changed : (new : ℕ → ℕ) (n : ℕ) → ((a j : ℕ) → line (m .juniors) a j ≡ true → line new a j ≡ true) → ((a j : ℕ) → line new a j ≡ true → has (m .roles) a ≡ true) → ((a : ℕ) → Existing m (new a)) → n ≡ standing 64 new → n ≤ 512 → Acyclic new → ((u : ℕ) → staticBroken (withLines m new n) u ≡ false) → ((k : ℕ) → dynamicBroken (withLines m new n) k ≡ false) → Sound (withLines m new n)
+  unfolding assignments grants linesStanding
+  lines-changed new n grown seniors existing counted few acyclic unbroken separate =
       record {
         shape = lines-shape m (s .shape) new n seniors existing;
         limits = record { assigned = s .limits .assigned; granted = s .limits .granted; lined = rw counted at few };
         counted = record { assigned = s .counted .assigned; granted = s .counted .granted; lined = counted };
-        rules = record { acyclic = acyclic; active = λ k r e. let from = m .assigned (m .sessions k .owner) in reach-grows (m .juniors) new from from (λ a j la lj. grown a j) (λ a la h. h) r (s .rules .active k r e); static = unbroken; dynamic = s .rules .dynamic };
+        rules = record { acyclic = acyclic; active = λ k r e. let from = m .assigned (m .sessions k .owner) in reach-grows (m .juniors) new from from (λ a j la lj. grown a j) (λ a la h. h) r (s .rules .active k r e); static = unbroken; dynamic = separate };
       }
 
   -- More assignments, n of them, of existing roles to existing users, that break the static rule for no user.
@@ -129,7 +130,7 @@ module _ (m : Model) (s : Sound m) where
       }
 
   -- Other sessions, that obey the dynamic rule and have only roles active for which their owner is authorised.
-  pub sessions-changed : (new : ℕ → Session) → ((k : ℕ) → SessionShape m k (new k)) → ((k r : ℕ) → has (new k .active) r ≡ true → has (authorised m (new k .owner)) r ≡ true) → ((k : ℕ) → breaksSome (m .dsd) (new k .active) ≡ false) → Sound (withSessions m new)
+  pub sessions-changed : (new : ℕ → Session) → ((k : ℕ) → SessionShape m k (new k)) → ((k r : ℕ) → has (new k .active) r ≡ true → has (authorised m (new k .owner)) r ≡ true) → ((k : ℕ) → breaksSome (m .dsd) (countedOf m (new k)) ≡ false) → Sound (withSessions m new)
   unfolding staticBroken dynamicBroken assignments grants linesStanding
   sessions-changed new shaped active unbroken =
       let x = s .shape in
@@ -178,7 +179,7 @@ module _ (m : Model) (s : Sound m) where
               acyclic = remove-acyclic lines (s .rules .acyclic);
               active = still;
               static = λ u. some-breaks-fewer (m .ssd) (authorised m′ u) (authorised m u) (λ r lr. reach-grows (m′ .juniors) (m .juniors) (m′ .assigned u) (m .assigned u) (λ a j la lj. lines a j) (λ a la. assigned u a) r) (s .rules .static u);
-              dynamic = λ k. some-breaks-fewer (m .dsd) (m′ .sessions k .active) (m .sessions k .active) (λ r lr. actives k r) (s .rules .dynamic k);
+              dynamic = λ k. dynamic-fewer m m′ k lines (actives k) (s .rules .dynamic k);
             };
       }
     where

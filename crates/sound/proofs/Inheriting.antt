@@ -16,7 +16,7 @@ use Rattle.hierarchy.specs.Walks.{reach}
 use Rattle.hierarchy.proofs.InheritsLaws.{add-acyclic}
 use Rattle.hierarchy.proofs.WalkLaws.{reach-sound, reach-complete}
 use Rattle.model.specs.Model.{Model, put, standing}
-use Rattle.model.specs.Words.{breaksSome, staticBroken, linesStanding}
+use Rattle.model.specs.Words.{breaksSome, staticBroken, dynamicBroken, linesStanding}
 use Rattle.model.specs.Sound.{Shape, Sound}
 use Rattle.model.specs.commands.Inheriting.{lined, wouldCircle, inherit}
 use Rattle.sound.proofs.Sheet.{kept}
@@ -55,7 +55,7 @@ static-beyond m x lines u l = none-held (m .ssd) (reach lines (m .assigned u)) (
 
 -- `inherit senior junior` keeps a sound model sound.
 pub inherit-sound : (m : Model) (senior junior : ℕ) → Sound m → Sound (inherit m senior junior .after)
-unfolding inherit lined staticBroken linesStanding
+unfolding inherit lined staticBroken dynamicBroken linesStanding
 inherit-sound m senior junior s =
     kept Sound _ m _ _ refl s (λ c.
     let range = or-no (leb 64 senior) (leb 64 junior) (c .0) in
@@ -72,7 +72,8 @@ inherit-sound m senior junior s =
     more
     (omega arith)
     (lined-acyclic m s senior junior small (c .1 .1 .1 .0))
-    (λ u. for-all u (c .1 .1 .1 .1 .0) (decLt u 256)))
+    (λ u. for-all u (c .1 .1 .1 .1 .0) (decLt u 256))
+    (s .rules .dynamic))
   where
     for-all : (u : ℕ) → some 256 (staticBroken (lined m senior junior)) ≡ false → Dec (u < 256) → staticBroken (lined m senior junior) u ≡ false
     for-all u e (yes l) = some-false 256 (staticBroken (lined m senior junior)) e u l

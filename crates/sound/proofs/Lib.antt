@@ -5,6 +5,7 @@ pub mod Members
 pub mod Counting
 pub mod Breaking
 pub mod Carried
+pub mod Counted
 pub mod Changing
 pub mod Empty
 pub mod Users

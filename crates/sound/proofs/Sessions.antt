@@ -12,7 +12,7 @@ use Rattle.roleset.specs.Bounded.{bit, tally}
 use Rattle.roleset.specs.Roles.{has, with, without, subset}
 use Rattle.roleset.proofs.BoundedLaws.{clash}
 use Rattle.roleset.proofs.Laws.{has-none, member-small, subset-true}
-use Rattle.model.specs.Model.{Model, Session, closedSession, put}
+use Rattle.model.specs.Model.{Model, Session, closedSession, put, withSessions}
 use Rattle.model.specs.Words.{authorised, breaksSome, dynamicBroken, sessionsOpen}
 use Rattle.model.specs.Lists.{setOf}
 use Rattle.model.specs.Sound.{SessionShape, Sound}
@@ -21,9 +21,9 @@ use Rattle.sound.proofs.Sheet.{kept, settle-same}
 use Rattle.model.proofs.Puts.{put-same}
 use Rattle.sound.proofs.Put.{put-all}
 use Rattle.sound.proofs.Members.{or-no, with-member, without-member}
-use Rattle.sound.proofs.Breaking.{some-breaks-fewer}
 use Rattle.sound.proofs.Carried.{existing-with, existing-without, session-none}
 use Rattle.sound.proofs.Changing.{sessions-changed}
+use Rattle.sound.proofs.Counted.{countedOf, closed-breaks-none, dynamic-fewer}
 use Rattle.sound.proofs.Sets.{listed-existing}
 
 -- ---- the lowest free session number
@@ -89,18 +89,18 @@ lowest-free m h = go (free-or-full (m .sessions) 64 0)
 -- ---- the commands
 
 -- One session changed, to one of the right shape that obeys the rules, leaves a sound model sound.
-pub session-put-sound : (m : Model) (k : ℕ) (new : Session) → Sound m → SessionShape m k new → ((r : ℕ) → has (new .active) r ≡ true → has (authorised m (new .owner)) r ≡ true) → breaksSome (m .dsd) (new .active) ≡ false → Sound (sessionSet m k new)
+pub session-put-sound : (m : Model) (k : ℕ) (new : Session) → Sound m → SessionShape m k new → ((r : ℕ) → has (new .active) r ≡ true → has (authorised m (new .owner)) r ≡ true) → breaksSome (m .dsd) (countedOf m new) ≡ false → Sound (sessionSet m k new)
 unfolding dynamicBroken
 session-put-sound m k new s shaped active unbroken =
     sessions-changed m s (put (m .sessions) k new)
     (put-all (λ i y. SessionShape m i y) (m .sessions) k new shaped (λ i d. s .shape .sessions i))
     (put-all (λ i y. (r : ℕ) → has (y .active) r ≡ true → has (authorised m (y .owner)) r ≡ true) (m .sessions) k new active (λ i d. s .rules .active i))
-    (put-all (λ i y. breaksSome (m .dsd) (y .active) ≡ false) (m .sessions) k new unbroken (λ i d. s .rules .dynamic i))
+    (put-all (λ i y. breaksSome (m .dsd) (countedOf m y) ≡ false) (m .sessions) k new unbroken (λ i d. s .rules .dynamic i))
 
 -- the dynamic rule as it is asked of a session that is changed
-asked-here : (m : Model) (k : ℕ) (new : Session) → dynamicBroken (sessionSet m k new) k ≡ breaksSome (m .dsd) (new .active)
+asked-here : (m : Model) (k : ℕ) (new : Session) → dynamicBroken (sessionSet m k new) k ≡ breaksSome (m .dsd) (countedOf m new)
 unfolding dynamicBroken
-asked-here m k new = ap (λ (y : Session). breaksSome (m .dsd) (y .active)) (put-same (m .sessions) k new)
+asked-here m k new = ap (λ (y : Session). breaksSome (m .dsd) (countedOf m y)) (put-same (m .sessions) k new)
 
 -- `session u r..` keeps a sound model sound.
 pub session-sound : (m : Model) (u : ℕ) (list : List ℕ) → Sound m → Sound (session m u list .after)
@@ -147,11 +147,14 @@ drop-sound m u k r s =
     kept Sound _ m _ _ refl s (λ c.
     let missing = or-no (not (m .users u)) (not (m .sessions k .live) || not (has (m .roles) r)) (c .1 .0) in
     let live = not-false (m .sessions k .live) (or-no (not (m .sessions k .live)) (not (has (m .roles) r)) (missing .1) .0) in
-    session-put-sound m k (record { live = m .sessions k .live; owner = m .sessions k .owner; active = without (m .sessions k .active) r }) s
+    session-put-sound m k new s
     (record { closed = λ e. clash (m .sessions k .live) live e; numbered = x .numbered; owned = x .owned; active = existing-without m (m .sessions k .active) r (x .active) })
     (λ j e. s .rules .active k j (without-member (m .sessions k .active) r j e .1))
-    (some-breaks-fewer (m .dsd) (without (m .sessions k .active) r) (m .sessions k .active) (λ j l e. without-member (m .sessions k .active) r j e .1) (s .rules .dynamic k)))
+    (dynamic-fewer m (withSessions m (λ i. new)) k (λ a j e. e) (λ j e. without-member (m .sessions k .active) r j e .1) (s .rules .dynamic k)))
   where
+    new : Session
+    new = record { live = m .sessions k .live; owner = m .sessions k .owner; active = without (m .sessions k .active) r }
+
     x : SessionShape m k (m .sessions k)
     x = s .shape .sessions k
 
@@ -161,7 +164,7 @@ unfolding end dynamicBroken
 end-sound m u k s =
     kept Sound _ m _ _ refl s (λ c. session-put-sound m k closedSession s (session-none m k)
     (λ r e. clash (has 0 r) e (has-none r))
-    (some-breaks-fewer (m .dsd) 0 (m .sessions k .active) (λ r l e. clash (has 0 r) e (has-none r)) (s .rules .dynamic k)))
+    (closed-breaks-none m (s .shape)))
 
 -- The question `check` changes nothing,
 pub check-changes-nothing : (m : Model) (k op obj : ℕ) → check m k op obj .after ≡ m

@@ -1,7 +1,7 @@
 -- The five commands of SSD sets and the five of DSD sets keep a model sound: one law for both kinds. Assumes nothing.
 use mathlib.Core.Bool.{true, false, not, _&&_}
 use mathlib.Core.List.{List}
-use mathlib.Core.Path.{_≡_, refl, sym, ap, _∙_}
+use mathlib.Core.Path.{_≡_, refl, sym, _∙_}
 use Prim.Native.Nat.{ℕ, _≤_, _<_}
 use native.Mathlib.Omega.{arith}
 use native.Mathlib.Decide.{decLt}
@@ -10,8 +10,8 @@ use borrow.Author.Tests.{leb-false, ltb-false, not-false}
 use Rattle.roleset.specs.Bounded.{some}
 use Rattle.roleset.specs.Roles.{has, with, without, subset, count}
 use Rattle.roleset.proofs.BoundedLaws.{clash, some-false}
-use Rattle.roleset.proofs.Laws.{has-none, those-small, member-small, subset-true, count-mono}
-use Rattle.model.specs.Model.{Model, RoleSet, Session, absentSet, put}
+use Rattle.roleset.proofs.Laws.{those-small, member-small, subset-true, count-mono}
+use Rattle.model.specs.Model.{Model, RoleSet, absentSet, put}
 use Rattle.model.specs.Words.{breaks, breaksSome, staticBroken, dynamicBroken}
 use Rattle.model.specs.Lists.{listed, setOf, someFrom}
 use Rattle.model.specs.Sound.{Existing, SetShape, Shape, Sound}
@@ -22,8 +22,9 @@ use Rattle.sound.proofs.Sheet.{kept}
 use Rattle.sound.proofs.Put.{put-all}
 use Rattle.sound.proofs.Members.{or-no, with-old, without-old}
 use Rattle.sound.proofs.Breaking.{breaks-fewer, nothing-breaks, none-breaks, each-unbroken}
-use Rattle.sound.proofs.Carried.{existing-with, existing-without, set-none, nobody-assigned, no-user-beyond, no-session-beyond, nothing-reached}
+use Rattle.sound.proofs.Carried.{existing-with, existing-without, set-none, nobody-assigned, no-user-beyond, nothing-reached}
 use Rattle.sound.proofs.Changing.{held, sets-changed}
+use Rattle.sound.proofs.Counted.{none-counted-beyond}
 
 -- ---- what the two kinds share
 
@@ -38,10 +39,10 @@ unfolding broken
 broken-some Static m set = refl
 broken-some Dynamic m set = refl
 
--- Nobody is authorised for a role, and no session has one active, beyond those numbers.
+-- Nobody is authorised for a role, and none of a session's counts, beyond those numbers.
 pub none-beyond : (kind : Kind) (m : Model) → Shape m → (i : ℕ) → askedOf kind ≤ i → (r : ℕ) → has (held kind m i) r ≡ false
 none-beyond Static m x u l = nothing-reached (m .juniors) (m .assigned u) (nobody-assigned m x u (no-user-beyond m x u l))
-none-beyond Dynamic m x s l = λ r. ap (λ (y : Session). has (y .active) r) (no-session-beyond m x s l) ∙ has-none r
+none-beyond Dynamic m x s l = none-counted-beyond m x (m .juniors) (m .lineCount) s l
 
 -- The sets of a kind have their shape,
 pub shape-of : (kind : Kind) (m : Model) → Shape m → (n : ℕ) → SetShape m n (setsOf kind m n)

@@ -20,7 +20,7 @@ use Rattle.sound.proofs.Put.{put-all}
 use Rattle.sound.proofs.Members.{with-old, and-no}
 use Rattle.sound.proofs.Counting.{one-emptied}
 use Rattle.sound.proofs.Carried.{role-small, existing-none, existing-in, set-in, session-none, closed-idle}
-use Rattle.sound.proofs.Breaking.{some-breaks-fewer}
+use Rattle.sound.proofs.Counted.{countedOf, closed-breaks-none}
 use Rattle.sound.proofs.Changing.{names-changed, sessions-changed, fewer-sound}
 
 -- `user u` keeps a sound model sound.
@@ -62,7 +62,7 @@ endAll-sound m u s =
     (λ c. sessions-changed m s (λ k. endedOf u (m .sessions k))
     (λ k. ended-all (SessionShape m k) u (m .sessions k) (session-none m k) (λ e. s .shape .sessions k))
     (λ k r. ended-all (λ x. has (x .active) r ≡ true → has (authorised m (x .owner)) r ≡ true) u (m .sessions k) (λ e. clash (has 0 r) e (has-none r)) (λ e. s .rules .active k r))
-    (λ k. ended-all (λ x. breaksSome (m .dsd) (x .active) ≡ false) u (m .sessions k) (some-breaks-fewer (m .dsd) 0 (m .sessions k .active) (λ r l e. clash (has 0 r) e (has-none r)) (s .rules .dynamic k)) (λ e. s .rules .dynamic k)))
+    (λ k. ended-all (λ x. breaksSome (m .dsd) (countedOf m x) ≡ false) u (m .sessions k) (closed-breaks-none m (s .shape)) (λ e. s .rules .dynamic k)))
 
 -- after it the user has no open session
 pub none-open : (m : Model) (u : ℕ) → hasOpen (allEnded m u) u ≡ false
