@@ -161,6 +161,12 @@ static int inherit(struct engine *e, unsigned senior, unsigned junior) {
         if (e->assigned[u] & above) held |= gained;
         if (breaks(e->ssd, held)) return STATIC;
     }
+    for (int k = 0; k < 64; k++) {
+        if (!e->sessions[k].live) continue;
+        u64 held = reached(e, e->sessions[k].active);
+        if (e->sessions[k].active & above) held |= gained;
+        if (breaks(e->dsd, held)) return DYNAMIC;
+    }
     if (e->lines >= 512) return FULL;
     e->juniors[senior] |= one(junior);
     e->lines++;
@@ -232,7 +238,7 @@ static int ascending(const u16 *list, unsigned n) {
 static int set_rule(const struct engine *e, int dynamic, u64 roles, unsigned card) {
     if (dynamic) {
         for (int k = 0; k < 64; k++)
-            if (e->sessions[k].live && count(e->sessions[k].active & roles) >= card) return DYNAMIC;
+            if (e->sessions[k].live && count(reached(e, e->sessions[k].active) & roles) >= card) return DYNAMIC;
         return DONE;
     }
     for (int u = 0; u < 256; u++)
@@ -311,7 +317,7 @@ static int open_session(struct engine *e, unsigned u, const u16 *list, unsigned 
     }
     if (!e->users[u] || roles & ~e->roles) return MISSING;
     if (roles & ~reached(e, e->assigned[u])) return NOT_AUTHORISED;
-    if (breaks(e->dsd, roles)) return DYNAMIC;
+    if (breaks(e->dsd, reached(e, roles))) return DYNAMIC;
     unsigned free = 0;
     while (free < 64 && e->sessions[free].live) free++;
     if (free == 64) return FULL;
@@ -335,7 +341,7 @@ static int activate(struct engine *e, unsigned u, unsigned x, unsigned r) {
     if (s->owner != u) return OTHER_OWNER;
     if (has(s->active, r)) return ALREADY;
     if (!has(reached(e, e->assigned[u]), r)) return NOT_AUTHORISED;
-    if (breaks(e->dsd, s->active | one(r))) return DYNAMIC;
+    if (breaks(e->dsd, reached(e, s->active | one(r)))) return DYNAMIC;
     s->active |= one(r);
     return DONE;
 }
@@ -570,7 +576,7 @@ static int rules(struct engine *e) {
     for (int u = 0; u < 256; u++)
         if (held[u] && breaks(e->ssd, held[u])) return STATIC;
     for (int k = 0; k < 64; k++)
-        if (e->sessions[k].live && breaks(e->dsd, e->sessions[k].active)) return DYNAMIC;
+        if (e->sessions[k].live && breaks(e->dsd, reached(e, e->sessions[k].active))) return DYNAMIC;
     return DONE;
 }
 
@@ -698,6 +704,7 @@ static int of_lines(struct engine *e, unsigned m, unsigned depth, unsigned b) {
     case 33: return inherit(e, b * 4, b * 4 + 3);
     case 34: return inherit(e, b * 4 + 3, b * 4 + 2);
     case 35: return disinherit(e, s, r);
+    case 36: return inherit(e, b * 4 + 3, (b + 1) * 4 + 2);
     default: return DONE;
     }
 }

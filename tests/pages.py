@@ -10,7 +10,7 @@
 - docs/STORY.md: its lines with examples/story.script; its sentences with the comments above the statements that it names.
 - Every example line of these pages, and every exercise, is run and its answer compared.
 - The files that these pages and README.md name are there.
-- README.md's scripts, examples/tour.txt, examples/story.txt and examples/leaver.txt, and the scripts that crates/transcripts proves something of, with
+- README.md's scripts, the scripts told in examples/ (tour.txt, story.txt, leaver.txt, student.txt), and those that crates/transcripts proves something of, with
   examples/.
 """
 import re
@@ -314,16 +314,16 @@ def check_readme():
     holds("README.md does not name examples/first.script", "`examples/first.script`" in page)
 
 
-def check_leaver():
+def check_shown(heading, name):
     """The lines of README.md that matter, as the script has them, in their order."""
-    page = block(read("README.md"), r"## A student leaves\n", r"\n## ")
-    lines, printed, _ = example("leaver")
+    page = block(read("README.md"), rf"## {heading}\n", r"\n## ")
+    lines, printed, _ = example(name)
     told = iter(zip(lines, printed))
     shown = [columns(line) for line in page.split("\n") if line.startswith("    ")]
-    holds("README.md shows no line of examples/leaver.script", shown)
+    holds(f"README.md shows no line of examples/{name}.script", shown)
     for row in shown:
-        holds(f"README.md: `{row[0]}` is not answered {row[1]} in examples/leaver.script, after the line above", tuple(row[:2]) in told)
-    holds("README.md does not name examples/leaver.script", "`examples/leaver.script`" in page)
+        holds(f"README.md: `{row[0]}` is not answered {row[1]} in examples/{name}.script, after the line above", tuple(row[:2]) in told)
+    holds(f"README.md does not name examples/{name}.script", f"`examples/{name}.script`" in page)
 
 
 def check_told(name):
@@ -366,12 +366,15 @@ def main():
         check_citations(page)
         check_files(page)
     check_readme()
-    check_leaver()
+    check_shown("A student leaves", "leaver")
+    check_shown("Two senior roles", "student")
     check_told("story")
     check_told("leaver")
+    check_told("student")
     check_tour()
     check_proved("crates/transcripts/specs/Story.antt", "story", "story")
     check_proved("crates/transcripts/specs/Leaver.antt", "leaver", "leaver")
+    check_proved("crates/transcripts/specs/Student.antt", "student", "student")
     check_proved("crates/transcripts/specs/Program.antt", "example", "paper")
     for fault in faults:
         print("pages: " + fault)

@@ -112,7 +112,7 @@ fn compare_file(program: &Program, file: &File, tally: &mut Tally) -> Option<()>
     }
     tally.event(file.event);
     let answer = expected.split(|&byte| byte == b'\n').next().unwrap_or_default();
-    tally.file(String::from_utf8_lossy(answer).parse().expect("an answer is a number"));
+    tally.file(&file.bytes, String::from_utf8_lossy(answer).parse().expect("an answer is a number"));
     Some(())
 }
 

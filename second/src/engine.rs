@@ -124,6 +124,11 @@ impl RoleSet {
     pub fn broken_by(&self, roles: &BTreeSet<Role>) -> bool {
         self.held(roles) >= usize::from(self.cardinality)
     }
+
+    /// Whether one more of the set's roles would break its rule.
+    pub fn one_below(&self, roles: &BTreeSet<Role>) -> bool {
+        self.held(roles) + 1 == usize::from(self.cardinality)
+    }
 }
 
 // What the paper's words mean.
@@ -212,17 +217,23 @@ impl State {
         self.sessions.values().any(|session| !session.active.is_subset(&self.authorised_roles(session.owner)))
     }
 
+    /// The roles that a set counts: for each user those authorised (SSD), for each session the effective ones (DSD: "a session may
+    /// have fewer than n effective roles of a dynamic set").
+    pub fn counted(&self, kind: Kind) -> Vec<BTreeSet<Role>> {
+        match kind {
+            Kind::Ssd => self.users.iter().map(|&user| self.authorised_roles(user)).collect(),
+            Kind::Dsd => self.sessions.values().map(|session| self.effective_roles(session)).collect(),
+        }
+    }
+
     /// Whether the rule of some set of the kind is broken: for some user (SSD) or in some session (DSD).
     pub fn rule_broken(&self, kind: Kind) -> bool {
-        let sets = self.sets(kind);
-        if sets.is_empty() {
-            return false;
-        }
-        let breaks = |roles: &BTreeSet<Role>| sets.values().any(|set| set.broken_by(roles));
-        match kind {
-            Kind::Ssd => self.users.iter().any(|&user| breaks(&self.authorised_roles(user))),
-            Kind::Dsd => self.sessions.values().any(|session| breaks(&session.active)),
-        }
+        !self.sets(kind).is_empty() && self.counted(kind).iter().any(|roles| self.rule_broken_by(kind, roles))
+    }
+
+    /// Whether the rule of some set of the kind is broken where these roles are counted.
+    pub fn rule_broken_by(&self, kind: Kind, roles: &BTreeSet<Role>) -> bool {
+        self.sets(kind).values().any(|set| set.broken_by(roles))
     }
 
     fn refuse_if_rule_broken(&self, kind: Kind) -> Result<(), Refusal> {
@@ -378,6 +389,7 @@ impl State {
         let mut after = self.clone();
         after.lines.insert((senior, junior));
         after.refuse_if_rule_broken(Kind::Ssd)?;
+        after.refuse_if_rule_broken(Kind::Dsd)?;
         refuse_if(self.lines.len() >= MOST_LINES, Full)?;
         Ok(after)
     }
@@ -450,11 +462,12 @@ impl State {
         self.need_user(owner)?;
         active.iter().try_for_each(|&role| self.need_role(role))?;
         refuse_if(!active.is_subset(&self.authorised_roles(owner)), NotAuthorised)?;
-        refuse_if(self.dsd.values().any(|set| set.broken_by(&active)), DynamicBroken)?;
+        let session = Session { owner, active };
+        refuse_if(self.rule_broken_by(Kind::Dsd, &self.effective_roles(&session)), DynamicBroken)?;
         let mut numbers = (0..=SessionNumber::HIGHEST).map(SessionNumber);
         let free = numbers.find(|number| !self.sessions.contains_key(number)).ok_or(Full)?;
         let mut after = self.clone();
-        after.sessions.insert(free, Session { owner, active });
+        after.sessions.insert(free, session);
         Ok((after, free.0))
     }
 

@@ -1,6 +1,9 @@
-//! What a comparison must reach: the pairs of word and answer that the paper lists, and the events named here.
+//! What a comparison must reach: the pairs of word and answer that the paper lists, and the events named here and in `dynamic`.
 
-use crate::engine::{numbers, Role, State, MOST_ASSIGNMENTS, MOST_GRANTS, MOST_LINES};
+mod dynamic;
+
+use crate::engine::{numbers, Kind, Role, State, MOST_ASSIGNMENTS, MOST_GRANTS, MOST_LINES};
+use crate::policy_file::state_in;
 use crate::script::{first_word, parse, Reply};
 use crate::words::{Takes, Word, WORDS};
 use std::collections::{BTreeMap, BTreeSet};
@@ -39,7 +42,7 @@ const EVENTS: &[&str] = &[
     "room freed in a full table of sessions is used again",
     "a session number lower than one in use is given",
     "a user holds one role fewer than an SSD set's cardinality",
-    "a session has one role fewer active than a DSD set's cardinality",
+    "a session has one effective role fewer than a DSD set's cardinality",
     "a set has all its roles as its cardinality",
     "deassign: a session sheds",
     "deassign: a session keeps the role named",
@@ -60,6 +63,23 @@ const EVENTS: &[&str] = &[
     "inherit: the line was implied already",
     "inherit: 6 through a longer chain",
     "check: yes through an inherited role alone",
+    "session: 9 where 11 applies too",
+    "session: 11 while 64 are open, though the active roles alone keep the rule",
+    "activate: 9 where 11 applies too",
+    "activate: 11 because of roles that the role named inherits",
+    "activate: 11 because of roles that those active before inherit",
+    "activate: done one below the cardinality, as the role counted already",
+    "inherit: 6 where 11 applies too",
+    "inherit: 10 where 11 applies too",
+    "inherit: 11 while 512 lines stand",
+    "inherit: 11 where the senior is not active, but inherited",
+    "inherit: 11 because of roles that the junior inherits",
+    "inherit: 11 for a session while those of another user keep the rule",
+    "inherit: 11 for session 0 alone",
+    "inherit: 11 for session 63 alone",
+    "inherit: 11 for DSD set 15 alone",
+    "inherit: done up to one below the cardinality, with the senior active",
+    "disinherit: a line that had 11 is done after it",
     "a list of 2,048 permissions",
     "a list of 256 users",
     "a list of 64 roles",
@@ -114,6 +134,10 @@ const EVENTS: &[&str] = &[
     "file: an active role not authorised",
     "file: a static rule broken",
     "file: a dynamic rule broken",
+    "file: a dynamic rule broken by inherited roles",
+    "file: a small hierarchy under a DSD set",
+    "file: 9 where 11 applies too",
+    "file: 10 where 11 applies too",
     "file: several faults at once",
     "file: any number replaced",
     "file: any byte replaced",
@@ -133,11 +157,15 @@ const TABLES: [(usize, &str, &str); 4] = [
 pub struct Tally {
     pairs: BTreeMap<(&'static str, u8), u64>,
     events: BTreeMap<&'static str, u64>,
+    /// How often another count than a DSD rule's would give another answer.
+    other_counts: BTreeMap<(&'static str, &'static str), u64>,
     pub lines: u64,
     /// The tables that have been full in the script at hand.
     been_full: BTreeSet<&'static str>,
     /// The users that 16 kept in the script at hand, and the word that ended the last session of each.
     kept: BTreeMap<u16, Option<&'static str>>,
+    /// The lines that had 11 since a command other than `disinherit` was done in the script at hand.
+    had_11: BTreeSet<Vec<u8>>,
 }
 
 /// All pairs that the paper lists, with the places that the word has.
@@ -177,8 +205,11 @@ impl Tally {
         *self.pairs.entry((row, answer)).or_default() += 1;
     }
 
-    pub fn file(&mut self, answer: u8) {
+    pub fn file(&mut self, file: &[u8], answer: u8) {
         self.pair(FILE, answer);
+        if let Some(state) = state_in(file) {
+            self.dynamic_file(&state, answer);
+        }
     }
 
     pub fn long_script(&mut self) {
@@ -189,6 +220,7 @@ impl Tally {
     pub fn begin_script(&mut self) {
         self.been_full.clear();
         self.kept.clear();
+        self.had_11.clear();
     }
 
     /// Counts a line and what it did.
@@ -219,6 +251,7 @@ impl Tally {
             }
             _ => {}
         }
+        self.dynamic_line(before, line, (word.text, &asked), reply);
         if let Some(after) = &reply.after {
             self.tables(before, after);
             self.change(word.text, &asked, before, after, &reply.results);
@@ -299,13 +332,14 @@ impl Tally {
 
     /// How close the rules of a state are to being broken.
     pub fn edges(&mut self, state: &State) {
-        for set in state.ssd.values() {
-            let edge = state.users.iter().any(|&user| set.held(&state.authorised_roles(user)) + 1 == usize::from(set.cardinality));
-            self.event_if(edge, "a user holds one role fewer than an SSD set's cardinality");
-        }
-        for set in state.dsd.values() {
-            let edge = state.sessions.values().any(|one| set.held(&one.active) + 1 == usize::from(set.cardinality));
-            self.event_if(edge, "a session has one role fewer active than a DSD set's cardinality");
+        for (kind, event) in [
+            (Kind::Ssd, "a user holds one role fewer than an SSD set's cardinality"),
+            (Kind::Dsd, "a session has one effective role fewer than a DSD set's cardinality"),
+        ] {
+            let counted = state.counted(kind);
+            for set in state.sets(kind).values() {
+                self.event_if(counted.iter().any(|roles| set.one_below(roles)), event);
+            }
         }
         let mut sets = state.ssd.values().chain(state.dsd.values());
         self.event_if(
@@ -322,7 +356,9 @@ impl Tally {
         let not_listed =
             found.difference(&wanted).map(|(row, answer)| format!("CAME UP, BUT IS NOT LISTED: {row}: answer {answer}"));
         let events = EVENTS.iter().filter(|event| !self.events.contains_key(*event)).map(|event| format!("NEVER CAME UP: {event}"));
-        never.chain(not_listed).chain(events).collect()
+        let counts = dynamic::events().filter(|event| !self.other_counts.contains_key(event));
+        let counts = counts.map(|(row, event)| format!("NEVER CAME UP: {row}: {event}"));
+        never.chain(not_listed).chain(events).chain(counts).collect()
     }
 
     pub fn print(&self) {
@@ -343,6 +379,9 @@ impl Tally {
         println!();
         for event in EVENTS {
             println!("{:>7}  {event}", self.events.get(event).unwrap_or(&0));
+        }
+        for (row, event) in dynamic::events() {
+            println!("{:>7}  {row}: {event}", self.other_counts.get(&(row, event)).unwrap_or(&0));
         }
         println!();
         println!("listed, but out of reach:");

@@ -1,7 +1,7 @@
 //! Random policy files: as saved from random states, and damaged in every way that the paper answers.
 
 use crate::engine::{numbers, Kind, Object, Operation, Role, RoleSet, Session, SessionNumber, SetName, State, User};
-use crate::policy_file::{save, sections_of, write, write_section, Sections};
+use crate::policy_file::{save, sections_of, state_of, write, write_section, Sections};
 use crate::policy_file::{ASSIGNMENTS, DSD, GRANTS, LINES, ROLES, SESSIONS, SSD, USERS};
 use crate::random::Random;
 use std::collections::{BTreeMap, BTreeSet};
@@ -38,11 +38,20 @@ const DAMAGES: &[(&str, Damage)] = &[
     ("file: an active role not authorised", active_not_authorised),
     ("file: a static rule broken", static_broken),
     ("file: a dynamic rule broken", dynamic_broken),
+    ("file: a dynamic rule broken by inherited roles", dynamic_broken_by_inherited),
     ("file: several faults at once", several),
 ];
 
 /// Faults that are answered 6 to 11, and so can stand beside each other.
-const FAULTS: &[Damage] = &[circle, self_line, cardinality_out_of_shape, active_not_authorised, static_broken, dynamic_broken];
+const FAULTS: &[Damage] = &[
+    circle,
+    self_line,
+    cardinality_out_of_shape,
+    active_not_authorised,
+    static_broken,
+    dynamic_broken,
+    dynamic_broken_by_inherited,
+];
 
 /// Changes the bytes of a file.
 type Spoiling = fn(&mut Random, &Sections) -> Option<Vec<u8>>;
@@ -133,6 +142,7 @@ pub fn fixed_files() -> Vec<File> {
     for section in [LINES, ASSIGNMENTS, GRANTS] {
         files.push(file(write(&with_one_more(&mut random, section)), "file: one entry more than a table holds"));
     }
+    files.extend(hierarchies().iter().map(|state| file(save(state), "file: a small hierarchy under a DSD set")));
     for (length, event) in [
         (65_535, "file: bytes left over"),
         (65_536, "file: 65,536 bytes"),
@@ -183,6 +193,30 @@ pub fn small_state() -> State {
         dsd: BTreeMap::from([(set_name(3), RoleSet { cardinality: 2, roles: roles([1, 2]) })]),
         sessions: BTreeMap::from([(session_number(0), Session { owner: user(7), active: roles([0, 2]) })]),
     }
+}
+
+/// States with lines from 2 over 1 to 0 and a DSD set. The first obeys every rule, though its sessions together have both roles of
+/// the set. The second breaks the DSD rule by an inherited role, and the others a lower one too (10 and 9).
+pub fn hierarchies() -> [State; 4] {
+    let set = |members| RoleSet { cardinality: 2, roles: roles(members) };
+    let session = |active: &[u16]| Session { owner: user(7), active: roles(active.iter().copied()) };
+    let kept = State {
+        users: BTreeSet::from([user(7), user(9)]),
+        roles: roles(0..4),
+        lines: BTreeSet::from([(role(2), role(1)), (role(1), role(0))]),
+        assignments: BTreeSet::from([(user(7), role(2)), (user(7), role(3))]),
+        dsd: BTreeMap::from([(set_name(15), set([0, 3]))]),
+        sessions: BTreeMap::from([(session_number(0), session(&[1, 2])), (session_number(63), session(&[3]))]),
+        ..State::default()
+    };
+    let broken = State {
+        dsd: BTreeMap::from([(set_name(15), set([0, 2]))]),
+        sessions: BTreeMap::from([(session_number(63), session(&[2]))]),
+        ..kept.clone()
+    };
+    let static_too = State { ssd: BTreeMap::from([(set_name(0), set([0, 2]))]), ..broken.clone() };
+    let not_authorised_too = State { assignments: BTreeSet::from([(user(9), role(2))]), ..broken.clone() };
+    [kept, broken, static_too, not_authorised_too]
 }
 
 /// A state that fills every table. Its sets have all roles and a cardinality of 64, so that a session has at most 63 active.
@@ -290,13 +324,9 @@ fn add_random_set(random: &mut Random, state: &mut State, kind: Kind) {
     }
 }
 
-/// The most roles of the set that a user is authorised for, or that a session has active.
+/// The most roles of the set that count together, of one user or in one session.
 fn most_held(state: &State, kind: Kind, set: &RoleSet) -> usize {
-    match kind {
-        Kind::Ssd => state.users.iter().map(|&user| set.held(&state.authorised_roles(user))).max(),
-        Kind::Dsd => state.sessions.values().map(|session| set.held(&session.active)).max(),
-    }
-    .unwrap_or(0)
+    state.counted(kind).iter().map(|roles| set.held(roles)).max().unwrap_or(0)
 }
 
 // Damage to the entries.
@@ -484,11 +514,30 @@ fn add_broken_set(random: &mut Random, sections: &mut Sections, section: usize) 
     }
     let count = random.from(2, held.len());
     let members = random.some(&held, count);
-    let name = random.number(0, SetName::HIGHEST);
-    let cardinality = random.from(2, members.len()) as u16;
-    sections[section].retain(|entry| entry[0] != name);
-    insert(&mut sections[section], [&[name, cardinality], members.as_slice()].concat());
+    let cardinality = random.from(2, members.len());
+    put_set(random, &mut sections[section], cardinality, &members);
     Some(())
+}
+
+/// A set of effective roles of one session, some of them inherited, that no session breaks by its active roles alone.
+fn dynamic_broken_by_inherited(random: &mut Random, sections: &mut Sections) -> Option<()> {
+    let state = state_of(sections)?;
+    let session = random.any(state.sessions.values())?;
+    let effective = numbers(&state.effective_roles(session));
+    let count = random.from(2, effective.len().max(2));
+    let members = random.some(&effective, count);
+    let set = RoleSet { cardinality: 0, roles: roles(members.iter().copied()) };
+    let lowest = state.sessions.values().map(|session| set.held(&session.active)).max()?.max(1) + 1;
+    let cardinality = (lowest <= members.len()).then(|| random.from(lowest, members.len()))?;
+    put_set(random, &mut sections[DSD], cardinality, &members);
+    Some(())
+}
+
+/// Puts a set among the others, at a name drawn at random.
+fn put_set(random: &mut Random, sets: &mut Vec<Vec<u16>>, cardinality: usize, members: &[u16]) {
+    let name = random.number(0, SetName::HIGHEST);
+    sets.retain(|entry| entry[0] != name);
+    insert(sets, [&[name, cardinality as u16], members].concat());
 }
 
 fn several(random: &mut Random, sections: &mut Sections) -> Option<()> {

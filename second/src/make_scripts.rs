@@ -2,6 +2,7 @@
 
 mod flaws;
 mod numbers;
+mod seniors;
 mod themes;
 
 use crate::engine::State;

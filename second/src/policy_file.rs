@@ -42,7 +42,7 @@ pub fn save(state: &State) -> Vec<u8> {
 
 /// 14 for a file that is not of the form, then the lowest of 6, 7, 9, 10 and 11 that applies.
 pub fn load(file: &[u8]) -> Result<State, Refusal> {
-    let state = read(file).and_then(|sections| state_of(&sections)).ok_or(Refusal::Form)?;
+    let state = state_in(file).ok_or(Refusal::Form)?;
     if state.circle_stands() {
         Err(Refusal::Circle)
     } else if state.set_misshapen() {
@@ -56,6 +56,11 @@ pub fn load(file: &[u8]) -> Result<State, Refusal> {
     } else {
         Ok(state)
     }
+}
+
+/// The state that a file of the form describes, which may break the rules.
+pub fn state_in(file: &[u8]) -> Option<State> {
+    read(file).and_then(|sections| state_of(&sections))
 }
 
 pub fn sections_of(state: &State) -> Sections {
@@ -130,7 +135,7 @@ fn take(rest: &mut &[u8], count: usize) -> Option<Vec<u16>> {
 }
 
 /// The state that the entries describe; nothing for a number beyond its limit, a wrong order or a user or role not listed.
-fn state_of(sections: &Sections) -> Option<State> {
+pub fn state_of(sections: &Sections) -> Option<State> {
     let mut state = State::default();
     for entry in ascending(&sections[USERS], 1)? {
         state.users.insert(User::new(entry[0]).ok()?);

@@ -1,6 +1,6 @@
 //! The paper's own examples and those of the requests that change it, run by the second program.
 
-use crate::make_files::{fullest, small_state};
+use crate::make_files::{fullest, hierarchies, small_state};
 use crate::policy_file::{load, save, sections_of, write, ASSIGNMENTS, DSD, LINES, SESSIONS, SSD};
 use crate::words::{Takes, Word, WORDS};
 use crate::{engine::State, reload, script};
@@ -89,7 +89,70 @@ const READINGS: &[(&str, &str, &str, &str)] = &[
         "nouser 0; user 0; session 8; nouser 0; user 0; session 0; nouser 0; end 0 1; nouser 0; nouser 0; session-roles 0",
         "0; 0; 0 0; 0; 0; 0 1; 16; 0; 0; 2; 0",
     ),
+    (
+        "two senior roles do not give capture and release together",
+        "role 0; role 1; role 2; role 3; user 7; inherit 2 0; inherit 3 1; assign 7 2; assign 7 3; dsd 0 2 0 1; grant 1 5 0; \
+         grant 2 5 1",
+        "session 7 2 3; session 7 2; activate 7 0 3; activate 7 0 1; session-roles 0; check 0 1 5; check 0 2 5; session 7 3; \
+         drop 7 0 2; activate 7 0 3; check 0 1 5; check 0 2 5",
+        "11; 0 0; 11; 11; 0 2; 0 1; 0 0; 0 1; 0; 0; 0 0; 0 1",
+    ),
+    (
+        "a role active with its own junior counts beside it, and a role reached twice counts once",
+        "role 0; role 1; role 2; role 3; user 7; inherit 2 0; inherit 3 0; assign 7 2; assign 7 3; dsd 0 2 0 2; dsd 1 2 0 1",
+        "session 7 2; session 7 0; activate 7 0 2; activate 7 0 3; session-roles 0; nodsd 0; session 7 2 3; activate 7 1 0",
+        "11; 0 0; 11; 0; 0 0 3; 0; 0 1; 0",
+    ),
+    (
+        "inherit is asked of every session, and of those with a role above the senior",
+        "role 0; role 1; role 2; role 3; user 7; user 8; inherit 3 2; assign 7 3; assign 8 1; dsd 0 2 0 1; session 7 3; \
+         session 8 1",
+        "inherit 2 0; inherit 2 1; inherit 1 0; auth-roles 7; auth-roles 8; end 8 1; inherit 1 0; auth-roles 8; inherit 2 1; \
+         drop 7 0 3; inherit 2 1; activate 7 0 3; session-roles 0",
+        "0; 11; 11; 0 0 2 3; 0 1; 0; 0; 0 0 1; 11; 0; 0; 11; 0",
+    ),
+    (
+        "inherit: 6 and 10 before 11, and done one below the cardinality",
+        "role 0; role 1; role 2; user 7; inherit 1 0; assign 7 0; session 7 0; ssd 0 2 0 2; dsd 0 2 0 2; dsd 1 2 0 1",
+        "inherit 0 2; nossd 0; inherit 0 2; inherit 0 1; nodsd 0; dsd 0 3 0 1 2; inherit 0 2",
+        "10; 0; 11; 6; 0; 0; 0",
+    ),
+    (
+        "9 before 11, and assign does not ask the rule of a DSD set",
+        "role 0; role 1; role 2; user 7; inherit 2 0; assign 7 1; dsd 0 2 0 1; session 7 1",
+        "session 7 1 2; activate 7 0 2; assign 7 2; auth-roles 7; session 7 1 2; activate 7 0 2; session 7 2",
+        "9; 9; 0; 0 0 1 2; 11; 11; 0 1",
+    ),
+    (
+        "dsd, dsd-add and dsd-card count inherited roles, and those of a line taken away no more",
+        "role 0; role 1; role 2; role 3; user 7; inherit 2 1; inherit 1 0; assign 7 2; session 7 2",
+        "dsd 0 2 0 2; dsd 0 2 0 1; dsd 0 2 2 3; dsd-add 0 0; dsd-roles 0; dsd 1 3 0 2 3; dsd-card 1 2; dsd-count 1; \
+         disinherit 1 0; dsd-card 1 2; dsd-add 0 0; inherit 1 0",
+        "11; 11; 0; 11; 0 2 3; 0; 11; 0 3; 0; 0; 0; 11",
+    ),
 ];
+
+/// Name, lines to begin with that fill a table, lines after them, and the answers to these.
+fn full_tables() -> Vec<(&'static str, String, &'static str, &'static str)> {
+    let lines = &sections_of(&fullest())[LINES];
+    let roles: String = (0..64).map(|role| format!("role {role}; ")).collect();
+    let lines: String = lines.iter().map(|line| format!("inherit {} {}; ", line[0], line[1])).collect();
+    let seniors = "role 0; role 1; role 2; role 3; user 7; inherit 2 0; inherit 3 1; assign 7 2; assign 7 3; dsd 0 2 0 1";
+    vec![
+        (
+            "inherit: 11 before 12",
+            format!("{roles}{lines}user 7; assign 7 0; session 7 0; dsd 0 2 1 63"),
+            "inherit 1 63; inherit 63 62; nodsd 0; inherit 1 63",
+            "11; 12; 0; 12",
+        ),
+        (
+            "session: 11 before 12",
+            seniors.to_string() + &"; session 7 2".repeat(64),
+            "session 7 2 3; session 7 2; end 7 9; session 7 2 3; session 7 3",
+            "11; 12; 0; 11; 0 9",
+        ),
+    ]
+}
 
 /// Name, a damaged small file, and the answer.
 fn files() -> Vec<(&'static str, Vec<u8>, &'static str)> {
@@ -107,6 +170,7 @@ fn files() -> Vec<(&'static str, Vec<u8>, &'static str)> {
     several[DSD] = vec![vec![3, 65_535, 0, 2]];
     let misshapen_too = several.clone();
     several[LINES] = vec![vec![0, 2], vec![2, 0]];
+    let [_, broken_by_inherited, static_too, not_authorised_too] = hierarchies();
     vec![
         ("no bytes", Vec::new(), "14"),
         ("lines that make a circle", write(&with(LINES, &[&[0, 2], &[2, 0]])), "6"),
@@ -117,6 +181,9 @@ fn files() -> Vec<(&'static str, Vec<u8>, &'static str)> {
         ("an active role not authorised", write(&with(SESSIONS, &[&[0, 7, 1]])), "9"),
         ("a static rule broken", write(&with(SSD, &[&[0, 2, 0, 2]])), "10"),
         ("a dynamic rule broken", write(&with(DSD, &[&[3, 2, 0, 2]])), "11"),
+        ("a dynamic rule broken by an inherited role", save(&broken_by_inherited), "11"),
+        ("10 before 11 of an inherited role", save(&static_too), "10"),
+        ("9 before 11 of an inherited role", save(&not_authorised_too), "9"),
         ("10 before 11", write(&dynamic_and_static), "10"),
         ("9 before 10", write(&unauthorised_too), "9"),
         ("7 before 9", write(&misshapen_too), "7"),
@@ -171,11 +238,15 @@ pub fn selftest() -> bool {
     for (name, beginning, lines, answers) in READINGS {
         test(name, &run_after(beginning, lines), answers);
     }
+    for (name, beginning, lines, answers) in full_tables() {
+        test(name, &run_after(&beginning, lines), answers);
+    }
 
     for (name, bytes, answer) in files() {
         test(name, &hex(&reload(&bytes)), &format!("{answer}\\n"));
     }
-    for state in [State::default(), small_state(), fullest()] {
+    let [kept, ..] = hierarchies();
+    for state in [State::default(), small_state(), kept, fullest()] {
         let saved = save(&state);
         test("a saved state loads as it was", &hex(&saved), &load(&saved).map_or("refused".into(), |loaded| hex(&save(&loaded))));
         test("reload prints 0 and the file", &hex(&reload(&saved)), &("0\\n".to_string() + &hex(&saved)));

@@ -55,7 +55,7 @@ pub const WORDS: &[Word] = {
         word("deassign", &[User, Role], &[1, 2, 5], 6, Changes(|s, n| s.deassign(n[0], n[1]))),
         word("grant", &[Operation, Object, Role], &[1, 2, 4, 12], 15, Changes(|s, n| s.grant(n[0], n[1], n[2]))),
         word("revoke", &[Operation, Object, Role], &[1, 2, 5], 2, Changes(|s, n| s.revoke(n[0], n[1], n[2]))),
-        word("inherit", &[Role, Role], &[1, 2, 4, 6, 10, 12], 15, Changes(|s, n| s.inherit(n[0], n[1]))),
+        word("inherit", &[Role, Role], &[1, 2, 4, 6, 10, 11, 12], 15, Changes(|s, n| s.inherit(n[0], n[1]))),
         word("disinherit", &[Role, Role], &[1, 2, 5], 6, Changes(|s, n| s.disinherit(n[0], n[1]))),
         word("ssd", &[Ssd, Cardinality, Roles], &[1, 2, 4, 7, 10], 5, Changes(|s, n| s.add_set(K::Ssd, n[0], n[1], &n[2..]))),
         word("nossd", &[Ssd], &[1, 2], 2, Changes(|s, n| s.delete_set(K::Ssd, n[0]))),

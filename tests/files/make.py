@@ -102,3 +102,7 @@ keep('cardinality_65535', 7, build(roles=[0, 1], dsd=[(15, 65535, [0, 1])]))
 keep('unauthorised', 9, build(users=[7], roles=[0, 1], assigned=[(7, 0)], sessions=[(0, 7, [1])]))
 keep('static', 10, build(users=[7], roles=[0, 1, 2], lines=[(2, 0)], assigned=[(7, 1), (7, 2)], ssd=[(0, 2, [0, 1])]))
 keep('dynamic', 11, build(users=[7], roles=[0, 1], assigned=[(7, 0), (7, 1)], dsd=[(0, 2, [0, 1])], sessions=[(5, 7, [0, 1])]))
+# a session with two seniors active, 2 over 0 and 3 over 1: it loaded before request 2, and is 11 since; with the seniors in two sessions it loads
+seniors = dict(users=[7], roles=[0, 1, 2, 3], lines=[(2, 0), (3, 1)], assigned=[(7, 2), (7, 3)], grants=[(0, 0, 30), (1, 2, 30)], dsd=[(0, 2, [0, 1])])
+keep('dynamic_inherited', 11, build(**seniors, sessions=[(0, 7, [2, 3])]))
+keep('dynamic_in_two_sessions', 0, build(**seniors, sessions=[(0, 7, [2]), (1, 7, [3])]))

@@ -5,6 +5,7 @@ use Rattle.demands.proofs.Demand2.{demand2}
 use Rattle.demands.proofs.Demand3.{demand3}
 use Rattle.demands.proofs.ShorterSheet.{shorter-sheet}
 use Rattle.demands.proofs.TwoMoves.{two-moves}
+use Rattle.demands.proofs.EffectiveRoles.{effective-roles}
 use Rattle.demands.proofs.Conditions.{conditions}
 use Rattle.demands.proofs.Effects.{effects}
 use Rattle.demands.proofs.Reviews.{questions-demand}
@@ -16,7 +17,7 @@ use Rattle.fileanswers.proofs.Saving.{saves}
 use Rattle.filetables.proofs.PolicyBytes.{policy-bytes}
 use Rattle.transcripts.proofs.Desk.{desk}
 use Rattle.transcripts.proofs.LineForm.{line-forms}
-use Rattle.transcripts.proofs.Program.{program, story-holds, leaver-holds}
+use Rattle.transcripts.proofs.Program.{program, story-holds, leaver-holds, student-holds}
 use Rattle.transcripts.proofs.ScriptLines.{script-lines}
 use Rattle.wordsheet.proofs.WordSheet.{word-sheet}
 use Rattle.edges.proofs.Edges.{edges}
@@ -29,6 +30,7 @@ use Rattle.misreadings.proofs.Readings.{readings, wrong-rules}
 use Rattle.misreadings.proofs.ShutOut.{shut-out}
 use Rattle.misreadings.proofs.Reviewers.{reviewers-shut-out}
 use Rattle.misreadings.proofs.Deleting.{deleting-shut-out}
+use Rattle.misreadings.proofs.DynamicRule.{dynamic-shut-out}
 use Rattle.clibrary.proofs.Calling.{longest-answer}
 use Rattle.unique.proofs.Promises as promises
 use Rattle.unique.proofs.Handed.{owned}
@@ -86,6 +88,7 @@ claims =
       demand3 = demand3;
       shorter-sheet = shorter-sheet;
       two-moves = two-moves;
+      effective-roles = effective-roles;
       faithful = faithful;
       file-form = paper-form;
       loading = loading;
@@ -103,6 +106,7 @@ claims =
       long-scripts = long-scripts;
       story = story-holds;
       leaver = leaver-holds;
+      student = student-holds;
       bench-sheet = bench-sheet;
       readings = readings;
       inherited-grant = inherited-grant;
@@ -110,6 +114,7 @@ claims =
       shut-out = shut-out;
       reviewers-shut-out = reviewers-shut-out;
       deleting-shut-out = deleting-shut-out;
+      dynamic-shut-out = dynamic-shut-out;
       own-calls = own-calls;
       longest-answer = longest-answer;
       owned = owned;

@@ -6,11 +6,13 @@ use Prim.Native.Nat.{ℕ, _<_}
 use Rattle.numbers.specs.Answers.{numberOf, answerOf}
 use Rattle.numbers.specs.declared.Answer.{Answer}
 use Rattle.numbers.specs.declared.Named.the-variants.{Is}
+use Rattle.model.specs.Model.{Model}
 use Rattle.demands.specs.Demand1.{Demand1}
 use Rattle.demands.specs.Demand2.{Demand2}
 use Rattle.demands.specs.Demand3.{Demand3}
 use Rattle.demands.specs.ShorterSheet.{ShorterSheet}
 use Rattle.demands.specs.TwoMoves.{TwoMoves}
+use Rattle.demands.specs.EffectiveRoles.{EffectiveRoles}
 use Rattle.demands.specs.Conditions.{Conditions}
 use Rattle.demands.specs.Effects.{Effects}
 use Rattle.demands.specs.Reviews.{QuestionsDemand}
@@ -26,6 +28,7 @@ use Rattle.transcripts.specs.Program.{Program}
 use Rattle.transcripts.specs.ScriptLines.{ScriptLines}
 use Rattle.transcripts.specs.Story.{Story}
 use Rattle.transcripts.specs.Leaver.{Leaver}
+use Rattle.transcripts.specs.Student.{Student}
 use Rattle.wordsheet.specs.WordSheet.{WordSheet}
 use Rattle.edges.specs.Edges.{Edges}
 use Rattle.edges.specs.FullTables.{FullTables}
@@ -35,6 +38,7 @@ use Rattle.benchsheet.specs.BenchSheet.{Bench}
 use Rattle.misreadings.specs.Readings.{examples, answered, expected, InheritedGrant, WrongRules}
 use Rattle.misreadings.specs.ShutOut.{ShutOut, ReviewersShutOut}
 use Rattle.misreadings.specs.Deleting.{DeletingShutOut}
+use Rattle.misreadings.specs.DynamicRule.{DynamicShutOut}
 use Rattle.clibrary.specs.Calls.{LongestAnswer}
 use Rattle.unique.specs.Promises as promises
 use Rattle.unique.specs.Handed.{Owned}
@@ -99,6 +103,7 @@ pub record Claims : Type 0 where
   pub demand3 : Demand3
   pub shorter-sheet : ShorterSheet
   pub two-moves : TwoMoves
+  pub effective-roles : (m : Model) (list : List ℕ) (s x : ℕ) → EffectiveRoles m list s x
   -- ---- the policy file
   pub faithful : Faithful
   pub file-form : FileForm
@@ -118,6 +123,7 @@ pub record Claims : Type 0 where
   pub long-scripts : LongScripts
   pub story : Story
   pub leaver : Leaver
+  pub student : Student
   -- ---- the bench sheet, and what is shut out
   pub bench-sheet : Bench
   pub readings : answered examples ≡ expected examples
@@ -126,6 +132,7 @@ pub record Claims : Type 0 where
   pub shut-out : ShutOut
   pub reviewers-shut-out : ReviewersShutOut
   pub deleting-shut-out : DeletingShutOut
+  pub dynamic-shut-out : DynamicShutOut
   -- ---- the code's own calls, its own states, its buffers, and every number of its state
   pub own-calls : OwnCalls
   pub longest-answer : LongestAnswer

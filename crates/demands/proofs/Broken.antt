@@ -21,8 +21,8 @@ use Rattle.sound.proofs.Breaking.{breaks-exact, some-breaks}
 use Rattle.sound.proofs.Counted.{counted-small, none-counted-beyond}
 use Rattle.sound.proofs.Members.{common-member, common-intro}
 use Rattle.sound.proofs.Words.{InOrBelow, reached-exact}
-use Rattle.demands.specs.Authorised.{Authorised}
-use Rattle.demands.specs.Broken.{Broken, StaticBroken, Counts, DynamicBroken}
+use Rattle.demands.specs.Authorised.{Authorised, Effective}
+use Rattle.demands.specs.Broken.{Broken, StaticBroken, DynamicBroken}
 use Rattle.demands.specs.Demand2.{wouldBreak}
 use Rattle.demands.specs.Many.{AsMany}
 use Rattle.demands.proofs.Counts.{many-in}
@@ -88,8 +88,10 @@ nobody-beyond m x u r l a = go (a .through)
     go (inr q) = let small = x .users u (x .assignees u (q .0) (q .1)) in omega arith
 
 -- The computed set of the roles that a dynamic set counts of a session is what the words say, whatever the sessions.
-pub counts : (m : Model) → Shape m → (sessions : ℕ → Session) (s : ℕ) → Existing m (sessions s .active) → (r : ℕ) → (has (counted (withSessions m sessions) s) r ≡ true) ↔ Counts (withSessions m sessions) s r
-counts m x sessions s e r = ((λ h. h), (λ h. h))
+pub counts : (m : Model) → Shape m → (sessions : ℕ → Session) (s : ℕ) → Existing m (sessions s .active) → (r : ℕ) → (has (counted (withSessions m sessions) s) r ≡ true) ↔ Effective (withSessions m sessions) s r
+counts m x sessions s existing r =
+    let e = reached-exact m x (sessions s .active) existing r in
+    ((λ h. let p = e .0 h in record { exists = p .0; through = p .1 }), (λ a. e .1 (a .exists, a .through)))
 
 two-above : {n : ℕ} → 2 ≤ n → 0 < n
 two-above h = omega arith
@@ -100,4 +102,4 @@ static-exact m x = broken-exact 256 (m .ssd) (authorised m) (Authorised m) (λ u
 
 pub dynamic-exact : (m : Model) → Shape m → (wouldBreak Dynamic m ≡ true) ↔ DynamicBroken m
 unfolding dynamicBroken
-dynamic-exact m x = broken-exact 64 (m .dsd) (counted m) (Counts m) (λ s. counted-small m s (x .sessions s .active .small)) (λ s. counts m x (m .sessions) s (x .sessions s .active)) (λ s r l h. clash (has (counted m s) r) (counts m x (m .sessions) s (x .sessions s .active) r .1 h) (none-counted-beyond m x (m .juniors) (m .lineCount) s l r)) (λ name. x .dsd name .named) (λ name t. two-above (x .dsd name .atLeast t))
+dynamic-exact m x = broken-exact 64 (m .dsd) (counted m) (Effective m) (counted-small m) (λ s. counts m x (m .sessions) s (x .sessions s .active)) (λ s r l h. clash (has (counted m s) r) (counts m x (m .sessions) s (x .sessions s .active) r .1 h) (none-counted-beyond m x (m .juniors) (m .lineCount) s l r)) (λ name. x .dsd name .named) (λ name t. two-above (x .dsd name .atLeast t))

@@ -15,7 +15,7 @@ use Rattle.hierarchy.specs.Lines.{Inherits}
 use Rattle.model.specs.Lists.{someFrom, listed, setOf}
 use Rattle.model.specs.Model.{Model, RoleSet, Session, put}
 use Rattle.model.specs.Sheet.{Told}
-use Rattle.model.specs.Sound.{Existing, SetShape, Sound}
+use Rattle.model.specs.Sound.{Existing, SetShape, Shape, Sound}
 use Rattle.model.specs.Step.{step}
 use Rattle.model.specs.Words.{counted, dynamicBroken}
 use Rattle.model.specs.commands.Assigning.{assigned, granted}
@@ -40,8 +40,8 @@ use Rattle.sound.proofs.Sets.{shape-of, there-shape, larger-shape, listed-exist
 use Rattle.sound.proofs.Shedding.{inSet-exact}
 use Rattle.sound.proofs.Sheet.{AllClear, clear-done, settle-done}
 use Rattle.sound.proofs.Words.{InOrBelow, listed-within}
-use Rattle.demands.specs.Authorised.{Authorised}
-use Rattle.demands.specs.Broken.{StaticBroken, Counts, DynamicBroken}
+use Rattle.demands.specs.Authorised.{Authorised, Effective}
+use Rattle.demands.specs.Broken.{StaticBroken, DynamicBroken}
 use Rattle.demands.specs.Conditions.{Conditions, OfLists, OfPolicy, NoneBefore}
 use Rattle.demands.specs.Demand2.{Applies, place, refusals, results, effect, wouldBreak, OpenOf, hasOpen}
 use Rattle.demands.specs.Demand3.{Rules}
@@ -90,16 +90,16 @@ module _ (m : Model) (s : Sound m) where
   kept-done : (n : ℕ) (Rule : Model → Type 0) → ((x : Model) → Sound x → Rule x → ⊥) → (c : Command) (list : List ℕ) → earlier (place n) (refusals m c list) ≡ true → asked n (refusals m c list) ≡ false → NoneBefore (refusals m c list) n → (asked n (refusals m c list) ≡ true) ↔ Rule (effect m c list)
   kept-done n Rule keeps c list before off none = ((λ h. clash (asked n (refusals m c list)) h off), (λ b. absurd (keeps (effect m c list) (effect-sound c list (all-clear n (refusals m c list) before none)) b)))
 
+  -- With the same lines, what is in or below a smaller set is in or below the larger one.
+  in-or-below-fewer : (after : Model) → after .juniors ≡ m .juniors → (held held′ : ℕ) → ((r : ℕ) → has held r ≡ true → has held′ r ≡ true) → (r : ℕ) → InOrBelow after held r → InOrBelow m held′ r
+  in-or-below-fewer after lines held held′ fewer r = ⊎-elim (λ h. inl (fewer r h)) (λ h. inr (h .0, fewer (h .0) (h .1), subst (λ (x : ℕ → ℕ). Inherits x (h .0) r) lines (h .2)))
+
   -- What assigns no more, and leaves the lines and the static sets alone, keeps the static rule,
   static-fewer : (after : Model) → after .ssd ≡ m .ssd → ((u r : ℕ) → has (after .assigned u) r ≡ true → has (m .assigned u) r ≡ true) → after .juniors ≡ m .juniors → after .roles ≡ m .roles → StaticBroken after → ⊥
   static-fewer after sets fewer lines roles b = rules m s .static (record { who = b .who; name = b .name; there = sym (ap (λ (x : ℕ → RoleSet). x (b .name) .there) sets) ∙ b .there; many = subst (λ (x : ℕ → RoleSet). AsMany (x (b .name) .card) (λ r. (has (x (b .name) .roles) r ≡ true) × Authorised m (b .who) r)) sets (many-map (λ r h. (h .0, as-before r (h .1))) (b .many)) })
     where
       as-before : (r : ℕ) → Authorised after (b .who) r → Authorised m (b .who) r
-      as-before r a =
-          record {
-            exists = sym (ap (λ (x : ℕ). has x r) roles) ∙ a .exists;
-            through = ⊎-elim (λ h. inl (fewer (b .who) r h)) (λ h. inr (h .0, fewer (b .who) (h .0) (h .1), subst (λ (x : ℕ → ℕ). Inherits x (h .0) r) lines (h .2))) (a .through);
-          }
+      as-before r a = record { exists = sym (ap (λ (x : ℕ). has x r) roles) ∙ a .exists; through = in-or-below-fewer after lines (after .assigned (b .who)) (m .assigned (b .who)) (fewer (b .who)) r (a .through) }
 
   -- so does what leaves the users' authorisations alone,
   static-same : (after : Model) → after .ssd ≡ m .ssd → after .assigned ≡ m .assigned → after .juniors ≡ m .juniors → after .roles ≡ m .roles → StaticBroken after → ⊥
@@ -107,10 +107,13 @@ module _ (m : Model) (s : Sound m) where
 
   -- and what leaves the sessions, the lines, the roles and the dynamic sets alone keeps the dynamic rule.
   dynamic-same : (after : Model) → after .dsd ≡ m .dsd → after .sessions ≡ m .sessions → after .juniors ≡ m .juniors → after .roles ≡ m .roles → DynamicBroken after → ⊥
-  dynamic-same after sets sessions lines roles b = rules m s .dynamic (record { who = b .who; name = b .name; there = sym (ap (λ (x : ℕ → RoleSet). x (b .name) .there) sets) ∙ b .there; many = subst (λ (x : ℕ → RoleSet). AsMany (x (b .name) .card) (λ r. (has (x (b .name) .roles) r ≡ true) × Counts m (b .who) r)) sets (many-map (λ r h. (h .0, as-before r (h .1))) (b .many)) })
+  dynamic-same after sets sessions lines roles b = rules m s .dynamic (record { who = b .who; name = b .name; there = sym (ap (λ (x : ℕ → RoleSet). x (b .name) .there) sets) ∙ b .there; many = subst (λ (x : ℕ → RoleSet). AsMany (x (b .name) .card) (λ r. (has (x (b .name) .roles) r ≡ true) × Effective m (b .who) r)) sets (many-map (λ r h. (h .0, as-before r (h .1))) (b .many)) })
     where
-      as-before : (r : ℕ) → Counts after (b .who) r → Counts m (b .who) r
-      as-before r h = sym (ap (λ (x : ℕ → Session). has (x (b .who) .active) r) sessions) ∙ h
+      active : (r : ℕ) → has (after .sessions (b .who) .active) r ≡ true → has (m .sessions (b .who) .active) r ≡ true
+      active r h = sym (ap (λ (x : ℕ → Session). has (x (b .who) .active) r) sessions) ∙ h
+
+      as-before : (r : ℕ) → Effective after (b .who) r → Effective m (b .who) r
+      as-before r a = record { exists = sym (ap (λ (x : ℕ). has x r) roles) ∙ a .exists; through = in-or-below-fewer after lines (after .sessions (b .who) .active) (m .sessions (b .who) .active) active r (a .through) }
 
   -- a rule that is not on the list, and that the command cannot break
   off : {b : Bool} {Rule : Type 0} → b ≡ false → (Rule → ⊥) → (b ≡ true) ↔ Rule
@@ -147,8 +150,8 @@ module _ (m : Model) (s : Sound m) where
   session-exact : (n k : ℕ) (new : Session) → 64 ≤ n → k < n → Existing m (new .active) → (some n (dynamicBroken (sessionSet m k new)) ≡ true) ↔ DynamicBroken (sessionSet m k new)
   unfolding dynamicBroken
   session-exact n k new most l existing =
-      broken-exact n (m .dsd) (counted after) (Counts after)
-      (λ i. counted-small after i (exist i .small))
+      broken-exact n (m .dsd) (counted after) (Effective after)
+      (counted-small after)
       (λ i. counts m (s .shape) (put (m .sessions) k new) i (exist i))
       (λ i r beyond h. clash (has (counted after i) r) (counts m (s .shape) (put (m .sessions) k new) i (exist i) r .1 h) (counts-none after i (λ j. ap (λ (x : Session). has (x .active) j) (put-other (m .sessions) k new i (λ e. omega arith) ∙ no-session-beyond m (s .shape) i (omega arith)) ∙ has-none j) r))
       (λ name. s .shape .dsd name .named)
@@ -172,15 +175,14 @@ module _ (m : Model) (s : Sound m) where
       (put-all (λ k set. (j : ℕ) → has set j ≡ true → m .users k ≡ true) (m .assigned) u (with (m .assigned u) r) (λ j e. not-false (m .users u) (there .0)) (λ k d j e. s .shape .assignees k j e))
       (existing-at m (m .assigned) u r (s .shape .assigned) (not-false (has (m .roles) r) (there .1))))
 
-  inherit-exact : (a b : ℕ) → (leb 64 a || leb 64 b) ≡ false → (not (has (m .roles) a) || not (has (m .roles) b)) ≡ false → (wouldBreak Static (lined m a b) ≡ true) ↔ StaticBroken (lined m a b)
+  lined-shape : (a b : ℕ) → (not (has (m .roles) a) || not (has (m .roles) b)) ≡ false → Shape (lined m a b)
   unfolding lined
-  inherit-exact a b c1 c2 =
+  lined-shape a b c2 =
       let there = or-no (not (has (m .roles) a)) (not (has (m .roles) b)) c2 in
       let new : ℕ → ℕ = put (m .juniors) a (with (m .juniors a) b) in
-      static-exact (lined m a b)
-      (lines-shape m (s .shape) new (m .lineCount + 1)
+      lines-shape m (s .shape) new (m .lineCount + 1)
       (put-all (λ k set. (j : ℕ) → has set j ≡ true → has (m .roles) k ≡ true) (m .juniors) a (with (m .juniors a) b) (λ j e. not-false (has (m .roles) a) (there .0)) (λ k d j e. s .shape .seniors k j e))
-      (existing-at m (m .juniors) a b (s .shape .juniors) (not-false (has (m .roles) b) (there .1))))
+      (existing-at m (m .juniors) a b (s .shape .juniors) (not-false (has (m .roles) b) (there .1)))
 
   -- `nouser` takes assignments away
   fewer-assigned : (u v r : ℕ) → has (put (m .assigned) u none v) r ≡ true → has (m .assigned v) r ≡ true
@@ -202,7 +204,7 @@ module _ (m : Model) (s : Sound m) where
   static-asked (Deassign u r) list none = kept-done 10 StaticBroken static-keeps (Deassign u r) list refl refl none
   static-asked (Grant op obj r) list none = off refl (static-same (effect m (Grant op obj r) list) refl refl refl refl)
   static-asked (Revoke op obj r) list none = kept-done 10 StaticBroken static-keeps (Revoke op obj r) list refl refl none
-  static-asked (Inherit a b) list none = inherit-exact (a .number) (b .number) (not-yet 10 1 _ none (omega arith)) (not-yet 10 2 _ none (omega arith))
+  static-asked (Inherit a b) list none = static-exact (lined m (a .number) (b .number)) (lined-shape (a .number) (b .number) (not-yet 10 2 _ none (omega arith)))
   static-asked (Disinherit a b) list none = kept-done 10 StaticBroken static-keeps (Disinherit a b) list refl refl none
   static-asked (MakeSet Static name n) list none = set-exact Static (name .number) (aSet n (setOf list)) (made-shape (name .number) n list (not-yet 10 1 _ none (omega arith)) (not-yet 10 2 _ none (omega arith)) (not-yet 10 7 _ none (omega arith)))
   static-asked (MakeSet Dynamic name n) list none = off refl (static-same (effect m (MakeSet Dynamic name n) list) refl refl refl refl)
@@ -228,7 +230,7 @@ module _ (m : Model) (s : Sound m) where
   dynamic-asked (Deassign u r) list none = kept-done 11 DynamicBroken dynamic-keeps (Deassign u r) list refl refl none
   dynamic-asked (Grant op obj r) list none = off refl (dynamic-same (effect m (Grant op obj r) list) refl refl refl refl)
   dynamic-asked (Revoke op obj r) list none = kept-done 11 DynamicBroken dynamic-keeps (Revoke op obj r) list refl refl none
-  dynamic-asked (Inherit a b) list none = off refl (rules m s .dynamic)
+  dynamic-asked (Inherit a b) list none = dynamic-exact (lined m (a .number) (b .number)) (lined-shape (a .number) (b .number) (not-yet 11 2 _ none (omega arith)))
   dynamic-asked (Disinherit a b) list none = kept-done 11 DynamicBroken dynamic-keeps (Disinherit a b) list refl refl none
   dynamic-asked (MakeSet Static name n) list none = kept-done 11 DynamicBroken dynamic-keeps (MakeSet Static name n) list refl refl none
   dynamic-asked (MakeSet Dynamic name n) list none = set-exact Dynamic (name .number) (aSet n (setOf list)) (made-shape (name .number) n list (not-yet 11 1 _ none (omega arith)) (not-yet 11 2 _ none (omega arith)) (not-yet 11 7 _ none (omega arith)))

@@ -18,3 +18,4 @@ pub mod PolicyFile
 pub mod Room
 pub mod ShorterSheet
 pub mod TwoMoves
+pub mod EffectiveRoles

@@ -4,7 +4,7 @@ use mathlib.Core.Path.{_≡_}
 use Prim.Native.Nat.{ℕ}
 use Rattle.roleset.specs.Roles.{has}
 use Rattle.model.specs.Model.{Model, RoleSet}
-use Rattle.demands.specs.Authorised.{Authorised}
+use Rattle.demands.specs.Authorised.{Authorised, Effective}
 use Rattle.demands.specs.Many.{AsMany}
 
 -- Somebody holds as many roles of one of the sets as its cardinality.
@@ -18,10 +18,7 @@ pub record Broken (sets : ℕ → RoleSet) (Holds : ℕ → ℕ → Type 0) : Ty
 abbrev pub StaticBroken : Model → Type 0
 StaticBroken m = Broken (m .ssd) (Authorised m)
 
--- A dynamic set counts the role r of session s: the session has it active.
-abbrev pub Counts : Model → ℕ → ℕ → Type 0
-Counts m s r = has (m .sessions s .active) r ≡ true
-
--- Some session has as many roles of a dynamic set active as its cardinality.
+-- Some session has as many roles of a dynamic set, each of them effective in it, as the set's cardinality: "a session may have fewer than n
+-- effective roles of a dynamic set" (request 2).
 abbrev pub DynamicBroken : Model → Type 0
-DynamicBroken m = Broken (m .dsd) (Counts m)
+DynamicBroken m = Broken (m .dsd) (Effective m)

@@ -87,7 +87,7 @@ results m (DropActive u s r) list = []
 results m (EndSession u s) list = []
 results m (EndAll u) list = []
 
--- ---- the refusals of each command, as the paper lists them (16 and `end-all`: request 4)
+-- ---- the refusals of each command, as the paper lists them (11 of `inherit`: request 2; 16 and `end-all`: request 4)
 
 -- 10: "an SSD rule would be broken for some user"; 11: "a DSD rule would be broken in some session". It is asked of the policy and
 -- sessions as they would be after the command.
@@ -155,13 +155,15 @@ refusals m (Revoke op obj r) list =
     ∷ 2 when not (has (m .roles) (r .number))
     ∷ 5 when not (has (m .holders (op * 256 + obj)) (r .number))
     ∷ []
--- "`inherit senior junior`: 1, 2, 4 (this direct line stands), 6 (equal, or the junior inherits the senior), 10, 12."
+-- "`inherit senior junior`: 1, 2, 4 (this direct line stands), 6 (equal, or the junior inherits the senior), 10, 12."; "`inherit` may now answer 11,
+-- after 10" (request 2)
 refusals m (Inherit senior junior) list =
     1 when (senior .number beyond 63 || junior .number beyond 63)
     ∷ 2 when (not (has (m .roles) (senior .number)) || not (has (m .roles) (junior .number)))
     ∷ 4 when has (m .juniors (senior .number)) (junior .number)
     ∷ 6 when wouldCircle m (senior .number) (junior .number)
     ∷ 10 when wouldBreak Static (effect m (Inherit senior junior) list)
+    ∷ 11 when wouldBreak Dynamic (effect m (Inherit senior junior) list)
     ∷ 12 when leb 512 (linesStanding m)
     ∷ []
 -- "`disinherit senior junior`: 1, 2, 5, then sheds."

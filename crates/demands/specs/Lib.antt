@@ -12,3 +12,4 @@ pub mod PolicyFile
 pub mod Room
 pub mod ShorterSheet
 pub mod TwoMoves
+pub mod EffectiveRoles

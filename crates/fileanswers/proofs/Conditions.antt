@@ -23,15 +23,15 @@ use Rattle.model.specs.declared.Kind.{Kind}
 use Rattle.model.specs.declared.Kind.the-variants.{Static, Dynamic}
 use Rattle.policyform.specs.Form.{SetForm, Formed}
 use Rattle.policyform.specs.Rules.{badSet, unauthorised}
-use Rattle.demands.specs.Authorised.{InOrBelow, Authorised}
+use Rattle.demands.specs.Authorised.{InOrBelow, Authorised, Effective}
 use Rattle.sound.proofs.Counted.{counted-small}
-use Rattle.demands.specs.Broken.{StaticBroken, Counts, DynamicBroken}
+use Rattle.demands.specs.Broken.{StaticBroken, DynamicBroken}
 use Rattle.demands.specs.Many.{AsMany}
 use Rattle.demands.proofs.Broken.{broken-exact}
 use Rattle.demands.proofs.Counts.{many-in}
 use Rattle.policyform.proofs.Lines.{formed-lines}
 use Rattle.fileanswers.specs.Loading.{Circle, BadCardinality, NotAuthorised, Asked}
-use Rattle.fileanswers.proofs.Bare.{authorised-formed}
+use Rattle.fileanswers.proofs.Bare.{authorised-formed, effective-formed}
 
 module _ (m : Model) (f : Formed m) where
   -- ---- 6
@@ -133,16 +133,20 @@ module _ (m : Model) (f : Formed m) where
 
   -- ---- 11
 
-  counts-formed : (s r : ℕ) → (has (counted m s) r ≡ true) ↔ Counts m s r
-  counts-formed s r = ((λ e. e), (λ e. e))
+  -- no session past 63 has an effective role
+  effective-live : (s r : ℕ) → 64 ≤ s → Effective m s r → ⊥
+  effective-live s r l e = go (e .through)
+    where
+      active : (a : ℕ) → has (m .sessions s .active) a ≡ true → ⊥
+      active a h = let open-one = f .sessions s .numbered (live-active s a h) in omega arith
 
-  -- no session past 63 has one
-  counts-live : (s r : ℕ) → 64 ≤ s → Counts m s r → ⊥
-  counts-live s r l h = let open-one = f .sessions s .numbered (live-active s r h) in omega arith
+      go : InOrBelow m (m .sessions s .active) r → ⊥
+      go (inl h) = active r h
+      go (inr q) = active (q .0) (q .1)
 
   pub dynamic-says : (BadCardinality m → ⊥) → (some 64 (dynamicBroken m) ≡ true) ↔ DynamicBroken m
   unfolding dynamicBroken
-  dynamic-says fine = broken-exact 64 (m .dsd) (counted m) (Counts m) (λ s. counted-small m s (f .sessions s .active .small)) counts-formed counts-live (λ name. f .dsd name .named) (at-least fine Dynamic)
+  dynamic-says fine = broken-exact 64 (m .dsd) (counted m) (Effective m) (counted-small m) (effective-formed m f) effective-live (λ name. f .dsd name .named) (at-least fine Dynamic)
 
   abbrev pub asked : Asked m
   asked = record { circle = circular (m .juniors); circle-says = circle-says; cardinality = badSet (m .ssd) || badSet (m .dsd); cardinality-says = cardinality-says; owner = unauthorised m; owner-says = owner-says; static = some 256 (staticBroken m); static-says = static-says; dynamic = some 64 (dynamicBroken m); dynamic-says = dynamic-says }

@@ -1,4 +1,5 @@
--- Files that are given by what they list: one of several entries, and one with a number above 255. Assumes nothing.
+-- Files that are given by what they list: one of several entries, one with a number above 255, and one whose session breaks a dynamic rule. Assumes
+-- nothing.
 use mathlib.Core.Bool.{true}
 use mathlib.Core.List.{List, [], _∷_, List·Memᴰ·head}
 use mathlib.Core.Path.{_≡_, refl, sym, ap, subst, _∙_}
@@ -26,7 +27,7 @@ use Rattle.filebytes.proofs.Listed.{form-sixteen}
 use Rattle.filebytes.proofs.Built.{atKey, modelOf, built-says, built-formed}
 use Rattle.filebytes.proofs.FileForm.{paper-form}
 use Rattle.filetables.specs.Rows.{bytesIn}
-use Rattle.filetables.specs.PolicyBytes.{mixedSections, mixedFile, wideFile, FileIs}
+use Rattle.filetables.specs.PolicyBytes.{mixedSections, mixedFile, wideFile, seniorsFile, FileIs}
 use Rattle.filetables.proofs.Saved.{file-is}
 
 -- ---- sections of the form, written as these bytes
@@ -41,6 +42,13 @@ module _ (f : Sections) (form : OfTheForm f) (bytes : List ℕ) (written : bytes
   -- what loading them tells is what their policy breaks
   load-tells : (before : Model) (told : Told) → Loads before bytes told → told ≡ settle (rulesBroken (modelOf f)) before [] (modelOf f)
   load-tells before told l = load-file before (modelOf f) told (built-formed f form) (subst (λ (b : List ℕ). Loads before b told) (sym written ∙ sym (built-file .written)) l)
+
+  -- and it is refused where they break one
+  load-refused : (n : ℕ) → verdict (rulesBroken (modelOf f)) ≡ n → (n ≡ 0 → ⊥) → (before : Model) (told : Told) → Loads before bytes told → told ≡ refused n before
+  load-refused n e some before told l =
+      load-tells before told l
+      ∙ settle-refused (rulesBroken (modelOf f)) before [] (modelOf f) (λ z. some (sym e ∙ z))
+      ∙ ap (λ (k : ℕ). refused k before) e
 
 -- ---- several entries
 
@@ -97,7 +105,30 @@ wide-number m x =
     (set .there, set .cardinality)
 
 pub wide-refused : (before : Model) (told : Told) → Loads before (bytesIn wideFile) told → told ≡ refused 7 before
-wide-refused before told l =
-    load-tells wideSections wide-form (bytesIn wideFile) wide-written before told l
-    ∙ settle-refused (rulesBroken (modelOf wideSections)) before [] (modelOf wideSections) (λ z. let e : _≡_ {A = ℕ} 7 0 = sym wide-broken ∙ z in omega arith)
-    ∙ ap (λ (n : ℕ). refused n before) wide-broken
+wide-refused = load-refused wideSections wide-form (bytesIn wideFile) wide-written 7 wide-broken (λ z. omega arith)
+
+-- ---- a dynamic rule broken by inherited roles
+
+abbrev seniorsSections : Sections
+seniorsSections = record { users = 7 ∷ []; roles = 0 ∷ 1 ∷ 2 ∷ 3 ∷ []; lines = (2, 0) ∷ (3, 1) ∷ []; assignments = (7, 2) ∷ (7, 3) ∷ []; grants = (0, 0, 30) ∷ (1, 2, 30) ∷ []; ssd = []; dsd = record { name = 0; cardinality = 2; members = 0 ∷ 1 ∷ [] } ∷ []; sessions = record { number = 0; owner = 7; active = 2 ∷ 3 ∷ [] } ∷ [] }
+
+seniors-tested : Tested seniorsSections
+unfolding all any inOrder
+seniors-tested = record { users = refl; roles = refl; lines = refl; assignments = refl; grants = refl; ssd = refl; dsd = refl; sessions = refl }
+
+seniors-form : OfTheForm seniorsSections
+seniors-form = tested-form seniorsSections seniors-tested
+
+seniors-written : bytesOf seniorsSections ≡ bytesIn seniorsFile
+unfolding bytesOf listing entries
+seniors-written = refl
+
+seniors-broken : verdict (rulesBroken (modelOf seniorsSections)) ≡ 11
+unfolding some every tally has pack those union common subset isEmpty count juniorsOf walk reach circular longerChain verdict breaks breaksSome staticBroken dynamicBroken badSet unauthorised rulesBroken any atKey
+seniors-broken = refl
+
+pub seniors-file : (m : Model) × FileOf m (bytesIn seniorsFile)
+seniors-file = (modelOf seniorsSections, subst (FileOf (modelOf seniorsSections)) seniors-written (built-file seniorsSections seniors-form (bytesIn seniorsFile) seniors-written))
+
+pub seniors-refused : (before : Model) (told : Told) → Loads before (bytesIn seniorsFile) told → told ≡ refused 11 before
+seniors-refused = load-refused seniorsSections seniors-form (bytesIn seniorsFile) seniors-written 11 seniors-broken (λ z. omega arith)

@@ -48,7 +48,7 @@ mixedSections =
       grants = (0, 4, 30) ∷ (0, 4, 31) ∷ (0, 15, 200) ∷ (63, 0, 255) ∷ [];
       ssd = record { name = 4; cardinality = 2; members = 1 ∷ 3 ∷ [] } ∷ record { name = 9; cardinality = 2; members = 3 ∷ 63 ∷ [] } ∷ [];
       dsd = record { name = 5; cardinality = 3; members = 0 ∷ 1 ∷ 2 ∷ [] } ∷ record { name = 15; cardinality = 2; members = 1 ∷ 2 ∷ [] } ∷ [];
-      sessions = record { number = 0; owner = 200; active = 63 ∷ [] } ∷ record { number = 1; owner = 7; active = 0 ∷ 2 ∷ [] } ∷ [];
+      sessions = record { number = 0; owner = 200; active = 2 ∷ [] } ∷ record { number = 1; owner = 7; active = 0 ∷ 2 ∷ [] } ∷ [];
     }
 
 abbrev pub mixedFile : List Row
@@ -78,7 +78,7 @@ mixedFile =
     ∷ "name 5, cardinality 3, 3 members: roles 0, 1 and 2" ⇒ (5 ∷ 0 ∷ 3 ∷ 0 ∷ 3 ∷ 0 ∷ 0 ∷ 0 ∷ 1 ∷ 0 ∷ 2 ∷ 0 ∷ [])
     ∷ "name 15, cardinality 2, 2 members: roles 1 and 2" ⇒ (15 ∷ 0 ∷ 2 ∷ 0 ∷ 2 ∷ 0 ∷ 1 ∷ 0 ∷ 2 ∷ 0 ∷ [])
     ∷ "2 sessions" ⇒ (2 ∷ 0 ∷ [])
-    ∷ "number 0, owner 200, 1 active: role 63" ⇒ (0 ∷ 0 ∷ 200 ∷ 0 ∷ 1 ∷ 0 ∷ 63 ∷ 0 ∷ [])
+    ∷ "number 0, owner 200, 1 active: role 2" ⇒ (0 ∷ 0 ∷ 200 ∷ 0 ∷ 1 ∷ 0 ∷ 2 ∷ 0 ∷ [])
     ∷ "number 1, owner 7, 2 active: roles 0 and 2" ⇒ (1 ∷ 0 ∷ 7 ∷ 0 ∷ 2 ∷ 0 ∷ 0 ∷ 0 ∷ 2 ∷ 0 ∷ [])
     ∷ []
 
@@ -96,6 +96,30 @@ wideFile =
     ∷ "name 3, cardinality 258 = 2 + 256 * 1, 1 member: role 6" ⇒ (3 ∷ 0 ∷ 2 ∷ 1 ∷ 1 ∷ 0 ∷ 6 ∷ 0 ∷ [])
     ∷ "no DSD set" ⇒ (0 ∷ 0 ∷ [])
     ∷ "no session" ⇒ (0 ∷ 0 ∷ [])
+    ∷ []
+
+-- ---- a file that an engine before request 2 could save: a session has two seniors active, and through them both roles of a dynamic set effective
+
+abbrev pub seniorsFile : List Row
+seniorsFile =
+    "1 user" ⇒ (1 ∷ 0 ∷ [])
+    ∷ "user 7" ⇒ (7 ∷ 0 ∷ [])
+    ∷ "4 roles" ⇒ (4 ∷ 0 ∷ [])
+    ∷ "roles 0, 1, 2 and 3" ⇒ (0 ∷ 0 ∷ 1 ∷ 0 ∷ 2 ∷ 0 ∷ 3 ∷ 0 ∷ [])
+    ∷ "2 lines" ⇒ (2 ∷ 0 ∷ [])
+    ∷ "senior 2, junior 0" ⇒ (2 ∷ 0 ∷ 0 ∷ 0 ∷ [])
+    ∷ "senior 3, junior 1" ⇒ (3 ∷ 0 ∷ 1 ∷ 0 ∷ [])
+    ∷ "2 assignments" ⇒ (2 ∷ 0 ∷ [])
+    ∷ "user 7, role 2" ⇒ (7 ∷ 0 ∷ 2 ∷ 0 ∷ [])
+    ∷ "user 7, role 3" ⇒ (7 ∷ 0 ∷ 3 ∷ 0 ∷ [])
+    ∷ "2 grants" ⇒ (2 ∷ 0 ∷ [])
+    ∷ "role 0, operation 0, object 30" ⇒ (0 ∷ 0 ∷ 0 ∷ 0 ∷ 30 ∷ 0 ∷ [])
+    ∷ "role 1, operation 2, object 30" ⇒ (1 ∷ 0 ∷ 2 ∷ 0 ∷ 30 ∷ 0 ∷ [])
+    ∷ "no SSD set" ⇒ (0 ∷ 0 ∷ [])
+    ∷ "1 DSD set" ⇒ (1 ∷ 0 ∷ [])
+    ∷ "name 0, cardinality 2, 2 members: roles 0 and 1" ⇒ (0 ∷ 0 ∷ 2 ∷ 0 ∷ 2 ∷ 0 ∷ 0 ∷ 0 ∷ 1 ∷ 0 ∷ [])
+    ∷ "1 session" ⇒ (1 ∷ 0 ∷ [])
+    ∷ "number 0, owner 7, 2 active: roles 2 and 3" ⇒ (0 ∷ 0 ∷ 7 ∷ 0 ∷ 2 ∷ 0 ∷ 2 ∷ 0 ∷ 3 ∷ 0 ∷ [])
     ∷ []
 
 -- ---- what is saved and loaded
@@ -135,3 +159,6 @@ pub record PolicyBytes : Type 0 where
   pub wide-file : (m : Model) × FileOf m (bytesIn wideFile)
   pub wide-number : (m : Model) → FileOf m (bytesIn wideFile) → (m .ssd 3 .there ≡ true) × (m .ssd 3 .card ≡ 258)
   pub wide-refused : (before : Model) (told : Told) → Loads before (bytesIn wideFile) told → told ≡ refused 7 before
+  -- The fourth is a file too. Loading it is refused with 11, and nothing changes.
+  pub seniors-file : (m : Model) × FileOf m (bytesIn seniorsFile)
+  pub seniors-refused : (before : Model) (told : Told) → Loads before (bytesIn seniorsFile) told → told ≡ refused 11 before

@@ -3,25 +3,26 @@ use mathlib.Core.List.{List}
 use mathlib.Core.Path.{_≡_, refl, ap, ap₂, _∙_}
 use Prim.Native.Nat.{ℕ, _+_, _-_, _≤_, _<_}
 use lib.ListN.{set}
-use Rattle.roleset.specs.Bounded.{some}
 use Rattle.roleset.specs.Roles.{with, without}
 use Rattle.hierarchy.specs.Lines.{tableOf}
 use Rattle.model.specs.Model.{Model, closedSession, put, withLines, withSessions}
-use Rattle.model.specs.Words.{staticBroken, shed}
+use Rattle.model.specs.Words.{shed}
 use Rattle.model.specs.commands.Inheriting.{lined, unlined}
+use Rattle.model.specs.declared.Kind.{Kind}
 use Rattle.state.specs.Stores.{Table, inRange, withActive}
 use Rattle.state.specs.View.{part}
 use Rattle.state.proofs.Stored.{placed}
-use Rattle.sweeps.specs.Sweeps.{asksStatic, ShedsAll}
+use Rattle.sweeps.specs.Sweeps.{asksRule, ShedsAll}
+use Rattle.sweeps.proofs.Asking.{ruleBroken, asks-lines}
 use Rattle.sweeps.proofs.Changing.{as-part, table-put}
 use Rattle.sweeps.proofs.Shedding.{sheds-same, shed-stored}
 
 module _ (m : Model) (senior junior : ℕ) (h : senior < 64) where
-  -- with the new line: the rule asked of every user, and the lines stored
+  -- with the new line: the rule of a kind asked of every user or session, and the lines stored
   module _ (new : ℕ) (e : new ≡ with (m .juniors senior) junior) where
-    pub asks-lined : (x : List ℕ) → Table 64 (m .juniors) x → asksStatic m (tableOf (set x senior new)) ≡ some 256 (staticBroken (lined m senior junior))
-    unfolding lined staticBroken
-    asks-lined x t = ap (asksStatic m) (table-put x senior new h t .each ∙ ap (put (m .juniors) senior) e)
+    pub asks-lined : (kind : Kind) (x : List ℕ) → Table 64 (m .juniors) x → asksRule kind m (tableOf (set x senior new)) ≡ ruleBroken kind (lined m senior junior)
+    unfolding lined
+    asks-lined kind x t = ap (asksRule kind m) (table-put x senior new h t .each ∙ ap (put (m .juniors) senior) e) ∙ asks-lines kind m (put (m .juniors) senior (with (m .juniors senior) junior)) (m .lineCount + 1)
 
     pub lined-stored : (after : Model) (standing : ℕ) → standing ≡ m .lineCount → after ≡ inRange 64 senior m (withLines m (put (m .juniors) senior new) (standing + 1)) → after ≡ lined m senior junior
     unfolding lined

@@ -2,6 +2,7 @@
 ghost use mathlib.Core.Path.{_≡_};
 ghost use Rattle.model.specs.commands.Inheriting.{inherit, disinherit};
 ghost use Rattle.state.specs.View.{view, told};
+use model::Kind;
 use numbers::Answer;
 use numbers::Role;
 use numbers::role_beyond;
@@ -16,7 +17,7 @@ use state::reads::line_count;
 use state::stores::put_all_active;
 use state::stores::put_juniors;
 
-// The line from senior to junior stands from now on; 1, 2, 4, 6, 10, 12.
+// The line from senior to junior stands from now on; 1, 2, 4, 6, 10, 11, 12.
 pub fn inherit(state: &mut [u64; PLACES], senior: Role, junior: Role) -> Answer
     ensures { λ a. ⌜ told a (now (state .exit)) ≡ inherit (view (now (state .entry))) (senior .number) (junior .number) ⌝ }
 {
@@ -37,8 +38,11 @@ pub fn inherit(state: &mut [u64; PLACES], senior: Role, junior: Role) -> Answer
     let more = roleset::with(old, junior.number);
     let mut juniors = juniors_table(state);
     juniors[senior.number as usize] = more;
-    if sweeps::ask_static(state, &juniors) {
+    if sweeps::ask_rule(state, Kind::Static, &juniors) {
         return Answer::BreaksStatic;
+    }
+    if sweeps::ask_rule(state, Kind::Dynamic, &juniors) {
+        return Answer::BreaksDynamic;
     }
     let standing = line_count(state);
     if 512 <= standing {

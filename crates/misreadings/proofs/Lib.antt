@@ -3,3 +3,4 @@ pub mod Readings
 pub mod ShutOut
 pub mod Deleting
 pub mod Reviewers
+pub mod DynamicRule

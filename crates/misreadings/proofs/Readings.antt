@@ -37,7 +37,7 @@ unfoldable told-apart : Model → Bool
 told-apart after = not (brokenByTwo after 2 0) && staticBroken after 7
 
 two-apart : told-apart (lined (afterwards empty twoSeniorsAbove) 2 0) ≡ true
-unfolding some every tally has pack those with union common subset isEmpty count juniorsOf walk reach rising someFrom listed setOf empty put verdict settle step breaks breaksSome staticBroken user role assign assigned inherit lined broken makeSet afterwards brokenByTwo told-apart
+unfolding some every tally has pack those with union common subset isEmpty count juniorsOf walk reach rising someFrom listed setOf empty put verdict settle step breaks breaksSome staticBroken dynamicBroken user role assign assigned inherit lined broken makeSet afterwards brokenByTwo told-apart
 two-apart = refl
 
 -- the wrong rules would pass what the paper refuses

@@ -1,3 +1,4 @@
 pub mod Readings
 pub mod ShutOut
 pub mod Deleting
+pub mod DynamicRule

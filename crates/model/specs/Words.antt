@@ -36,11 +36,11 @@ breaksSome sets held = some 16 (λ n. breaks (sets n) held)
 unfoldable pub staticBroken : Model → ℕ → Bool
 staticBroken m u = breaksSome (m .ssd) (authorised m u)
 
--- the roles of a session that a dynamic set counts: "Every session has fewer than n of them active"
+-- the roles of a session that a dynamic set counts: "a session may have fewer than n effective roles of a dynamic set" (request 2)
 abbrev pub counted : Model → ℕ → ℕ
-counted m s = m .sessions s .active
+counted m s = effective m s
 
--- "DSD set: the same shape. Every session has fewer than n of them active." The dynamic rule is broken in session s
+-- "DSD set: the same shape." The dynamic rule is broken in session s
 unfoldable pub dynamicBroken : Model → ℕ → Bool
 dynamicBroken m s = breaksSome (m .dsd) (counted m s)
 

@@ -2,12 +2,11 @@
 ghost use mathlib.Core.Bool.{true, not, _&&_};
 ghost use mathlib.Core.Path.{_≡_};
 ghost use Prim.Native.Nat.{ℕ};
-ghost use Rattle.roleset.specs.Bounded.{some};
 ghost use Rattle.roleset.specs.Roles.{has, subset};
 ghost use Rattle.hierarchy.specs.Lines.{tableOf};
 ghost use Rattle.numbers.specs.Answers.{numberOf};
 ghost use Rattle.model.specs.Sheet.{verdict};
-ghost use Rattle.model.specs.Words.{authorised, dynamicBroken};
+ghost use Rattle.model.specs.Words.{authorised};
 ghost use Rattle.model.specs.commands.Sets.{setsOf, badCardinality};
 ghost use Rattle.state.specs.View.{view};
 ghost use Rattle.policyform.specs.Rules.{badSet, unauthorised, rulesBroken};
@@ -20,7 +19,6 @@ use numbers::Role;
 use numbers::Session;
 use numbers::SetName;
 use numbers::User;
-use separation::breaks_some;
 use state::PLACES;
 use state::naming::either;
 use state::parts::assigned;
@@ -279,21 +277,6 @@ fn unauthorised(state: &[u64; PLACES]) -> bool
     false
 }
 
-// Is the dynamic rule broken in some session?
-fn breaks_dynamic(state: &[u64; PLACES]) -> bool
-    ensures { λ b. ⌜ b ≡ some 64 (dynamicBroken (view (now (state .entry)))) ⌝ }
-{
-    let mut k: u16 = 0;
-    while k < 64 {
-        let session = session_at(state, Session { number: k });
-        if breaks_some(state, Kind::Dynamic, session.active) {
-            return true;
-        }
-        k += 1;
-    }
-    false
-}
-
 // The lowest rule that the state breaks, or that it breaks none.
 pub fn broken(state: &[u64; PLACES]) -> Answer
     ensures { λ a. ⌜ numberOf a ≡ verdict (rulesBroken (view (now (state .entry)))) ⌝ }
@@ -308,10 +291,10 @@ pub fn broken(state: &[u64; PLACES]) -> Answer
     if unauthorised(state) {
         return Answer::NotAuthorised;
     }
-    if sweeps::ask_static(state, &lines) {
+    if sweeps::ask_rule(state, Kind::Static, &lines) {
         return Answer::BreaksStatic;
     }
-    if breaks_dynamic(state) {
+    if sweeps::ask_rule(state, Kind::Dynamic, &lines) {
         return Answer::BreaksDynamic;
     }
     Answer::Done

@@ -2,6 +2,7 @@
 ghost use mathlib.Core.Path.{_≡_};
 ghost use Rattle.numbers.specs.Answers.{numberOf};
 ghost use Rattle.model.specs.Sheet.{verdict};
+ghost use Rattle.model.specs.Words.{reached, breaksSome};
 ghost use Rattle.model.specs.commands.Sessions.{session, activate, drop, end};
 ghost use Rattle.state.specs.View.{view, told};
 ghost use Rattle.sessions.specs.Answering.{Opens};
@@ -40,6 +41,14 @@ fn not_opened(answer: Answer) -> Opened
     }
 }
 
+// Would a session with these roles active break the dynamic rule? All roles that would be effective in it are counted.
+fn breaks_dynamic(state: &[u64; PLACES], active: u64) -> bool
+    ensures { λ b. ⌜ b ≡ breaksSome (view (now (state .entry)) .dsd) (reached (view (now (state .entry))) active) ⌝ }
+{
+    let effective = reach(state, active);
+    breaks_some(state, Kind::Dynamic, effective)
+}
+
 // Opens the lowest free session for the user, with the listed roles active; 14, 1, 2, 9, 11, 12.
 pub fn session(state: &mut [u64; PLACES], u: User, list: &[u16]) -> Opened
     ensures { λ o. ⌜ Opens (session (view (now (state .entry))) (u .number) (now (list .entry))) o (now (state .exit)) ⌝ }
@@ -61,7 +70,7 @@ pub fn session(state: &mut [u64; PLACES], u: User, list: &[u16]) -> Opened
     if !roleset::subset(asked.roles, authorised) {
         return not_opened(Answer::NotAuthorised);
     }
-    if breaks_some(state, Kind::Dynamic, asked.roles) {
+    if breaks_dynamic(state, asked.roles) {
         return not_opened(Answer::BreaksDynamic);
     }
     let free = sweeps::lowest_free(state);
@@ -113,7 +122,7 @@ pub fn activate(state: &mut [u64; PLACES], u: User, x: Session, r: Role) -> Answ
         return Answer::NotAuthorised;
     }
     let active = roleset::with(old.active, r.number);
-    if breaks_some(state, Kind::Dynamic, active) {
+    if breaks_dynamic(state, active) {
         return Answer::BreaksDynamic;
     }
     put_active(state, x, active);

@@ -5,26 +5,27 @@ use Prim.Native.Nat.{ℕ, _≤_, _<_, _^_}
 use Rattle.roleset.specs.Roles.{has}
 use Rattle.roleset.proofs.Laws.{has-none}
 use Rattle.hierarchy.specs.Lines.{line}
+use Rattle.hierarchy.proofs.WalkLaws.{reach-grows, reach-small}
 use Rattle.model.specs.Model.{Model, Session, closedSession, withLines, withSessions}
 use Rattle.model.specs.Words.{breaksSome, counted}
 use Rattle.model.specs.Sound.{Shape}
 use Rattle.sound.proofs.Members.{Within}
 use Rattle.sound.proofs.Breaking.{none-held, some-breaks-fewer}
-use Rattle.sound.proofs.Carried.{no-session-beyond}
+use Rattle.sound.proofs.Carried.{no-session-beyond, nothing-reached}
 
 -- ---- its own laws
 
 -- With no role active none is counted.
 pub counts-none : (m : Model) (k : ℕ) → ((r : ℕ) → has (m .sessions k .active) r ≡ false) → (r : ℕ) → has (counted m k) r ≡ false
-counts-none m k h = h
+counts-none m k = nothing-reached (m .juniors) (m .sessions k .active)
 
 -- With no more lines and no more active roles no more are counted.
 pub counts-fewer : (m m′ : Model) (k : ℕ) → ((a j : ℕ) → line (m′ .juniors) a j ≡ true → line (m .juniors) a j ≡ true) → ((r : ℕ) → has (m′ .sessions k .active) r ≡ true → has (m .sessions k .active) r ≡ true) → Within (counted m′ k) (counted m k)
-counts-fewer m m′ k lines actives = λ r l. actives r
+counts-fewer m m′ k lines actives = λ r l. reach-grows (m′ .juniors) (m .juniors) (m′ .sessions k .active) (m .sessions k .active) (λ a j la lj. lines a j) (λ a la. actives a) r
 
 -- What is counted is a set of roles.
-pub counted-small : (m : Model) (k : ℕ) → m .sessions k .active < 2 ^ 64 → counted m k < 2 ^ 64
-counted-small m k small = small
+pub counted-small : (m : Model) (k : ℕ) → counted m k < 2 ^ 64
+counted-small m k = reach-small (m .juniors) (m .sessions k .active)
 
 -- ---- the dynamic rule, by these
 

@@ -26,6 +26,7 @@ use Rattle.sound.proofs.Counting.{one-more}
 use Rattle.sound.proofs.Breaking.{none-held}
 use Rattle.sound.proofs.Carried.{existing-at, old-at, new-at, lines-small, nobody-assigned, no-user-beyond, nothing-reached}
 use Rattle.sound.proofs.Changing.{lines-changed}
+use Rattle.sound.proofs.Counted.{dynamic-beyond}
 
 -- "equal, or the junior inherits the senior": what `inherit` asks is that.
 pub circle-exact : (m : Model) → Sound m → (senior junior : ℕ) → junior < 64 → (wouldCircle m senior junior ≡ true) ↔ AtOrAbove (m .juniors) junior senior
@@ -64,7 +65,7 @@ inherit-sound m senior junior s =
     let above : has (m .roles) senior ≡ true = not-false (has (m .roles) senior) (there .0) in
     let new : ℕ → ℕ = put (m .juniors) senior (with (m .juniors senior) junior) in
     let more : m .lineCount + 1 ≡ standing 64 new = omega (arith, s .counted .lined, one-more 64 (m .juniors) senior junior (leb-false 64 senior (range .0)) small (c .1 .1 .0)) in
-    let room : m .lineCount < 512 = leb-false 512 (m .lineCount) (c .1 .1 .1 .1 .1 .0) in
+    let room : m .lineCount < 512 = leb-false 512 (m .lineCount) (c .1 .1 .1 .1 .1 .1 .0) in
     lines-changed m s new (m .lineCount + 1)
     (old-at m (m .juniors) senior junior (s .shape .juniors))
     (put-all (λ k set. (j : ℕ) → has set j ≡ true → has (m .roles) k ≡ true) (m .juniors) senior (with (m .juniors senior) junior) (λ j e. above) (λ k d j e. s .shape .seniors k j e))
@@ -73,8 +74,12 @@ inherit-sound m senior junior s =
     (omega arith)
     (lined-acyclic m s senior junior small (c .1 .1 .1 .0))
     (λ u. for-all u (c .1 .1 .1 .1 .0) (decLt u 256))
-    (s .rules .dynamic))
+    (λ k. in-all k (c .1 .1 .1 .1 .1 .0) (decLt k 64)))
   where
     for-all : (u : ℕ) → some 256 (staticBroken (lined m senior junior)) ≡ false → Dec (u < 256) → staticBroken (lined m senior junior) u ≡ false
     for-all u e (yes l) = some-false 256 (staticBroken (lined m senior junior)) e u l
     for-all u e (no l) = static-beyond m (s .shape) (lined m senior junior .juniors) u (omega arith)
+
+    in-all : (k : ℕ) → some 64 (dynamicBroken (lined m senior junior)) ≡ false → Dec (k < 64) → dynamicBroken (lined m senior junior) k ≡ false
+    in-all k e (yes l) = some-false 64 (dynamicBroken (lined m senior junior)) e k l
+    in-all k e (no l) = dynamic-beyond m (s .shape) (lined m senior junior .juniors) (m .lineCount + 1) k (omega arith)

@@ -40,12 +40,12 @@ grant-listed m op obj r s =
     alike-settle _ _ m [] (granted m (permission op obj) r)
     (refl, refl, λ c1. (refl, refl, λ c2. (refl, refl, λ c4. (refl, ap (leb mostGrants) (s .counted .granted), λ c12. tt))))
 
--- "`inherit senior junior`: 1, 2, 4 (this direct line stands), 6 (equal, or the junior inherits the senior), 10, 12."
-pub inherit-listed : (m : Model) (senior junior : ℕ) → Sound m → inherit m senior junior ≡ settle (1 when (roleBeyond senior || roleBeyond junior) ∷ 2 when (roleMissing m senior || roleMissing m junior) ∷ 4 when has (m .juniors senior) junior ∷ 6 when wouldCircle m senior junior ∷ 10 when some 256 (staticBroken (lined m senior junior)) ∷ 12 when leb mostLines (linesStanding m) ∷ []) m [] (lined m senior junior)
+-- "`inherit senior junior`: 1, 2, 4 (this direct line stands), 6 (equal, or the junior inherits the senior), 10, 12.", with 11 after 10
+pub inherit-listed : (m : Model) (senior junior : ℕ) → Sound m → inherit m senior junior ≡ settle (1 when (roleBeyond senior || roleBeyond junior) ∷ 2 when (roleMissing m senior || roleMissing m junior) ∷ 4 when has (m .juniors senior) junior ∷ 6 when wouldCircle m senior junior ∷ 10 when some 256 (staticBroken (lined m senior junior)) ∷ 11 when some 64 (dynamicBroken (lined m senior junior)) ∷ 12 when leb mostLines (linesStanding m) ∷ []) m [] (lined m senior junior)
 unfolding inherit
 inherit-listed m senior junior s =
     alike-settle _ _ m [] (lined m senior junior)
-    (refl, refl, λ c1. (refl, refl, λ c2. (refl, refl, λ c4. (refl, refl, λ c6. (refl, refl, λ c10. (refl, ap (leb mostLines) (s .counted .lined), λ c12. tt))))))
+    (refl, refl, λ c1. (refl, refl, λ c2. (refl, refl, λ c4. (refl, refl, λ c6. (refl, refl, λ c10. (refl, refl, λ c11. (refl, ap (leb mostLines) (s .counted .lined), λ c12. tt)))))))
 
 -- ---- sets, of both kinds
 

@@ -98,7 +98,7 @@ pub static-exact : (m : Model) → Shape m → (u : ℕ) → (staticBroken m u �
 unfolding staticBroken
 static-exact m x u = separated-exact Static m x u
 
--- "Every session has fewer than n of them active"
+-- "a session may have fewer than n effective roles of a dynamic set"
 pub dynamic-exact : (m : Model) → Shape m → (k : ℕ) → (dynamicBroken m k ≡ false) ↔ ((n : ℕ) → m .dsd n .there ≡ true → count (common (m .dsd n .roles) (counted m k)) < m .dsd n .card)
 unfolding dynamicBroken
 dynamic-exact m x k = separated-exact Dynamic m x k

@@ -87,7 +87,7 @@ fn of_grants(state: &mut [u64; PLACES], m: u64, i: u64, b: u16) -> Answer {
     }
 }
 
-// `inherit` and `disinherit`: done, refused with 4, 6, 10 and 5.
+// `inherit` and `disinherit`: done, refused with 4, 6, 10, 5 and 11. With the line of move 36 the session of the bench's lead would have the release of the next bench in effect, which a dynamic set holds apart from the lead's review.
 fn of_lines(state: &mut [u64; PLACES], m: u64, depth: u16, b: u16) -> Answer {
     let r = spare(depth, b);
     let s = senior(depth, b);
@@ -98,11 +98,12 @@ fn of_lines(state: &mut [u64; PLACES], m: u64, depth: u16, b: u16) -> Answer {
         33 => inheriting::inherit(state, of_bench(b, 0), of_bench(b, 3)),
         34 => inheriting::inherit(state, of_bench(b, 3), of_bench(b, 2)),
         35 => inheriting::disinherit(state, s, r),
+        36 => inheriting::inherit(state, of_bench(b, 3), of_bench(b % 16 + 1, 2)),
         _ => Answer::Done,
     }
 }
 
-// The commands of sets, of either kind: done, refused with 10, 5 and 7.
+// The commands of sets, of either kind: done, refused with 10 or 11, 5 and 7.
 fn of_sets(state: &mut [u64; PLACES], m: u64, kind: Kind, b: u16) -> Answer {
     let name = SetName { number: b };
     let pair = pair_of(kind, b);

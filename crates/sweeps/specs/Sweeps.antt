@@ -10,11 +10,24 @@ use Rattle.hierarchy.specs.Lines.{tableOf}
 use Rattle.hierarchy.specs.Walks.{reach}
 use Rattle.model.specs.Model.{Model, Session}
 use Rattle.model.specs.Words.{breaksSome, shedded}
+use Rattle.model.specs.commands.Sets.{setsOf}
 use Rattle.model.specs.commands.Users.{holding}
+use Rattle.model.specs.declared.Kind.{Kind}
+use Rattle.model.specs.declared.Kind.the-variants.{Static, Dynamic}
 
--- the static rule is broken for some user of m, with these lines
-abbrev pub asksStatic : Model → (ℕ → ℕ) → Bool
-asksStatic m juniors = some 256 (λ u. breaksSome (m .ssd) (reach juniors (m .assigned u)))
+-- of how many a rule of the kind is asked: of 256 users, or of 64 sessions
+abbrev pub askedOf : Kind → ℕ
+askedOf Static = 256
+askedOf Dynamic = 64
+
+-- the roles that one of them has itself: those assigned to the user, or those active in the session
+abbrev pub ownRoles : Kind → Model → ℕ → ℕ
+ownRoles Static m u = m .assigned u
+ownRoles Dynamic m s = m .sessions s .active
+
+-- the rule of the kind is broken for some user, or in some session, of m, with these lines
+abbrev pub asksRule : Kind → Model → (ℕ → ℕ) → Bool
+asksRule kind m juniors = some (askedOf kind) (λ i. breaksSome (setsOf kind m) (reach juniors (ownRoles kind m i)))
 
 -- the active roles that each session keeps
 pub record ShedsAll (juniors assigned : ℕ → ℕ) (sessions : ℕ → Session) (kept : List ℕ) : Type 0 where

@@ -6,9 +6,8 @@ ghost use Rattle.model.specs.Words.{shedded};
 ghost use Rattle.model.specs.commands.Sessions.{lowestFree};
 ghost use Rattle.model.specs.commands.Sets.{broken};
 ghost use Rattle.model.specs.commands.Users.{openOf, allEnded, hasOpen};
-ghost use Rattle.model.specs.declared.Kind.the-variants.{Static, Dynamic};
 ghost use Rattle.state.specs.View.{part, view};
-ghost use Rattle.sweeps.specs.Sweeps.{asksStatic, ShedsAll, Strips};
+ghost use Rattle.sweeps.specs.Sweeps.{askedOf, ownRoles, asksRule, ShedsAll, Strips};
 use model::Kind;
 use model::RoleSet;
 use model::SessionRecord;
@@ -22,20 +21,50 @@ use state::reads::assigned_to;
 use state::reads::session_at;
 use state::stores::close_session;
 
-// Is the static rule broken for some user, with these lines? The first user that breaks it ends the sweep. What no role breaks, a user with no roles does not break, and is not walked for.
-pub fn ask_static<'a>(state: &'a [u64; PLACES], juniors: &'a [u64; 64]) -> bool
-    ensures { λ b. ⌜ b ≡ asksStatic (view (now (state .entry))) (tableOf (now (juniors .entry))) ⌝ }
+// All 64 roles.
+const ALL_ROLES: u64 = 18446744073709551615;
+
+// Of how many a rule of the kind is asked: of 256 users, or of 64 sessions.
+fn asked_of(kind: Kind) -> u16
+    ensures { λ n. ⌜ n ≡ askedOf kind ⌝ }
 {
-    if breaks_some(state, Kind::Static, 0) {
+    match kind {
+        Kind::Static => 256,
+        Kind::Dynamic => 64,
+    }
+}
+
+// The roles that one of them has itself: those assigned to the user, or those active in the session.
+fn own_roles(state: &[u64; PLACES], kind: Kind, i: u16) -> u64
+    ensures { λ x. ⌜ x ≡ ownRoles kind (view (now (state .entry))) i ⌝ }
+{
+    match kind {
+        Kind::Static => assigned_to(state, User { number: i }),
+        Kind::Dynamic => {
+            let session = session_at(state, Session { number: i });
+            session.active
+        }
+    }
+}
+
+// Is a rule of the kind broken for some user, or in some session, with these lines? The first that breaks one ends the sweep. What no role breaks, one with no roles does not break, and is not walked for: a closed session costs no walk. What all roles together do not break, nobody breaks: with no set of the kind there is no sweep.
+pub fn ask_rule<'a>(state: &'a [u64; PLACES], kind: Kind, juniors: &'a [u64; 64]) -> bool
+    ensures { λ b. ⌜ b ≡ asksRule kind (view (now (state .entry))) (tableOf (now (juniors .entry))) ⌝ }
+{
+    if breaks_some(state, kind, 0) {
         return true;
     }
-    let mut u: u16 = 0;
-    while u < 256 {
-        let held = assigned_to(state, User { number: u });
-        u += 1;
-        if held != 0 {
-            let authorised = hierarchy::reach(juniors, held);
-            if breaks_some(state, Kind::Static, authorised) {
+    if !breaks_some(state, kind, ALL_ROLES) {
+        return false;
+    }
+    let n = asked_of(kind);
+    let mut i: u16 = 0;
+    while i < n {
+        let own = own_roles(state, kind, i);
+        i += 1;
+        if own != 0 {
+            let held = hierarchy::reach(juniors, own);
+            if breaks_some(state, kind, held) {
                 return true;
             }
         }
@@ -43,50 +72,26 @@ pub fn ask_static<'a>(state: &'a [u64; PLACES], juniors: &'a [u64; 64]) -> bool
     false
 }
 
-// Does some user break the rule of the set by the roles that it is authorised for?
-fn ask_users(state: &[u64; PLACES], set: RoleSet) -> bool
-    ensures { λ b. ⌜ b ≡ broken Static (view (now (state .entry))) set ⌝ }
+// Is the rule of the set broken? A static one is asked of the roles that each user is authorised for, a dynamic one of those that are effective in each session.
+pub fn ask_set(state: &[u64; PLACES], kind: Kind, set: RoleSet) -> bool
+    ensures { λ b. ⌜ b ≡ broken kind (view (now (state .entry))) set ⌝ }
 {
     if breaks(set, 0) {
         return true;
     }
-    let mut u: u16 = 0;
-    while u < 256 {
-        let held = assigned_to(state, User { number: u });
-        u += 1;
-        if held != 0 {
-            let authorised = walking::reach(state, held);
-            if breaks(set, authorised) {
+    let n = asked_of(kind);
+    let mut i: u16 = 0;
+    while i < n {
+        let own = own_roles(state, kind, i);
+        i += 1;
+        if own != 0 {
+            let held = walking::reach(state, own);
+            if breaks(set, held) {
                 return true;
             }
         }
     }
     false
-}
-
-// Does some session break the rule of the set by its active roles?
-fn ask_sessions(state: &[u64; PLACES], set: RoleSet) -> bool
-    ensures { λ b. ⌜ b ≡ broken Dynamic (view (now (state .entry))) set ⌝ }
-{
-    let mut k: u16 = 0;
-    while k < 64 {
-        let session = session_at(state, Session { number: k });
-        if breaks(set, session.active) {
-            return true;
-        }
-        k += 1;
-    }
-    false
-}
-
-// Is the rule of the set broken? A static one is asked of the roles that each user is authorised for, a dynamic one of those that each session has active.
-pub fn ask_set(state: &[u64; PLACES], kind: Kind, set: RoleSet) -> bool
-    ensures { λ b. ⌜ b ≡ broken kind (view (now (state .entry))) set ⌝ }
-{
-    match kind {
-        Kind::Static => ask_users(state, set),
-        Kind::Dynamic => ask_sessions(state, set),
-    }
 }
 
 // What one session keeps of its active roles; a closed one stays as it is.

@@ -1,4 +1,4 @@
--- The paper's example, the user's story and the leaver's, by computation. Assumes nothing.
+-- The paper's example, the user's story, the leaver's and the student's, by computation. Assumes nothing.
 use mathlib.Core.Bool.{true}
 use mathlib.Core.Path.{_≡_, refl}
 use Rattle.roleset.specs.Bounded.{some, every, tally, total, members}
@@ -26,6 +26,7 @@ use Rattle.transcripts.specs.Program.{example}
 use Rattle.transcripts.specs.Rows.{Prints}
 use Rattle.transcripts.specs.Story.{story}
 use Rattle.transcripts.specs.Leaver.{leaver}
+use Rattle.transcripts.specs.Student.{student}
 use Rattle.transcripts.proofs.Scripts.{plain, tallies, rightLines, noFeed, noFeeds, rightScript, prints-rows}
 
 paper-right : rightScript (plain example) "total 14 2" ≡ true
@@ -40,6 +41,10 @@ leaver-right : rightScript (plain leaver) "total 17 2" ≡ true
 unfolding some every tally total members has pack those with without union common minus subset isEmpty count juniorsOf walk reach rising someFrom listed setOf empty put ask assignedUsers assignedRoles authRoles sessionRoles verdict settle step breaks breaksSome staticBroken dynamicBroken shedded shed assignments grants linesStanding sessionsOpen user role endedOf allEnded endAll hasOpen withoutUser nouser norole inSet withoutRole assign assigned deassign deassigned grant granted inherit lined disinherit unlined broken makeSet dropMember freeFrom opened session activeSet activate permitted check end decimal lead numbered takenFrom same words spelling takes placeIn which partsOf upTo render wordIn numbersIn parse meanings meant obey answerText totalText tallies rightLines noFeed noFeeds rightScript
 leaver-right = refl
 
+student-right : rightScript (plain student) "total 21 4" ≡ true
+unfolding some every tally total members has pack those with without union common minus subset isEmpty count juniorsOf walk reach rising someFrom listed setOf empty put ask assignedUsers assignedRoles authRoles sessionRoles verdict settle step breaks breaksSome staticBroken dynamicBroken shedded shed assignments grants linesStanding sessionsOpen user role norole inSet withoutRole assign assigned deassign deassigned grant granted inherit lined disinherit unlined broken makeSet dropMember freeFrom opened session activeSet activate permitted check end decimal lead numbered takenFrom same words spelling takes placeIn which partsOf upTo render wordIn numbersIn parse meanings meant obey answerText totalText tallies rightLines noFeed noFeeds rightScript
+student-right = refl
+
 pub paper-printed : Prints example "total 14 2"
 paper-printed = prints-rows example "total 14 2" paper-right
 
@@ -48,3 +53,6 @@ story-printed = prints-rows story "total 22 3" story-right
 
 pub leaver-printed : Prints leaver "total 17 2"
 leaver-printed = prints-rows leaver "total 17 2" leaver-right
+
+pub student-printed : Prints student "total 21 4"
+student-printed = prints-rows student "total 21 4" student-right

@@ -10,7 +10,8 @@ use Rattle.transcripts.specs.Program.{Program}
 use Rattle.transcripts.specs.Rows.{lineOf}
 use Rattle.transcripts.specs.Story.{Story}
 use Rattle.transcripts.specs.Leaver.{Leaver}
-use Rattle.transcripts.proofs.Examples.{paper-printed, story-printed, leaver-printed}
+use Rattle.transcripts.specs.Student.{Student}
+use Rattle.transcripts.proofs.Examples.{paper-printed, story-printed, leaver-printed, student-printed}
 
 nothing : runScript [] ≡ lineOf "total 0 0"
 unfolding runScript runLines totalText numbered decimal lead partsOf
@@ -26,6 +27,9 @@ story-holds = record { told = story-printed }
 
 pub leaver-holds : Leaver
 leaver-holds = record { told = leaver-printed }
+
+pub student-holds : Student
+student-holds = record { told = student-printed }
 
 pub program : Program
 program =

@@ -5,3 +5,4 @@ pub mod Program
 pub mod Desk
 pub mod Story
 pub mod Leaver
+pub mod Student

@@ -102,7 +102,7 @@ separation =
 pub sweeps : promises.Sweeps
 sweeps =
     record {
-      ask-static = λ κs a x y e f vx vy p q. p ∙ sym q;
+      ask-rule = λ κs a x y e f vx vy p q. p ∙ sym q;
       ask-set = λ κs a x y e f vx vy p q. p ∙ sym q;
       shed = λ κs a x y e f vx vy p q. laws.sheds-all-one p q;
       end-all = λ κs a x y e f sx sy p q. (refl, laws.states sx sy p q);

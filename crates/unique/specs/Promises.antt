@@ -115,7 +115,7 @@ pub record Separation : Type 0 where
   pub breaks-some : Unique separation.breaks_some.Kinds.ps separation.breaks_some.Kinds.r separation.breaks_some.Reads.Post
 
 pub record Sweeps : Type 0 where
-  pub ask-static : Unique sweeps.ask_static.Kinds.ps sweeps.ask_static.Kinds.r sweeps.ask_static.Reads.Post
+  pub ask-rule : Unique sweeps.ask_rule.Kinds.ps sweeps.ask_rule.Kinds.r sweeps.ask_rule.Reads.Post
   pub ask-set : Unique sweeps.ask_set.Kinds.ps sweeps.ask_set.Kinds.r sweeps.ask_set.Reads.Post
   pub shed : Unique sweeps.shed.Kinds.ps sweeps.shed.Kinds.r sweeps.shed.Reads.Post
   pub end-all : UniqueState sweeps.end_all.Kinds.ps sweeps.end_all.Kinds.r sweeps.end_all.Reads.Post (λ κs e. e .0 .now)

@@ -1,11 +1,12 @@
 //! Themes. Each begins a script; random steps fill it up.
 
+use super::seniors::seniors;
 use super::{named, Draft, LONGEST_SCRIPT};
 use crate::words::{Takes, WORDS};
 
 /// Scripts take these in turn.
 pub const THEMES: &[fn(&mut Draft)] =
-    &[mixed, deep, full_assignments, crowded, full_grants, malformed, full_lines, mixed, full_sessions, leavers, wide];
+    &[mixed, deep, full_assignments, crowded, full_grants, malformed, full_lines, seniors, mixed, full_sessions, leavers, wide];
 
 fn mixed(draft: &mut Draft) {
     draft.users = draft.random().number(2, 12);
@@ -13,7 +14,7 @@ fn mixed(draft: &mut Draft) {
 }
 
 /// Users and roles from 0 up, in as long a script as may be.
-fn begin(draft: &mut Draft, users: u16, roles: u16) {
+pub fn begin(draft: &mut Draft, users: u16, roles: u16) {
     draft.room = LONGEST_SCRIPT;
     draft.users = users;
     draft.roles = roles;
@@ -159,6 +160,8 @@ fn full_lines(draft: &mut Draft) {
     fill(draft, ["inherit", "disinherit"], lines.split_at(512), |draft| {
         draft.say("auth-roles", &[0]);
         draft.say("auth-users", &[order[62]]);
+        draft.say("dsd", &[0, 2, members[0], members[1]]);
+        draft.say("inherit", &[order[10], spare]);
         draft.say("ssd", &[0, 2, members[0], members[1]]);
         draft.say("inherit", &[lines[0][1], lines[0][0]]);
         draft.say("inherit", &[order[62], order[0]]);
@@ -184,6 +187,7 @@ fn full_sessions(draft: &mut Draft) {
     }
     draft.open_all_sessions();
     draft.say("session", &[0, 0]);
+    draft.say("session", &[0, 0, 3]);
     draft.say("session", &[0, 2, 4]);
     draft.say("session", &[0, 5]);
     draft.say("session", &[4]);
@@ -214,6 +218,10 @@ fn leavers(draft: &mut Draft) {
         draft.say("session", &[owner, 4]);
     }
     draft.say("session", &[3, 3, 4]);
+    // A line that would break a DSD rule in the last session alone.
+    draft.say("dsd", &[0, 2, 2, 3]);
+    draft.say("inherit", &[3, 2]);
+    draft.say("nodsd", &[0]);
     for user in [3, 0, 1, 2] {
         leave(draft, user);
     }

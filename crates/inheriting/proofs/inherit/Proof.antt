@@ -1,4 +1,4 @@
--- Each test of `inherit` is a refusal of the sheet, in its order; past all six, the lines are those with the new one. Assumes nothing.
+-- Each test of `inherit` is a refusal of the sheet, in its order; past all seven, the lines are those with the new one. Assumes nothing.
 use borrow.Author.Needs.{needs}
 use borrow.Author.Tests.{le-leb, lt-leb}
 use mathlib.Core.Bool.{false, _||_}
@@ -6,16 +6,22 @@ use mathlib.Core.List.{[]}
 use mathlib.Core.Path.{_≡_, sym, ap, _∙_}
 use Prim.Native.Nat.{ℕ, _<_}
 use lib.Dec.{leb}
+use lib.ListN.{set}
 use Rattle.roleset.specs.Bounded.{some}
 use Rattle.roleset.specs.Roles.{has, with, none}
+use Rattle.hierarchy.specs.Lines.{tableOf}
 use Rattle.numbers.specs.Ranges.{mostLines}
 use Rattle.model.specs.Model.{Model}
 use Rattle.model.specs.Sheet.{verdict, settle, done}
-use Rattle.model.specs.Words.{reached, staticBroken}
+use Rattle.model.specs.Words.{reached, staticBroken, dynamicBroken}
 use Rattle.model.specs.commands.Inheriting.{inherit, lined, wouldCircle}
 use Rattle.model.specs.commands.Naming.{roleBeyond, roleMissing}
+use Rattle.model.specs.declared.Kind.{Kind}
+use Rattle.model.specs.declared.Kind.the-variants.{Static, Dynamic}
 use Rattle.state.specs.View.{view, told}
 use Rattle.state.proofs.Stored.{within}
+use Rattle.sweeps.specs.Sweeps.{asksRule}
+use Rattle.sweeps.proofs.Asking.{ruleBroken}
 use Rattle.inheriting.proofs.Laws.{asks-lined, lined-stored}
 use Rattle.inheriting.proofs.inherit.Statement.{statement}
 use Rattle.inheriting.proofs.inherit.Tie as tie
@@ -43,11 +49,14 @@ to-2 c = c .before .before .before .before
 abbrev to-3 : tie.Else4 → tie.Else3
 to-3 c = c .before .before .before .before .before
 
-abbrev to-4 : tie.After-ask-static → tie.Else4
+abbrev to-4 : tie.After-ask-rule → tie.Else4
 to-4 c = c .before .before .before .before .before .before .before
 
-abbrev to-asked : tie.Else6 → tie.After-ask-static
-to-asked c = c .before .before .before .before
+abbrev to-5 : tie.After-ask-rule2 → tie.Else5
+to-5 c = c .before .before .before
+
+abbrev to-6 : tie.Else7 → tie.Else6
+to-6 c = c .before .before .before
 
 -- the same place, from one where all that is known is bound
 abbrev start-2 : tie.Else2 → tie.Start
@@ -58,6 +67,12 @@ start-3 c = start-2 (to-2 c)
 
 abbrev start-4 : tie.Else4 → tie.Start
 start-4 c = start-3 (to-3 c)
+
+abbrev start-5 : tie.Else5 → tie.Start
+start-5 c = start-4 (to-4 (c .before))
+
+abbrev start-6 : tie.Else6 → tie.Start
+start-6 c = start-5 (to-5 (c .before))
 
 -- what the tests find, and what is known past them
 found-1 : (c : tie.After-either) → let s = c .before .before .before in (roleBeyond (senior s) || roleBeyond (junior s)) ≡ c .either .result
@@ -97,31 +112,40 @@ clear-4 c = found-4 (c .before) ∙ c .if4 .left
 new : (c : tie.After-with2) → let s = start-4 (c .before) in c .with2 .result ≡ with (m s .juniors (senior s)) (junior s)
 new c = let s = start-4 (c .before) in c .with2 .ensures .is ∙ ap (λ (x : ℕ). with x (junior s)) (to-3 (c .before) .before .before .directly-below .ensures)
 
--- the rule was asked with the lines as they will be
-found-5 : (c : tie.After-ask-static) → let s = start-4 (to-4 c) in some 256 (staticBroken (lined (m s) (senior s) (junior s))) ≡ c .ask-static .result
-found-5 c =
-    let table = c .before .before .before .before in
-    let c4 = to-4 c in
+-- the lines that the rules are asked with are those that will be
+asked : (c : tie.After-juniors-table) (kind : Kind) → let s = start-4 (c .before .before .before) in asksRule kind (m s) (tableOf (set (c .juniors-table .result) (senior s) (c .before .before .with2 .result))) ≡ ruleBroken kind (lined (m s) (senior s) (junior s))
+asked c kind =
+    let c4 = c .before .before .before in
     let s = start-4 c4 in
-    sym (c .ask-static .ensures ∙ asks-lined (m s) (senior s) (junior s) (within-range (to-1 (to-2 (to-3 c4)))) (table .before .before .with2 .result) (new (table .before .before)) (table .juniors-table .result) (table .juniors-table .ensures))
+    asks-lined (m s) (senior s) (junior s) (within-range (to-1 (to-2 (to-3 c4)))) (c .before .before .with2 .result) (new (c .before .before)) kind (c .juniors-table .result) (c .juniors-table .ensures)
 
-clear-5 : (c : tie.Else5) → let s = start-4 (to-4 (c .before)) in some 256 (staticBroken (lined (m s) (senior s) (junior s))) ≡ false
+found-5 : (c : tie.After-ask-rule) → let s = start-4 (to-4 c) in some 256 (staticBroken (lined (m s) (senior s) (junior s))) ≡ c .ask-rule .result
+found-5 c = sym (c .ask-rule .ensures ∙ asked (c .before .before .before .before) Static)
+
+clear-5 : (c : tie.Else5) → let s = start-5 c in some 256 (staticBroken (lined (m s) (senior s) (junior s))) ≡ false
 clear-5 c = found-5 (c .before) ∙ c .if5 .left
 
-found-6 : (c : tie.After-line-count) → leb mostLines (m (start-4 (to-4 (c .before .before .before))) .lineCount) ≡ leb 512 (c .line-count .result)
-found-6 c = ap (leb 512) (sym (c .line-count .ensures))
+found-6 : (c : tie.After-ask-rule2) → let s = start-5 (to-5 c) in some 64 (dynamicBroken (lined (m s) (senior s) (junior s))) ≡ c .ask-rule2 .result
+found-6 c = sym (c .ask-rule2 .ensures ∙ asked (to-5 c .before .before .before .before .before) Dynamic)
 
-clear-6 : (c : tie.Else6) → leb mostLines (m (start-4 (to-4 (to-asked c))) .lineCount) ≡ false
-clear-6 c = found-6 (c .before) ∙ lt-leb 512 (c .before .line-count .result) (c .if6 .left)
+clear-6 : (c : tie.Else6) → let s = start-6 c in some 64 (dynamicBroken (lined (m s) (senior s) (junior s))) ≡ false
+clear-6 c = found-6 (c .before) ∙ c .if6 .left
+
+found-7 : (c : tie.After-line-count) → leb mostLines (m (start-6 (c .before .before)) .lineCount) ≡ leb 512 (c .line-count .result)
+found-7 c = ap (leb 512) (sym (c .line-count .ensures))
+
+clear-7 : (c : tie.Else7) → leb mostLines (m (start-6 (to-6 c)) .lineCount) ≡ false
+clear-7 c = found-7 (c .before) ∙ lt-leb 512 (c .before .line-count .result) (c .if7 .left)
 
 -- the store: the lines with the new one
-stored : (c : tie.After-put-juniors) → let s = start-4 (to-4 (to-asked (c .before .before))) in view (c .put-juniors .last .0) ≡ lined (m s) (senior s) (junior s)
+stored : (c : tie.After-put-juniors) → let s = start-6 (to-6 (c .before .before)) in view (c .put-juniors .last .0) ≡ lined (m s) (senior s) (junior s)
 stored c =
-    let c6 = c .before .before in
-    let c4 = to-4 (to-asked c6) in
+    let c7 = c .before .before in
+    let ask = to-5 (to-6 c7 .before) .before in
+    let c4 = to-4 ask in
     let s = start-4 c4 in
-    let with-line = to-asked c6 .before .before .before .before .before .before in
-    lined-stored (m s) (senior s) (junior s) (within-range (to-1 (to-2 (to-3 c4)))) (with-line .with2 .result) (new with-line) (view (c .put-juniors .last .0)) (c6 .before .line-count .result) (c6 .before .line-count .ensures) (c .put-juniors .ensures)
+    let with-line = ask .before .before .before .before .before .before in
+    lined-stored (m s) (senior s) (junior s) (within-range (to-1 (to-2 (to-3 c4)))) (with-line .with2 .result) (new with-line) (view (c .put-juniors .last .0)) (c7 .before .line-count .result) (c7 .before .line-count .ensures) (c .put-juniors .ensures)
 
 returns : tie.Need-returns
 unfolding told inherit settle verdict
@@ -158,21 +182,32 @@ returns-5 c =
 returns-6 : tie.Need-returns-6
 unfolding told inherit settle verdict
 returns-6 c =
-    let c5 = c .before .before .before in
+    let c5 = to-5 (c .before) in
     let c4 = to-4 (c5 .before) in
     let c3 = to-3 c4 in
     let c2 = to-2 c3 in
-    rw (clear-1 (to-1 c2), clear-2 c2, clear-3 c3, clear-4 c4, clear-5 c5, found-6 (c .before) ∙ le-leb 512 (c .before .line-count .result) (c .if6 .taken))
+    rw (clear-1 (to-1 c2), clear-2 c2, clear-3 c3, clear-4 c4, clear-5 c5, found-6 (c .before) ∙ c .if6 .taken)
 
 returns-7 : tie.Need-returns-7
 unfolding told inherit settle verdict
 returns-7 c =
-    let c6 = c .before .before in
-    let c5 = c6 .before .before .before in
+    let c6 = c .before .before .before in
+    let c5 = to-5 (c6 .before) in
     let c4 = to-4 (c5 .before) in
     let c3 = to-3 c4 in
     let c2 = to-2 c3 in
-    rw (clear-1 (to-1 c2), clear-2 c2, clear-3 c3, clear-4 c4, clear-5 c5, clear-6 c6)
+    rw (clear-1 (to-1 c2), clear-2 c2, clear-3 c3, clear-4 c4, clear-5 c5, clear-6 c6, found-7 (c .before) ∙ le-leb 512 (c .before .line-count .result) (c .if7 .taken))
+
+returns-8 : tie.Need-returns-8
+unfolding told inherit settle verdict
+returns-8 c =
+    let c7 = c .before .before in
+    let c6 = to-6 c7 in
+    let c5 = to-5 (c6 .before) in
+    let c4 = to-4 (c5 .before) in
+    let c3 = to-3 c4 in
+    let c2 = to-2 c3 in
+    rw (clear-1 (to-1 c2), clear-2 c2, clear-3 c3, clear-4 c4, clear-5 c5, clear-6 c6, clear-7 c7)
     (ap (done []) (stored c))
 
 pub inherit-spec : {M : Type 1} → statement M
@@ -203,6 +238,8 @@ inherit-spec =
     returns-5
     (λ c κs. search needs)
     returns-6
+    (λ c κs. search needs)
+    returns-7
     (λ c. search needs)
     (λ c κs. search needs)
-    returns-7)
+    returns-8)

@@ -8,7 +8,7 @@ use Rattle.roleset.specs.Roles.{has, with, without, none}
 use Rattle.numbers.specs.Ranges.{mostLines}
 use Rattle.model.specs.Model.{Model, put, withLines}
 use Rattle.model.specs.Sheet.{Told, _when_, settle}
-use Rattle.model.specs.Words.{reached, staticBroken, shed}
+use Rattle.model.specs.Words.{reached, staticBroken, dynamicBroken, shed}
 use Rattle.model.specs.commands.Naming.{roleBeyond, roleMissing}
 
 -- the line (senior, junior) stands, one line more; it no longer does, one less
@@ -23,7 +23,8 @@ abbrev pub wouldCircle : Model → ℕ → ℕ → Bool
 wouldCircle m senior junior = has (reached m (with none junior)) senior
 
 -- "`inherit senior junior`: 1, 2, 4 (this direct line stands), 6 (equal, or the junior inherits the senior), 10, 12. A line that a longer
--- chain already implies is recorded all the same." The static rule is asked of every user
+-- chain already implies is recorded all the same." "`inherit` may now answer 11, after 10" (request 2). The static rule is asked of every user,
+-- the dynamic one of every session
 unfoldable pub inherit : Model → ℕ → ℕ → Told
 inherit m senior junior =
     settle
@@ -32,6 +33,7 @@ inherit m senior junior =
     ∷ 4 when has (m .juniors senior) junior
     ∷ 6 when wouldCircle m senior junior
     ∷ 10 when some 256 (staticBroken (lined m senior junior))
+    ∷ 11 when some 64 (dynamicBroken (lined m senior junior))
     ∷ 12 when leb mostLines (m .lineCount)
     ∷ [])
     m

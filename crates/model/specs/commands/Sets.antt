@@ -23,7 +23,7 @@ abbrev pub withSets : Kind → Model → (ℕ → RoleSet) → Model
 withSets Static m x = withSsd m x
 withSets Dynamic m x = withDsd m x
 
--- the set's rule is broken: by the roles that some user is authorised for, or by the roles that some session has active
+-- the set's rule is broken: by the roles that some user is authorised for, or by the roles of some session that a dynamic set counts
 unfoldable pub broken : Kind → Model → RoleSet → Bool
 broken Static m set = some 256 (λ u. breaks set (authorised m u))
 broken Dynamic m set = some 64 (λ s. breaks set (counted m s))

@@ -2,12 +2,16 @@
 use borrow.Author.Needs.{needs}
 use mathlib.Core.Bool.{Bool, _||_}
 use mathlib.Core.Path.{_≡_, sym, ap, ap₂, _∙_}
-use Prim.Native.Nat.{ℕ}
 use Rattle.roleset.specs.Bounded.{some}
-use Rattle.hierarchy.specs.Walks.{reach, circular}
+use Rattle.hierarchy.specs.Lines.{tableOf}
+use Rattle.hierarchy.specs.Walks.{circular}
 use Rattle.model.specs.Sheet.{verdict}
-use Rattle.model.specs.Words.{breaksSome, staticBroken, dynamicBroken}
+use Rattle.model.specs.Words.{staticBroken, dynamicBroken}
+use Rattle.model.specs.declared.Kind.{Kind}
+use Rattle.model.specs.declared.Kind.the-variants.{Static, Dynamic}
 use Rattle.state.specs.View.{view}
+use Rattle.sweeps.specs.Sweeps.{asksRule}
+use Rattle.sweeps.proofs.Asking.{ruleBroken, asks-lines}
 use Rattle.policyform.specs.Rules.{badSet, unauthorised, rulesBroken}
 use Rattle.policycheck.proofs.broken.Statement.{statement}
 use Rattle.policycheck.proofs.broken.Tie as tie
@@ -22,12 +26,15 @@ cardinalities c = sym (c .either .ensures ∙ ap₂ (λ (a b : Bool). a || b) (c
 acting : (c : tie.After-unauthorised) → unauthorised (view (c .before .before .before .before .before .before .before .before .before .args .state .now)) ≡ c .unauthorised .result
 acting c = sym (c .unauthorised .ensures)
 
-static : (c : tie.After-ask-static) → some 256 (staticBroken (view (c .before .before .before .before .before .before .before .before .before .before .before .before .args .state .now))) ≡ c .ask-static .result
-unfolding staticBroken
-static c = sym (c .ask-static .ensures ∙ ap (λ (t : ℕ → ℕ). some 256 (λ u. breaksSome (view (c .before .before .before .before .before .before .before .before .before .before .before .before .args .state .now) .ssd) (reach t (view (c .before .before .before .before .before .before .before .before .before .before .before .before .args .state .now) .assigned u)))) (c .before .before .before .before .before .before .before .before .before .before .before .juniors-table .ensures .each))
+-- the rule of a kind is asked with the lines as they are
+lines : (c : tie.After-juniors-table) (kind : Kind) → let m = view (c .before .args .state .now) in asksRule kind m (tableOf (c .juniors-table .result)) ≡ ruleBroken kind m
+lines c kind = let m = view (c .before .args .state .now) in ap (asksRule kind m) (c .juniors-table .ensures .each) ∙ asks-lines kind m (m .juniors) (m .lineCount)
 
-dynamic : (c : tie.After-breaks-dynamic) → some 64 (dynamicBroken (view (c .before .before .before .before .before .before .before .before .before .before .before .before .before .before .args .state .now))) ≡ c .breaks-dynamic .result
-dynamic c = sym (c .breaks-dynamic .ensures)
+static : (c : tie.After-ask-rule) → some 256 (staticBroken (view (c .before .before .before .before .before .before .before .before .before .before .before .before .args .state .now))) ≡ c .ask-rule .result
+static c = sym (c .ask-rule .ensures ∙ lines (c .before .before .before .before .before .before .before .before .before .before .before) Static)
+
+dynamic : (c : tie.After-ask-rule2) → some 64 (dynamicBroken (view (c .before .before .before .before .before .before .before .before .before .before .before .before .before .before .before .args .state .now))) ≡ c .ask-rule2 .result
+dynamic c = sym (c .ask-rule2 .ensures ∙ lines (c .before .before .before .before .before .before .before .before .before .before .before .before .before .before) Dynamic)
 
 returns : tie.Need-returns
 unfolding rulesBroken verdict
@@ -64,10 +71,10 @@ returns-5 : tie.Need-returns-5
 unfolding rulesBroken verdict
 returns-5 c =
     sym (rw (
-      circling (c .before .before .before .before .before .before .before .before .before .before .before .before) ∙ c .before .before .before .before .before .before .before .before .before .before .before .if1 .left,
-      cardinalities (c .before .before .before .before .before .before .before .before) ∙ c .before .before .before .before .before .before .before .if2 .left,
-      acting (c .before .before .before .before .before .before) ∙ c .before .before .before .before .before .if3 .left,
-      static (c .before .before .before) ∙ c .before .before .if4 .left,
+      circling (c .before .before .before .before .before .before .before .before .before .before .before .before .before) ∙ c .before .before .before .before .before .before .before .before .before .before .before .before .if1 .left,
+      cardinalities (c .before .before .before .before .before .before .before .before .before) ∙ c .before .before .before .before .before .before .before .before .if2 .left,
+      acting (c .before .before .before .before .before .before .before) ∙ c .before .before .before .before .before .before .if3 .left,
+      static (c .before .before .before .before) ∙ c .before .before .before .if4 .left,
       dynamic (c .before) ∙ c .if5 .taken,
     ))
 
@@ -75,10 +82,10 @@ returns-6 : tie.Need-returns-6
 unfolding rulesBroken verdict
 returns-6 c =
     sym (rw (
-      circling (c .before .before .before .before .before .before .before .before .before .before .before .before) ∙ c .before .before .before .before .before .before .before .before .before .before .before .if1 .left,
-      cardinalities (c .before .before .before .before .before .before .before .before) ∙ c .before .before .before .before .before .before .before .if2 .left,
-      acting (c .before .before .before .before .before .before) ∙ c .before .before .before .before .before .if3 .left,
-      static (c .before .before .before) ∙ c .before .before .if4 .left,
+      circling (c .before .before .before .before .before .before .before .before .before .before .before .before .before) ∙ c .before .before .before .before .before .before .before .before .before .before .before .before .if1 .left,
+      cardinalities (c .before .before .before .before .before .before .before .before .before) ∙ c .before .before .before .before .before .before .before .before .if2 .left,
+      acting (c .before .before .before .before .before .before .before) ∙ c .before .before .before .before .before .before .if3 .left,
+      static (c .before .before .before .before) ∙ c .before .before .before .if4 .left,
       dynamic (c .before) ∙ c .if5 .left,
     ))
 

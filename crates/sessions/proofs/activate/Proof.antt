@@ -83,8 +83,8 @@ clear-3 c = found-3 (c .before) ∙ c .if3 .left
 more : (c : tie.After-with) → let s = to-start (to-1 (to-2 (c .before))) in with (held s) (role s) ≡ c .with .result
 more c = rw (active (to-2 (c .before) .before .before), c .with .ensures .is)
 
-found-4 : (c : tie.After-breaks-some) → breaking (to-start (to-1 (to-2 (c .before .before .before)))) ≡ c .breaks-some .result
-found-4 c = active-dynamic _ _ _ ∙ rw (more (c .before .before)) (sym (c .breaks-some .ensures))
+found-4 : (c : tie.After-breaks-dynamic) → breaking (to-start (to-1 (to-2 (c .before .before .before)))) ≡ c .breaks-dynamic .result
+found-4 c = active-dynamic _ _ _ ∙ rw (more (c .before .before)) (sym (c .breaks-dynamic .ensures))
 
 clear-4 : (c : tie.Else4) → breaking (to-start (to-1 (to-2 (to-3 c)))) ≡ false
 clear-4 c = found-4 (c .before) ∙ c .if4 .left

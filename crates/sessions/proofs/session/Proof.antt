@@ -114,12 +114,12 @@ found-4 c = ap not (ap₂ subset (asked (to-1 (to-2 (from-reach (c .before))))) 
 clear-4 : (c : tie.Else4) → unauthorised (to-start (to-1 (to-2 (to-3 c)))) ≡ false
 clear-4 c = found-4 (c .before) ∙ c .if4 .left
 
-found-5 : (c : tie.After-breaks-some) → breaking (to-start (to-1 (to-2 (to-3 (c .before .before))))) ≡ c .breaks-some .result
+found-5 : (c : tie.After-breaks-dynamic) → breaking (to-start (to-1 (to-2 (to-3 (c .before .before))))) ≡ c .breaks-dynamic .result
 found-5 c =
     let c1 = to-1 (to-2 (to-3 (c .before .before))) in
     let s = to-start c1 in
-    let ruled : c .breaks-some .result ≡ breaksSome (m s .dsd) (c1 .before .before .read .result .roles) = c .breaks-some .ensures in
-    opened-dynamic (m s) (user s) (setOf (list s)) ∙ ap (breaksSome (m s .dsd)) (asked c1) ∙ sym ruled
+    let ruled : c .breaks-dynamic .result ≡ breaksSome (m s .dsd) (reached (m s) (c1 .before .before .read .result .roles)) = c .breaks-dynamic .ensures in
+    opened-dynamic (m s) (user s) (setOf (list s)) ∙ ap (λ (roles : ℕ). breaksSome (m s .dsd) (reached (m s) roles)) (asked c1) ∙ sym ruled
 
 clear-5 : (c : tie.Else5) → breaking (to-start (to-1 (to-2 (to-3 (to-4 c))))) ≡ false
 clear-5 c = found-5 (c .before) ∙ c .if5 .left
