@@ -219,7 +219,7 @@ pub fn hierarchies() -> [State; 4] {
     [kept, broken, static_too, not_authorised_too]
 }
 
-/// A state that fills every table. Its sets have all roles and a cardinality of 64, so that a session has at most 63 active.
+/// A state that fills every table. Its sets have all roles and a cardinality of 64, so that a session has at most 63 effective: no line leads to the role that it lacks.
 pub fn fullest() -> State {
     let set = RoleSet { cardinality: 64, roles: roles(0..=Role::HIGHEST) };
     let sets: BTreeMap<SetName, RoleSet> = (0..=SetName::HIGHEST).map(|name| (set_name(name), set.clone())).collect();

@@ -11,7 +11,7 @@ use Rattle.roleset.specs.Bounded.{some}
 use Rattle.roleset.specs.Roles.{has, with, none, count, subset}
 use Rattle.roleset.proofs.BoundedLaws.{clash, or-cases, or-left, or-right, and-left, and-right, and-both, some-elim, some-intro}
 use Rattle.roleset.proofs.Laws.{has-none}
-use Rattle.hierarchy.specs.Lines.{Inherits}
+use Rattle.hierarchy.specs.Lines.{line}
 use Rattle.model.specs.Lists.{someFrom, listed, setOf}
 use Rattle.model.specs.Model.{Model, RoleSet, Session, put}
 use Rattle.model.specs.Sheet.{Told}
@@ -51,6 +51,7 @@ use Rattle.demands.proofs.Cases.{asked, asked-applies, applies-asked, n
 use Rattle.demands.proofs.Commands.{shown}
 use Rattle.demands.proofs.Counts.{many-in, assignments-many, grants-many, lines-many, sessions-many}
 use Rattle.demands.proofs.Demand3.{rules}
+use Rattle.demands.proofs.EffectiveRoles.{in-or-below-fewer, effective-fewer}
 use Rattle.demands.proofs.Kept.{reachable-sound}
 use Rattle.demands.proofs.Lists.{member, ascends}
 use Rattle.demands.proofs.Many.{many-map}
@@ -90,16 +91,16 @@ module _ (m : Model) (s : Sound m) where
   kept-done : (n : ℕ) (Rule : Model → Type 0) → ((x : Model) → Sound x → Rule x → ⊥) → (c : Command) (list : List ℕ) → earlier (place n) (refusals m c list) ≡ true → asked n (refusals m c list) ≡ false → NoneBefore (refusals m c list) n → (asked n (refusals m c list) ≡ true) ↔ Rule (effect m c list)
   kept-done n Rule keeps c list before off none = ((λ h. clash (asked n (refusals m c list)) h off), (λ b. absurd (keeps (effect m c list) (effect-sound c list (all-clear n (refusals m c list) before none)) b)))
 
-  -- With the same lines, what is in or below a smaller set is in or below the larger one.
-  in-or-below-fewer : (after : Model) → after .juniors ≡ m .juniors → (held held′ : ℕ) → ((r : ℕ) → has held r ≡ true → has held′ r ≡ true) → (r : ℕ) → InOrBelow after held r → InOrBelow m held′ r
-  in-or-below-fewer after lines held held′ fewer r = ⊎-elim (λ h. inl (fewer r h)) (λ h. inr (h .0, fewer (h .0) (h .1), subst (λ (x : ℕ → ℕ). Inherits x (h .0) r) lines (h .2)))
+  -- The same lines are no more lines.
+  as-lined : (after : Model) → after .juniors ≡ m .juniors → (a j : ℕ) → line (after .juniors) a j ≡ true → line (m .juniors) a j ≡ true
+  as-lined after lines a j h = sym (ap (λ (x : ℕ → ℕ). line x a j) lines) ∙ h
 
   -- What assigns no more, and leaves the lines and the static sets alone, keeps the static rule,
   static-fewer : (after : Model) → after .ssd ≡ m .ssd → ((u r : ℕ) → has (after .assigned u) r ≡ true → has (m .assigned u) r ≡ true) → after .juniors ≡ m .juniors → after .roles ≡ m .roles → StaticBroken after → ⊥
   static-fewer after sets fewer lines roles b = rules m s .static (record { who = b .who; name = b .name; there = sym (ap (λ (x : ℕ → RoleSet). x (b .name) .there) sets) ∙ b .there; many = subst (λ (x : ℕ → RoleSet). AsMany (x (b .name) .card) (λ r. (has (x (b .name) .roles) r ≡ true) × Authorised m (b .who) r)) sets (many-map (λ r h. (h .0, as-before r (h .1))) (b .many)) })
     where
       as-before : (r : ℕ) → Authorised after (b .who) r → Authorised m (b .who) r
-      as-before r a = record { exists = sym (ap (λ (x : ℕ). has x r) roles) ∙ a .exists; through = in-or-below-fewer after lines (after .assigned (b .who)) (m .assigned (b .who)) (fewer (b .who)) r (a .through) }
+      as-before r a = record { exists = sym (ap (λ (x : ℕ). has x r) roles) ∙ a .exists; through = in-or-below-fewer m after (as-lined after lines) (after .assigned (b .who)) (m .assigned (b .who)) (fewer (b .who)) r (a .through) }
 
   -- so does what leaves the users' authorisations alone,
   static-same : (after : Model) → after .ssd ≡ m .ssd → after .assigned ≡ m .assigned → after .juniors ≡ m .juniors → after .roles ≡ m .roles → StaticBroken after → ⊥
@@ -109,11 +110,8 @@ module _ (m : Model) (s : Sound m) where
   dynamic-same : (after : Model) → after .dsd ≡ m .dsd → after .sessions ≡ m .sessions → after .juniors ≡ m .juniors → after .roles ≡ m .roles → DynamicBroken after → ⊥
   dynamic-same after sets sessions lines roles b = rules m s .dynamic (record { who = b .who; name = b .name; there = sym (ap (λ (x : ℕ → RoleSet). x (b .name) .there) sets) ∙ b .there; many = subst (λ (x : ℕ → RoleSet). AsMany (x (b .name) .card) (λ r. (has (x (b .name) .roles) r ≡ true) × Effective m (b .who) r)) sets (many-map (λ r h. (h .0, as-before r (h .1))) (b .many)) })
     where
-      active : (r : ℕ) → has (after .sessions (b .who) .active) r ≡ true → has (m .sessions (b .who) .active) r ≡ true
-      active r h = sym (ap (λ (x : ℕ → Session). has (x (b .who) .active) r) sessions) ∙ h
-
       as-before : (r : ℕ) → Effective after (b .who) r → Effective m (b .who) r
-      as-before r a = record { exists = sym (ap (λ (x : ℕ). has x r) roles) ∙ a .exists; through = in-or-below-fewer after lines (after .sessions (b .who) .active) (m .sessions (b .who) .active) active r (a .through) }
+      as-before = effective-fewer m after (record { roles = λ r h. sym (ap (λ (x : ℕ). has x r) roles) ∙ h; lines = as-lined after lines; active = λ k r h. sym (ap (λ (x : ℕ → Session). has (x k .active) r) sessions) ∙ h }) (b .who)
 
   -- a rule that is not on the list, and that the command cannot break
   off : {b : Bool} {Rule : Type 0} → b ≡ false → (Rule → ⊥) → (b ≡ true) ↔ Rule

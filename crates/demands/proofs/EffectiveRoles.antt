@@ -25,18 +25,22 @@ use Rattle.sound.proofs.Users.{ended-all}
 use Rattle.demands.specs.Authorised.{InOrBelow, Effective}
 use Rattle.demands.specs.EffectiveRoles.{EffectiveRoles}
 
+-- With no more lines, what is in or below a set is in or below a larger one.
+pub in-or-below-fewer : (m after : Model) → ((a j : ℕ) → line (after .juniors) a j ≡ true → line (m .juniors) a j ≡ true) → (held held′ : ℕ) → ((r : ℕ) → has held r ≡ true → has held′ r ≡ true) → (r : ℕ) → InOrBelow after held r → InOrBelow m held′ r
+in-or-below-fewer m after lines held held′ fewer r = ⊎-elim (λ h. inl (fewer r h)) (λ q. inr (q .0, fewer (q .0) (q .1), inherits-grows lines (q .2)))
+
 -- no more roles, lines and active roles
-record Fewer (m after : Model) : Type 0 where
-  roles : (r : ℕ) → has (after .roles) r ≡ true → has (m .roles) r ≡ true
-  lines : (a j : ℕ) → line (after .juniors) a j ≡ true → line (m .juniors) a j ≡ true
-  active : (s r : ℕ) → has (after .sessions s .active) r ≡ true → has (m .sessions s .active) r ≡ true
+pub record Fewer (m after : Model) : Type 0 where
+  pub roles : (r : ℕ) → has (after .roles) r ≡ true → has (m .roles) r ≡ true
+  pub lines : (a j : ℕ) → line (after .juniors) a j ≡ true → line (m .juniors) a j ≡ true
+  pub active : (s r : ℕ) → has (after .sessions s .active) r ≡ true → has (m .sessions s .active) r ≡ true
 
 same : (m : Model) → Fewer m m
 same m = record { roles = λ r e. e; lines = λ a j e. e; active = λ s r e. e }
 
 -- leave no more effective ones.
-effective-fewer : (m after : Model) → Fewer m after → (s x : ℕ) → Effective after s x → Effective m s x
-effective-fewer m after f s x e = record { exists = f .roles x (e .exists); through = ⊎-elim (λ h. inl (f .active s x h)) (λ q. inr (q .0, f .active s (q .0) (q .1), inherits-grows (f .lines) (q .2))) (e .through) }
+pub effective-fewer : (m after : Model) → Fewer m after → (s x : ℕ) → Effective after s x → Effective m s x
+effective-fewer m after f s x e = record { exists = f .roles x (e .exists); through = in-or-below-fewer m after (f .lines) (after .sessions s .active) (m .sessions s .active) (f .active s) x (e .through) }
 
 -- What a session sheds it does not gain.
 shed-fewer : (m after : Model) → ((r : ℕ) → has (after .roles) r ≡ true → has (m .roles) r ≡ true) → ((a j : ℕ) → line (after .juniors) a j ≡ true → line (m .juniors) a j ≡ true) → after .sessions ≡ m .sessions → Fewer m (shed after)

@@ -12,10 +12,10 @@ pub mod Cases
 pub mod Demand2
 pub mod Reviews
 pub mod Demand3
+pub mod EffectiveRoles
 pub mod Conditions
 pub mod Effects
 pub mod PolicyFile
 pub mod Room
 pub mod ShorterSheet
 pub mod TwoMoves
-pub mod EffectiveRoles

@@ -96,8 +96,8 @@ wouldBreak Static after = some 256 (staticBroken after)
 wouldBreak Dynamic after = some 64 (dynamicBroken after)
 
 -- 11 of `session`: in some session, the one to be opened among them. It is one of the 64 where there is room. Where all 64 are open it is
--- counted as the 65th, so that 11 comes before 12 there too: with 64 sessions open, `session 7 0 1` is 11 where a dynamic set of cardinality 2
--- has the roles 0 and 1, and 12 where none has.
+-- counted as the 65th, so that 11 comes before 12 there too: with 64 sessions open, `session 7 0 1` is 11 where 0 and 1, with all that they
+-- inherit, have two roles of a dynamic set of cardinality 2, and else 12.
 abbrev pub wouldBreakOpened : Model → Bool
 wouldBreakOpened after = some 65 (dynamicBroken after)
 

@@ -35,7 +35,7 @@ pub record Rules (m : Model) : Type 0 where
   pub access : (s op obj : ℕ) → check m s op obj ≡ done (1 ∷ []) m → Through m s (op * 256 + obj)
   -- "no user is authorised (inheritance counted) for as many roles of a static set as its cardinality"
   pub static : StaticBroken m → ⊥
-  -- "no session has that many roles of a dynamic set active"
+  -- "a session may have fewer than n effective roles of a dynamic set" (request 2)
   pub dynamic : DynamicBroken m → ⊥
   -- No chain of inheritance has more than 64 roles.
   pub chains : (r : ℕ) → Chain (m .juniors) 65 r → ⊥

@@ -1,5 +1,6 @@
--- What becomes of the effective roles of a session with the commands that may not answer 11: none comes to them, and so the dynamic rule is kept
--- (request 2). Of every policy and session, whether or not it can be reached, and of refused commands too. Assumes nothing.
+-- What becomes of the effective roles of a session with `assign`, and with the commands that take something away: none comes to them. So these need no
+-- 11 (request 2; that no command leaves the dynamic rule broken is `Rules .dynamic`). Of every policy, whether or not it can be reached, and of
+-- refused commands too. Assumes nothing.
 use mathlib.Core.List.{List}
 use mathlib.Core.Logic.{_↔_}
 use Prim.Native.Nat.{ℕ}

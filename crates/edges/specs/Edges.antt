@@ -335,6 +335,16 @@ openSessions =
     "end 7 63" ⇒ "0" ∷
     "session 7" ⇒ "0 63" ∷
     "session 7" ⇒ "12" ∷
+    -- 11 comes before 12: with all 64 open, roles 0 and 2, which have both roles of a dynamic set in effect, are 11, and role 2 alone is 12
+    "role 0" ⇒ "0" ∷
+    "role 1" ⇒ "0" ∷
+    "role 2" ⇒ "0" ∷
+    "inherit 2 1" ⇒ "0" ∷
+    "assign 7 0" ⇒ "0" ∷
+    "assign 7 2" ⇒ "0" ∷
+    "dsd 0 2 0 1" ⇒ "0" ∷
+    "session 7 0 2" ⇒ "11" ∷
+    "session 7 2" ⇒ "12" ∷
     -- session 63 is closed, and that its owner is 0 does not make it user 0's: user 0 has none open
     "end 7 63" ⇒ "0" ∷
     "user 0" ⇒ "0" ∷
@@ -365,7 +375,7 @@ pub record Edges : Type 0 where
   pub forms : Prints forms "total 2 26"
   pub longLines : Prints longLines "total 0 2"
   pub lengths : (length (bytes bytes512) ≡ 512) × (length (bytes bytes513) ≡ 513)
-  pub openSessions : Prints openSessions "total 81 9"
+  pub openSessions : Prints openSessions "total 88 11"
   -- "A line ends at LF; the last may lack it, and nothing after the last LF is no line.": the only line, and the second of two, without LF
   pub onlyLine : runScript (bytes "user 7") ≡ lineOf "0" ++ lineOf "total 1 0"
   pub lastLine : runScript (lineOf "user 7" ++ bytes "role 3") ≡ lineOf "0" ++ (lineOf "0" ++ lineOf "total 2 0")

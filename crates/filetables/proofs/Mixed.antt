@@ -1,6 +1,6 @@
 -- Files that are given by what they list: one of several entries, one with a number above 255, and one whose session breaks a dynamic rule. Assumes
 -- nothing.
-use mathlib.Core.Bool.{true}
+use mathlib.Core.Bool.{true, false}
 use mathlib.Core.List.{List, [], _∷_, List·Memᴰ·head}
 use mathlib.Core.Path.{_≡_, refl, sym, ap, subst, _∙_}
 use Prim.Native.Nat.{ℕ}
@@ -15,6 +15,7 @@ use Rattle.sound.proofs.Sheet.{settle-done, settle-refused}
 use Rattle.policyform.specs.Form.{FileOf}
 use Rattle.policyform.specs.Promises.{Loads}
 use Rattle.policyform.specs.Rules.{badSet, unauthorised, rulesBroken}
+use Rattle.policyread.proofs.Whole.{file-one}
 use Rattle.policyfile.proofs.Laws.{load-file}
 use Rattle.policyfile.proofs.Sounding.{sound-formed}
 use Rattle.demands.specs.Reachable.{Reachable}
@@ -27,7 +28,7 @@ use Rattle.filebytes.proofs.Listed.{form-sixteen}
 use Rattle.filebytes.proofs.Built.{atKey, modelOf, built-says, built-formed}
 use Rattle.filebytes.proofs.FileForm.{paper-form}
 use Rattle.filetables.specs.Rows.{bytesIn}
-use Rattle.filetables.specs.PolicyBytes.{mixedSections, mixedFile, wideFile, seniorsFile, FileIs}
+use Rattle.filetables.specs.PolicyBytes.{mixedSections, mixedFile, wideFile, seniorsSections, seniorsFile, FileIs}
 use Rattle.filetables.proofs.Saved.{file-is}
 
 -- ---- sections of the form, written as these bytes
@@ -109,9 +110,6 @@ wide-refused = load-refused wideSections wide-form (bytesIn wideFile) wide-writt
 
 -- ---- a dynamic rule broken by inherited roles
 
-abbrev seniorsSections : Sections
-seniorsSections = record { users = 7 ∷ []; roles = 0 ∷ 1 ∷ 2 ∷ 3 ∷ []; lines = (2, 0) ∷ (3, 1) ∷ []; assignments = (7, 2) ∷ (7, 3) ∷ []; grants = (0, 0, 30) ∷ (1, 2, 30) ∷ []; ssd = []; dsd = record { name = 0; cardinality = 2; members = 0 ∷ 1 ∷ [] } ∷ []; sessions = record { number = 0; owner = 7; active = 2 ∷ 3 ∷ [] } ∷ [] }
-
 seniors-tested : Tested seniorsSections
 unfolding all any inOrder
 seniors-tested = record { users = refl; roles = refl; lines = refl; assignments = refl; grants = refl; ssd = refl; dsd = refl; sessions = refl }
@@ -127,8 +125,25 @@ seniors-broken : verdict (rulesBroken (modelOf seniorsSections)) ≡ 11
 unfolding some every tally has pack those union common subset isEmpty count juniorsOf walk reach circular longerChain verdict breaks breaksSome staticBroken dynamicBroken badSet unauthorised rulesBroken any atKey
 seniors-broken = refl
 
+seniors-built : FileOf (modelOf seniorsSections) (bytesIn seniorsFile)
+seniors-built = subst (FileOf (modelOf seniorsSections)) seniors-written (built-file seniorsSections seniors-form (bytesIn seniorsFile) seniors-written)
+
 pub seniors-file : (m : Model) × FileOf m (bytesIn seniorsFile)
-seniors-file = (modelOf seniorsSections, subst (FileOf (modelOf seniorsSections)) seniors-written (built-file seniorsSections seniors-form (bytesIn seniorsFile) seniors-written))
+seniors-file = (modelOf seniorsSections, seniors-built)
+
+-- the policy of these bytes is the one that the sections make
+seniors-one : (m : Model) → FileOf m (bytesIn seniorsFile) → m ≡ modelOf seniorsSections
+seniors-one m x = file-one (bytesIn seniorsFile) m (modelOf seniorsSections) x seniors-built
+
+pub seniors-says : (m : Model) → FileOf m (bytesIn seniorsFile) → Says seniorsSections m
+seniors-says m x = paper-form .file-says m seniorsSections (form-sixteen seniorsSections seniors-form) (subst (FileOf m) (sym seniors-written) x)
+
+seniors-kept : some 64 (λ k. breaksSome (modelOf seniorsSections .dsd) (modelOf seniorsSections .sessions k .active)) ≡ false
+unfolding some every tally has pack those common count breaks breaksSome any atKey
+seniors-kept = refl
+
+pub seniors-active : (m : Model) → FileOf m (bytesIn seniorsFile) → some 64 (λ k. breaksSome (m .dsd) (m .sessions k .active)) ≡ false
+seniors-active m x = subst (λ (y : Model). some 64 (λ k. breaksSome (y .dsd) (y .sessions k .active)) ≡ false) (sym (seniors-one m x)) seniors-kept
 
 pub seniors-refused : (before : Model) (told : Told) → Loads before (bytesIn seniorsFile) told → told ≡ refused 11 before
 seniors-refused = load-refused seniorsSections seniors-form (bytesIn seniorsFile) seniors-written 11 seniors-broken (λ z. omega arith)

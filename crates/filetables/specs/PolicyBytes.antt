@@ -1,11 +1,13 @@
--- Three policy files and the empty one, byte by byte, each row beside what it says. "Sixteen-bit numbers, low byte first. Eight sections in this
+-- Four policy files and the empty one, byte by byte, each row beside what it says. "Sixteen-bit numbers, low byte first. Eight sections in this
 -- order, each after its count." Assumes nothing.
-use mathlib.Core.Bool.{true}
+use mathlib.Core.Bool.{true, false}
 use mathlib.Core.List.{List, [], _∷_, _++_}
 use mathlib.Core.Path.{_≡_}
 use Prim.Native.Nat.{ℕ, _≤_, _<_}
 use lib.ListN.{length, drop}
+use Rattle.roleset.specs.Bounded.{some}
 use Rattle.model.specs.Model.{Model, empty}
+use Rattle.model.specs.Words.{breaksSome}
 use Rattle.model.specs.Sheet.{Told, done, refused}
 use Rattle.policyform.specs.Form.{FileOf}
 use Rattle.policyform.specs.Promises.{Saves, Loads}
@@ -100,6 +102,19 @@ wideFile =
 
 -- ---- a file that an engine before request 2 could save: a session has two seniors active, and through them both roles of a dynamic set effective
 
+abbrev pub seniorsSections : Sections
+seniorsSections =
+    record {
+      users = 7 ∷ [];
+      roles = 0 ∷ 1 ∷ 2 ∷ 3 ∷ [];
+      lines = (2, 0) ∷ (3, 1) ∷ [];
+      assignments = (7, 2) ∷ (7, 3) ∷ [];
+      grants = (0, 0, 30) ∷ (1, 2, 30) ∷ [];
+      ssd = [];
+      dsd = record { name = 0; cardinality = 2; members = 0 ∷ 1 ∷ [] } ∷ [];
+      sessions = record { number = 0; owner = 7; active = 2 ∷ 3 ∷ [] } ∷ [];
+    }
+
 abbrev pub seniorsFile : List Row
 seniorsFile =
     "1 user" ⇒ (1 ∷ 0 ∷ [])
@@ -159,6 +174,9 @@ pub record PolicyBytes : Type 0 where
   pub wide-file : (m : Model) × FileOf m (bytesIn wideFile)
   pub wide-number : (m : Model) → FileOf m (bytesIn wideFile) → (m .ssd 3 .there ≡ true) × (m .ssd 3 .card ≡ 258)
   pub wide-refused : (before : Model) (told : Told) → Loads before (bytesIn wideFile) told → told ≡ refused 7 before
-  -- The fourth is a file too. Loading it is refused with 11, and nothing changes.
+  -- The fourth is the file of a policy that holds what its sections list; by the rule over active roles alone no session of it breaks a dynamic set.
+  -- Loading it is refused with 11, and nothing changes.
   pub seniors-file : (m : Model) × FileOf m (bytesIn seniorsFile)
+  pub seniors-says : (m : Model) → FileOf m (bytesIn seniorsFile) → Says seniorsSections m
+  pub seniors-active : (m : Model) → FileOf m (bytesIn seniorsFile) → some 64 (λ k. breaksSome (m .dsd) (m .sessions k .active)) ≡ false
   pub seniors-refused : (before : Model) (told : Told) → Loads before (bytesIn seniorsFile) told → told ≡ refused 11 before

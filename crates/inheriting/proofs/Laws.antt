@@ -8,12 +8,13 @@ use Rattle.hierarchy.specs.Lines.{tableOf}
 use Rattle.model.specs.Model.{Model, closedSession, put, withLines, withSessions}
 use Rattle.model.specs.Words.{shed}
 use Rattle.model.specs.commands.Inheriting.{lined, unlined}
+use Rattle.model.specs.commands.Sets.{ruleBroken}
 use Rattle.model.specs.declared.Kind.{Kind}
 use Rattle.state.specs.Stores.{Table, inRange, withActive}
 use Rattle.state.specs.View.{part}
 use Rattle.state.proofs.Stored.{placed}
 use Rattle.sweeps.specs.Sweeps.{asksRule, ShedsAll}
-use Rattle.sweeps.proofs.Asking.{ruleBroken, asks-lines}
+use Rattle.sweeps.proofs.Asking.{asks-lines}
 use Rattle.sweeps.proofs.Changing.{as-part, table-put}
 use Rattle.sweeps.proofs.Shedding.{sheds-same, shed-stored}
 

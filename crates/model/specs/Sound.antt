@@ -67,7 +67,7 @@ pub record Rules (m : Model) : Type 0 where
   pub active : (s r : ℕ) → has (m .sessions s .active) r ≡ true → has (authorised m (m .sessions s .owner)) r ≡ true
   -- no user is authorised for as many roles of a static set as its cardinality
   pub static : (u : ℕ) → staticBroken m u ≡ false
-  -- no session has that many roles of a dynamic set active
+  -- no session has that many effective roles of a dynamic set
   pub dynamic : (s : ℕ) → dynamicBroken m s ≡ false
 
 pub record Sound (m : Model) : Type 0 where

@@ -1,2 +1,1 @@
 mod Named
-mod DynamicRule

@@ -12,7 +12,7 @@ use Rattle.model.specs.Model.{Model, RoleSet, Session, put}
 use Rattle.model.specs.Words.{breaks, breaksSome, staticBroken, dynamicBroken, sessionsOpen}
 use Rattle.model.specs.Sound.{Sound}
 use Rattle.model.specs.commands.Assigning.{assigned}
-use Rattle.model.specs.commands.Sets.{setsOf, withSets, broken}
+use Rattle.model.specs.commands.Sets.{setsOf, withSets, askedOf, broken, ruleBroken}
 use Rattle.model.specs.commands.Sessions.{lowestFree, sessionSet, opened, openFor, activeSet}
 use Rattle.model.specs.declared.Kind.{Kind}
 use Rattle.model.specs.declared.Kind.the-variants.{Static, Dynamic}
@@ -20,7 +20,7 @@ use Rattle.model.proofs.Puts.{put-same, put-other}
 use Rattle.sound.proofs.Breaking.{some-breaks, none-breaks, each-unbroken}
 use Rattle.sound.proofs.Changing.{held}
 use Rattle.sound.proofs.Counted.{countedOf}
-use Rattle.sound.proofs.Sets.{askedOf, broken-some, rule-of}
+use Rattle.sound.proofs.Sets.{broken-some, rule-of}
 use Rattle.sound.proofs.Sessions.{lowest-free, lowest-within}
 
 -- A test that can be passed at one place only is passed there exactly where it is passed somewhere.
@@ -57,11 +57,6 @@ room-asks-all m s u roles room = session-asks-all m s 64 (lowestFree m) (openFor
 pub activate-asks-all : (m : Model) → Sound m → (k r : ℕ) → m .sessions k .live ≡ true → dynamicBroken (activeSet m k (with (m .sessions k .active) r)) k ≡ some 64 (dynamicBroken (activeSet m k (with (m .sessions k .active) r)))
 unfolding activeSet
 activate-asks-all m s k r live = session-asks-all m s 64 k (record { live = m .sessions k .live; owner = m .sessions k .owner; active = with (m .sessions k .active) r }) (s .shape .sessions k .numbered live)
-
--- the rule of a kind is broken: for some user, or in some session
-abbrev pub ruleBroken : Kind → Model → Bool
-ruleBroken Static m = some 256 (staticBroken m)
-ruleBroken Dynamic m = some 64 (dynamicBroken m)
 
 rule-some : (kind : Kind) (m : Model) (new : ℕ → RoleSet) → ruleBroken kind (withSets kind m new) ≡ some (askedOf kind) (λ i. breaksSome new (held kind m i))
 unfolding staticBroken dynamicBroken

@@ -17,12 +17,12 @@ use Rattle.model.specs.Sound.{Sound}
 use Rattle.model.specs.commands.Naming.{userBeyond, roleBeyond, sessionBeyond, setBeyond, permissionBeyond, userMissing, roleMissing, sessionMissing}
 use Rattle.model.specs.commands.Assigning.{assigned, assign, granted, grant}
 use Rattle.model.specs.commands.Inheriting.{lined, wouldCircle, inherit}
-use Rattle.model.specs.commands.Sets.{setsOf, withSets, ruleNumber, badCardinality, aSet, setMissing, makeSet, addMember, setCardinality}
+use Rattle.model.specs.commands.Sets.{setsOf, withSets, ruleBroken, ruleNumber, badCardinality, aSet, setMissing, makeSet, addMember, setCardinality}
 use Rattle.model.specs.commands.Sessions.{lowestFree, opened, session, activeSet, notOwner, activate}
 use Rattle.model.specs.declared.Kind.{Kind}
 use Rattle.sound.proofs.Sheet.{alike-settle}
 use Rattle.sound.proofs.Members.{or-no}
-use Rattle.sound.proofs.Asked.{assign-asks-all, opened-asks-all, activate-asks-all, ruleBroken, set-asks-all}
+use Rattle.sound.proofs.Asked.{assign-asks-all, opened-asks-all, activate-asks-all, set-asks-all}
 
 -- ---- assignments and lines
 

@@ -18,7 +18,7 @@ use Rattle.model.specs.Lists.{setOf}
 use Rattle.model.specs.Sound.{SessionShape, Sound}
 use Rattle.model.specs.commands.Sessions.{freeFrom, lowestFree, sessionSet, openFor, opened, session, activeSet, activate, drop, end, check, owner}
 use Rattle.sound.proofs.Sheet.{kept, settle-same}
-use Rattle.model.proofs.Puts.{put-same}
+use Rattle.model.proofs.Puts.{session-dynamic}
 use Rattle.sound.proofs.Put.{put-all}
 use Rattle.sound.proofs.Members.{or-no, with-member, without-member}
 use Rattle.sound.proofs.Carried.{existing-with, existing-without, session-none}
@@ -97,11 +97,6 @@ session-put-sound m k new s shaped active unbroken =
     (put-all (λ i y. (r : ℕ) → has (y .active) r ≡ true → has (authorised m (y .owner)) r ≡ true) (m .sessions) k new active (λ i d. s .rules .active i))
     (put-all (λ i y. breaksSome (m .dsd) (countedOf m y) ≡ false) (m .sessions) k new unbroken (λ i d. s .rules .dynamic i))
 
--- the dynamic rule as it is asked of a session that is changed
-asked-here : (m : Model) (k : ℕ) (new : Session) → dynamicBroken (sessionSet m k new) k ≡ breaksSome (m .dsd) (countedOf m new)
-unfolding dynamicBroken
-asked-here m k new = ap (λ (y : Session). breaksSome (m .dsd) (countedOf m y)) (put-same (m .sessions) k new)
-
 -- `session u r..` keeps a sound model sound.
 pub session-sound : (m : Model) (u : ℕ) (list : List ℕ) → Sound m → Sound (session m u list .after)
 unfolding session opened
@@ -113,7 +108,7 @@ session-sound m u list s =
     session-put-sound m (lowestFree m) (openFor u (setOf list)) s
     (record { closed = λ e. clash true refl e; numbered = λ e. free .within; owned = λ e. not-false (m .users u) (there .0); active = existing })
     (λ r e. subset-true (setOf list) (authorised m u) (not-false (subset (setOf list) (authorised m u)) (c .1 .1 .1 .0)) r (member-small (setOf list) r (existing .small) e) e)
-    (sym (asked-here m (lowestFree m) (openFor u (setOf list))) ∙ c .1 .1 .1 .1 .0))
+    (sym (session-dynamic m (lowestFree m) (openFor u (setOf list))) ∙ c .1 .1 .1 .1 .0))
 
 -- `activate u s r` keeps a sound model sound.
 pub activate-sound : (m : Model) (u k r : ℕ) → Sound m → Sound (activate m u k r .after)
@@ -128,7 +123,7 @@ activate-sound m u k r s =
     session-put-sound m k new s
     (record { closed = λ e. clash (m .sessions k .live) live e; numbered = x .numbered; owned = x .owned; active = existing-with m (m .sessions k .active) r (x .active) (not-false (has (m .roles) r) (there .1)) })
     (λ j e. either j own asked (with-member (m .sessions k .active) r j e .1))
-    (sym (asked-here m k new) ∙ c .1 .1 .1 .1 .1 .0))
+    (sym (session-dynamic m k new) ∙ c .1 .1 .1 .1 .1 .0))
   where
     new : Session
     new = record { live = m .sessions k .live; owner = m .sessions k .owner; active = with (m .sessions k .active) r }

@@ -15,7 +15,7 @@ use Rattle.model.specs.Model.{Model, RoleSet, absentSet, put}
 use Rattle.model.specs.Words.{breaks, breaksSome, staticBroken, dynamicBroken}
 use Rattle.model.specs.Lists.{listed, setOf, someFrom}
 use Rattle.model.specs.Sound.{Existing, SetShape, Shape, Sound}
-use Rattle.model.specs.commands.Sets.{setsOf, withSets, broken, ruleNumber, badCardinality, aSet, makeSet, dropSet, addMember, dropMember, setCardinality}
+use Rattle.model.specs.commands.Sets.{setsOf, withSets, askedOf, broken, ruleNumber, badCardinality, aSet, makeSet, dropSet, addMember, dropMember, setCardinality}
 use Rattle.model.specs.declared.Kind.{Kind}
 use Rattle.model.specs.declared.Kind.the-variants.{Static, Dynamic}
 use Rattle.sound.proofs.Sheet.{kept}
@@ -27,11 +27,6 @@ use Rattle.sound.proofs.Changing.{held, sets-changed}
 use Rattle.sound.proofs.Counted.{none-counted-beyond}
 
 -- ---- what the two kinds share
-
--- of how many a rule is asked: of every user, or of every session
-abbrev pub askedOf : Kind → ℕ
-askedOf Static = 256
-askedOf Dynamic = 64
 
 -- A set is broken where it is for some user, or in some session.
 pub broken-some : (kind : Kind) (m : Model) (set : RoleSet) → broken kind m set ≡ some (askedOf kind) (λ i. breaks set (held kind m i))

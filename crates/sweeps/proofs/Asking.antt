@@ -12,10 +12,10 @@ use Rattle.hierarchy.specs.Walks.{reach}
 use Rattle.hierarchy.proofs.WalkLaws.{walk-empty}
 use Rattle.model.specs.Model.{Model, RoleSet, withLines}
 use Rattle.model.specs.Words.{breaks, staticBroken, dynamicBroken}
-use Rattle.model.specs.commands.Sets.{broken}
+use Rattle.model.specs.commands.Sets.{askedOf, broken, ruleBroken}
 use Rattle.model.specs.declared.Kind.{Kind}
 use Rattle.model.specs.declared.Kind.the-variants.{Static, Dynamic}
-use Rattle.sweeps.specs.Sweeps.{askedOf, ownRoles, asksRule}
+use Rattle.sweeps.specs.Sweeps.{ownRoles, asksRule}
 
 -- the user, or session, i breaks the rule
 abbrev pub breaking : (ℕ → Bool) → (ℕ → ℕ) → (ℕ → ℕ) → ℕ → Bool
@@ -26,12 +26,7 @@ pub asked-some : (kind : Kind) → 0 < askedOf kind
 asked-some Static = omega arith
 asked-some Dynamic = omega arith
 
--- a rule of the kind is broken, with the lines as they are
-abbrev pub ruleBroken : Kind → Model → Bool
-ruleBroken Static m = some 256 (staticBroken m)
-ruleBroken Dynamic m = some 64 (dynamicBroken m)
-
--- it is where it is asked so; other lines alone change neither the sets nor what anybody has itself
+-- a rule of the kind, asked with other lines, is that of the policy with these lines: they change neither the sets nor what anybody has itself
 pub asks-lines : (kind : Kind) (m : Model) (lines : ℕ → ℕ) (n : ℕ) → asksRule kind m lines ≡ ruleBroken kind (withLines m lines n)
 unfolding staticBroken dynamicBroken
 asks-lines Static m lines n = refl

@@ -10,17 +10,12 @@ use Rattle.hierarchy.specs.Lines.{tableOf}
 use Rattle.hierarchy.specs.Walks.{reach}
 use Rattle.model.specs.Model.{Model, Session}
 use Rattle.model.specs.Words.{breaksSome, shedded}
-use Rattle.model.specs.commands.Sets.{setsOf}
+use Rattle.model.specs.commands.Sets.{setsOf, askedOf}
 use Rattle.model.specs.commands.Users.{holding}
 use Rattle.model.specs.declared.Kind.{Kind}
 use Rattle.model.specs.declared.Kind.the-variants.{Static, Dynamic}
 
--- of how many a rule of the kind is asked: of 256 users, or of 64 sessions
-abbrev pub askedOf : Kind → ℕ
-askedOf Static = 256
-askedOf Dynamic = 64
-
--- the roles that one of them has itself: those assigned to the user, or those active in the session
+-- the roles that one of those has itself of whom a rule of the kind is asked: those assigned to the user, or those active in the session
 abbrev pub ownRoles : Kind → Model → ℕ → ℕ
 ownRoles Static m u = m .assigned u
 ownRoles Dynamic m s = m .sessions s .active

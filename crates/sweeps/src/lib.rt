@@ -4,10 +4,10 @@ ghost use Rattle.hierarchy.specs.Lines.{tableOf};
 ghost use Rattle.model.specs.Model.{Session};
 ghost use Rattle.model.specs.Words.{shedded};
 ghost use Rattle.model.specs.commands.Sessions.{lowestFree};
-ghost use Rattle.model.specs.commands.Sets.{broken};
+ghost use Rattle.model.specs.commands.Sets.{askedOf, broken};
 ghost use Rattle.model.specs.commands.Users.{openOf, allEnded, hasOpen};
 ghost use Rattle.state.specs.View.{part, view};
-ghost use Rattle.sweeps.specs.Sweeps.{askedOf, ownRoles, asksRule, ShedsAll, Strips};
+ghost use Rattle.sweeps.specs.Sweeps.{ownRoles, asksRule, ShedsAll, Strips};
 use model::Kind;
 use model::RoleSet;
 use model::SessionRecord;
@@ -47,7 +47,7 @@ fn own_roles(state: &[u64; PLACES], kind: Kind, i: u16) -> u64
     }
 }
 
-// Is a rule of the kind broken for some user, or in some session, with these lines? The first that breaks one ends the sweep. What no role breaks, one with no roles does not break, and is not walked for: a closed session costs no walk. What all roles together do not break, nobody breaks: with no set of the kind there is no sweep.
+// Is a rule of the kind broken for some user, or in some session, with these lines? Where having no role breaks one, everybody does; where having all 64 breaks none, nobody does, so that with no set of the kind there is no sweep. Else the first that breaks one ends the sweep, and one with no role is not walked for: a closed session costs no walk.
 pub fn ask_rule<'a>(state: &'a [u64; PLACES], kind: Kind, juniors: &'a [u64; 64]) -> bool
     ensures { λ b. ⌜ b ≡ asksRule kind (view (now (state .entry))) (tableOf (now (juniors .entry))) ⌝ }
 {

@@ -167,7 +167,7 @@ sets =
     "ssd-roles 9" ⇒ "0 1 2 5" ∷
     "dsd-drop 5 2" ⇒ "0" ∷
     "dsd-roles 5" ⇒ "0 1 4 6" ∷
-    -- user 3 is authorised for 1 and 6, and may not have both active
+    -- user 3 is authorised for 1 and 6, and may not have both effective in one session
     "session 3 1 6" ⇒ "11" ∷
     -- set 5 is no static one, nor set 9 a dynamic one
     "nossd 5" ⇒ "2" ∷

@@ -16,12 +16,12 @@ use Rattle.model.specs.Sheet.{verdict, settle, done}
 use Rattle.model.specs.Words.{reached, staticBroken, dynamicBroken}
 use Rattle.model.specs.commands.Inheriting.{inherit, lined, wouldCircle}
 use Rattle.model.specs.commands.Naming.{roleBeyond, roleMissing}
+use Rattle.model.specs.commands.Sets.{ruleBroken}
 use Rattle.model.specs.declared.Kind.{Kind}
 use Rattle.model.specs.declared.Kind.the-variants.{Static, Dynamic}
 use Rattle.state.specs.View.{view, told}
 use Rattle.state.proofs.Stored.{within}
 use Rattle.sweeps.specs.Sweeps.{asksRule}
-use Rattle.sweeps.proofs.Asking.{ruleBroken}
 use Rattle.inheriting.proofs.Laws.{asks-lined, lined-stored}
 use Rattle.inheriting.proofs.inherit.Statement.{statement}
 use Rattle.inheriting.proofs.inherit.Tie as tie

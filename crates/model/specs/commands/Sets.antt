@@ -8,7 +8,7 @@ use Rattle.roleset.specs.Roles.{has, with, without, subset, count}
 use Rattle.model.specs.Model.{Model, RoleSet, put, withSsd, withDsd}
 use Rattle.model.specs.Model as model
 use Rattle.model.specs.Sheet.{Told, Refusal, _when_, settle}
-use Rattle.model.specs.Words.{authorised, breaks, counted}
+use Rattle.model.specs.Words.{authorised, breaks, counted, staticBroken, dynamicBroken}
 use Rattle.model.specs.Lists.{ascending, someFrom, setOf}
 use Rattle.model.specs.commands.Naming.{roleBeyond, setBeyond, roleMissing}
 use Rattle.model.specs.declared.Kind.{Kind}
@@ -27,6 +27,16 @@ withSets Dynamic m x = withDsd m x
 unfoldable pub broken : Kind → Model → RoleSet → Bool
 broken Static m set = some 256 (λ u. breaks set (authorised m u))
 broken Dynamic m set = some 64 (λ s. breaks set (counted m s))
+
+-- of how many a rule of the kind is asked: of 256 users, or of 64 sessions
+abbrev pub askedOf : Kind → ℕ
+askedOf Static = 256
+askedOf Dynamic = 64
+
+-- a rule of the kind is broken, for some user or in some session
+abbrev pub ruleBroken : Kind → Model → Bool
+ruleBroken Static m = some 256 (staticBroken m)
+ruleBroken Dynamic m = some 64 (dynamicBroken m)
 
 -- "The five `dsd` commands are alike with 11 for 10."
 abbrev pub ruleNumber : Kind → ℕ

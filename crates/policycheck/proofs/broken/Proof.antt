@@ -7,11 +7,12 @@ use Rattle.hierarchy.specs.Lines.{tableOf}
 use Rattle.hierarchy.specs.Walks.{circular}
 use Rattle.model.specs.Sheet.{verdict}
 use Rattle.model.specs.Words.{staticBroken, dynamicBroken}
+use Rattle.model.specs.commands.Sets.{ruleBroken}
 use Rattle.model.specs.declared.Kind.{Kind}
 use Rattle.model.specs.declared.Kind.the-variants.{Static, Dynamic}
 use Rattle.state.specs.View.{view}
 use Rattle.sweeps.specs.Sweeps.{asksRule}
-use Rattle.sweeps.proofs.Asking.{ruleBroken, asks-lines}
+use Rattle.sweeps.proofs.Asking.{asks-lines}
 use Rattle.policyform.specs.Rules.{badSet, unauthorised, rulesBroken}
 use Rattle.policycheck.proofs.broken.Statement.{statement}
 use Rattle.policycheck.proofs.broken.Tie as tie

@@ -10,9 +10,9 @@ use Rattle.model.specs.Model.{Model, Session}
 use Rattle.model.specs.Sheet.{verdict, settle}
 use Rattle.model.specs.Words.{reached, authorised, dynamicBroken}
 use Rattle.model.specs.commands.Sessions.{activate, activeSet}
+use Rattle.model.proofs.Puts.{session-dynamic}
 use Rattle.state.specs.View.{view, told}
 use Rattle.sessions.proofs.Named.{Named, refuses, named, stored}
-use Rattle.sessions.proofs.DynamicRule.{active-dynamic}
 use Rattle.sessions.proofs.activate.Statement.{statement}
 use Rattle.sessions.proofs.activate.Tie as tie
 
@@ -84,7 +84,8 @@ more : (c : tie.After-with) → let s = to-start (to-1 (to-2 (c .before))) in wi
 more c = rw (active (to-2 (c .before) .before .before), c .with .ensures .is)
 
 found-4 : (c : tie.After-breaks-dynamic) → breaking (to-start (to-1 (to-2 (c .before .before .before)))) ≡ c .breaks-dynamic .result
-found-4 c = active-dynamic _ _ _ ∙ rw (more (c .before .before)) (sym (c .breaks-dynamic .ensures))
+unfolding activeSet
+found-4 c = session-dynamic _ _ _ ∙ rw (more (c .before .before)) (sym (c .breaks-dynamic .ensures))
 
 clear-4 : (c : tie.Else4) → breaking (to-start (to-1 (to-2 (to-3 c)))) ≡ false
 clear-4 c = found-4 (c .before) ∙ c .if4 .left

@@ -17,12 +17,12 @@ use Rattle.model.specs.Words.{reached, authorised, breaksSome, dynamicBroken, s
 use Rattle.model.specs.Lists.{ascending, someFrom, setOf}
 use Rattle.model.specs.commands.Naming.{userBeyond, userMissing}
 use Rattle.model.specs.commands.Sessions.{session, opened, openFor, sessionSet, lowestFree}
+use Rattle.model.proofs.Puts.{session-dynamic}
 use Rattle.state.specs.Stores.{inRange}
 use Rattle.state.specs.View.{view}
 use Rattle.state.proofs.Stored.{in-range}
 use Rattle.sessions.specs.Answering.{toldOpened}
 use Rattle.sweeps.proofs.Free.{full-free}
-use Rattle.sessions.proofs.DynamicRule.{opened-dynamic}
 use Rattle.sessions.proofs.session.Statement.{statement}
 use Rattle.sessions.proofs.session.Tie as tie
 
@@ -115,11 +115,12 @@ clear-4 : (c : tie.Else4) → unauthorised (to-start (to-1 (to-2 (to-3 c)))) ≡
 clear-4 c = found-4 (c .before) ∙ c .if4 .left
 
 found-5 : (c : tie.After-breaks-dynamic) → breaking (to-start (to-1 (to-2 (to-3 (c .before .before))))) ≡ c .breaks-dynamic .result
+unfolding opened
 found-5 c =
     let c1 = to-1 (to-2 (to-3 (c .before .before))) in
     let s = to-start c1 in
     let ruled : c .breaks-dynamic .result ≡ breaksSome (m s .dsd) (reached (m s) (c1 .before .before .read .result .roles)) = c .breaks-dynamic .ensures in
-    opened-dynamic (m s) (user s) (setOf (list s)) ∙ ap (λ (roles : ℕ). breaksSome (m s .dsd) (reached (m s) roles)) (asked c1) ∙ sym ruled
+    session-dynamic (m s) (lowestFree (m s)) (openFor (user s) (setOf (list s))) ∙ ap (λ (roles : ℕ). breaksSome (m s .dsd) (reached (m s) roles)) (asked c1) ∙ sym ruled
 
 clear-5 : (c : tie.Else5) → breaking (to-start (to-1 (to-2 (to-3 (to-4 c))))) ≡ false
 clear-5 c = found-5 (c .before) ∙ c .if5 .left

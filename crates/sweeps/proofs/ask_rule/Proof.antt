@@ -9,10 +9,10 @@ use Rattle.roleset.specs.Bounded.{some}
 use Rattle.roleset.proofs.BoundedLaws.{some-start}
 use Rattle.hierarchy.specs.Lines.{tableOf}
 use Rattle.model.specs.Words.{breaksSome}
-use Rattle.model.specs.commands.Sets.{setsOf}
+use Rattle.model.specs.commands.Sets.{setsOf, askedOf}
 use Rattle.separation.proofs.Breaking.{some-any, some-grows}
 use Rattle.state.specs.View.{view}
-use Rattle.sweeps.specs.Sweeps.{askedOf, ownRoles}
+use Rattle.sweeps.specs.Sweeps.{ownRoles}
 use Rattle.sweeps.proofs.Asking.{breaking, passed-walk, passed-idle, asks-walk, asks-none, asks-any, asked-some, all-held}
 use Rattle.sweeps.proofs.ask_rule.Statement.{statement}
 use Rattle.sweeps.proofs.ask_rule.Tie as tie

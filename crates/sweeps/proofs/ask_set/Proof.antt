@@ -7,10 +7,10 @@ use native.Mathlib.Omega.{arith}
 use Rattle.roleset.specs.Bounded.{some}
 use Rattle.roleset.proofs.BoundedLaws.{some-start}
 use Rattle.model.specs.Words.{breaks}
-use Rattle.model.specs.commands.Sets.{broken}
+use Rattle.model.specs.commands.Sets.{askedOf, broken}
 use Rattle.separation.proofs.Breaking.{breaks-any}
 use Rattle.state.specs.View.{view}
-use Rattle.sweeps.specs.Sweeps.{askedOf, ownRoles}
+use Rattle.sweeps.specs.Sweeps.{ownRoles}
 use Rattle.sweeps.proofs.Asking.{breaking, set-broken, passed-walk, passed-idle, asks-walk, asks-any, asked-some}
 use Rattle.sweeps.proofs.ask_set.Statement.{statement}
 use Rattle.sweeps.proofs.ask_set.Tie as tie
