@@ -3,6 +3,7 @@ ghost use mathlib.Core.Path.{_≡_};
 ghost use Rattle.state.specs.Places.{setsAt};
 ghost use Rattle.state.specs.Stores.{Table};
 ghost use Rattle.state.specs.View.{view};
+use crate::ACTIVE;
 use crate::ASSIGNED;
 use crate::DSD_CARDS;
 use crate::HOLDERS;
@@ -25,6 +26,14 @@ pub fn assigned(state: &[u64; PLACES]) -> &[u64]
 {
     let all = &state[..];
     &all[ASSIGNED..ASSIGNED + 256]
+}
+
+// For each session, the roles active in it.
+pub fn active(state: &[u64; PLACES]) -> &[u64]
+    ensures { λ x. ⌜ Table 64 (λ s. view (now (state .entry)) .sessions s .active) (now x) ⌝ }
+{
+    let all = &state[..];
+    &all[ACTIVE..ACTIVE + 64]
 }
 
 // For each permission, the roles that hold it.

@@ -1,7 +1,8 @@
 -- A rule asked of the users, or of the sessions, one after the other, by the roles that they have and all roles these inherit: the first that
 -- breaks it ends the sweep. One law for both. Assumes nothing.
 use mathlib.Core.Bool.{Bool, true, false}
-use mathlib.Core.Path.{_≡_, refl, sym, ap, _∙_}
+use mathlib.Core.List.{List}
+use mathlib.Core.Path.{_≡_, refl, sym, ap, ap₂, subst, _∙_}
 use Prim.Native.Nat.{ℕ, _+_, _<_}
 use native.Mathlib.Omega.{arith}
 use Rattle.roleset.specs.Bounded.{some, every}
@@ -15,7 +16,8 @@ use Rattle.model.specs.Words.{breaks, staticBroken, dynamicBroken}
 use Rattle.model.specs.commands.Sets.{askedOf, broken, ruleBroken}
 use Rattle.model.specs.declared.Kind.{Kind}
 use Rattle.model.specs.declared.Kind.the-variants.{Static, Dynamic}
-use Rattle.sweeps.specs.Sweeps.{ownRoles, asksRule}
+use Rattle.state.specs.Stores.{Table}
+use Rattle.sweeps.specs.Sweeps.{ownRoles, asksRule, Asked}
 
 -- the user, or session, i breaks the rule
 abbrev pub breaking : (ℕ → Bool) → (ℕ → ℕ) → (ℕ → ℕ) → ℕ → Bool
@@ -31,6 +33,10 @@ pub asks-lines : (kind : Kind) (m : Model) (lines : ℕ → ℕ) (n : ℕ) → a
 unfolding staticBroken dynamicBroken
 asks-lines Static m lines n = refl
 asks-lines Dynamic m lines n = refl
+
+-- what is a table of one kind is one of the kind that is that
+pub table-of : (one kind : Kind) (m : Model) (x : List ℕ) → kind ≡ one → Table (askedOf one) (ownRoles one m) x → Table (askedOf kind) (ownRoles kind m) x
+table-of one kind m x e t = subst (λ (k : Kind). Table (askedOf k) (ownRoles k m) x) (sym e) t
 
 -- the rule of a set is broken where somebody breaks it
 pub set-broken : (kind : Kind) (m : Model) (set : RoleSet) → broken kind m set ≡ some (askedOf kind) (breaking (breaks set) (m .juniors) (ownRoles kind m))
@@ -71,3 +77,7 @@ module _ (rule : ℕ → Bool) (lines own : ℕ → ℕ) where
   -- all do
   pub asks-any : (n : ℕ) → 0 < n → ((held : ℕ) → rule held ≡ true) → true ≡ some n (breaking rule lines own)
   asks-any n l b = asks-walk n 0 (own 0) (reach lines (own 0)) l refl refl (b _)
+
+  -- one by one, over a table of what they have themselves
+  pub asked-of-table : (n : ℕ) (x : List ℕ) (b : Bool) → Table n own x → rule 0 ≡ false → Asked rule lines x b → b ≡ some n (breaking rule lines own)
+  asked-of-table n x b t idle asked = asked idle ∙ ap₂ (λ (k : ℕ) (f : ℕ → ℕ). some k (breaking rule lines f)) (t .long) (t .each)

@@ -1,5 +1,5 @@
 -- What the sweeps over all users and over all sessions give. Assumes nothing.
-use mathlib.Core.Bool.{Bool}
+use mathlib.Core.Bool.{Bool, false}
 use mathlib.Core.List.{List, map}
 use mathlib.Core.Path.{_≡_}
 use Prim.Native.Nat.{ℕ, _<_}
@@ -23,6 +23,10 @@ ownRoles Dynamic m s = m .sessions s .active
 -- the rule of the kind is broken for some user, or in some session, of m, with these lines
 abbrev pub asksRule : Kind → Model → (ℕ → ℕ) → Bool
 asksRule kind m juniors = some (askedOf kind) (λ i. breaksSome (setsOf kind m) (reach juniors (ownRoles kind m i)))
+
+-- b says whether one of those who have these roles themselves breaks the rule with all that these inherit by the lines, where having no role does not
+abbrev pub Asked : (ℕ → Bool) → (ℕ → ℕ) → List ℕ → Bool → Type 0
+Asked rule lines own b = rule 0 ≡ false → b ≡ some (length own) (λ i. rule (reach lines (tableOf own i)))
 
 -- the active roles that each session keeps
 pub record ShedsAll (juniors assigned : ℕ → ℕ) (sessions : ℕ → Session) (kept : List ℕ) : Type 0 where

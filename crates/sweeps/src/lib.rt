@@ -2,12 +2,12 @@
 ghost use mathlib.Core.Path.{_≡_};
 ghost use Rattle.hierarchy.specs.Lines.{tableOf};
 ghost use Rattle.model.specs.Model.{Session};
-ghost use Rattle.model.specs.Words.{shedded};
+ghost use Rattle.model.specs.Words.{breaks, breaksSome, shedded};
 ghost use Rattle.model.specs.commands.Sessions.{lowestFree};
-ghost use Rattle.model.specs.commands.Sets.{askedOf, broken};
+ghost use Rattle.model.specs.commands.Sets.{setsOf, broken};
 ghost use Rattle.model.specs.commands.Users.{openOf, allEnded, hasOpen};
 ghost use Rattle.state.specs.View.{part, view};
-ghost use Rattle.sweeps.specs.Sweeps.{ownRoles, asksRule, ShedsAll, Strips};
+ghost use Rattle.sweeps.specs.Sweeps.{asksRule, Asked, ShedsAll, Strips};
 use model::Kind;
 use model::RoleSet;
 use model::SessionRecord;
@@ -17,37 +17,38 @@ use numbers::User;
 use separation::breaks;
 use separation::breaks_some;
 use state::PLACES;
-use state::reads::assigned_to;
+use state::parts::active;
+use state::parts::assigned;
 use state::reads::session_at;
 use state::stores::close_session;
 
 // All 64 roles.
 const ALL_ROLES: u64 = 18446744073709551615;
 
-// Of how many a rule of the kind is asked: of 256 users, or of 64 sessions.
-fn asked_of(kind: Kind) -> u16
-    ensures { λ n. ⌜ n ≡ askedOf kind ⌝ }
+// Does one of those who have these roles themselves break a rule of the kind, with these lines? The first ends the sweep, and one with no role is not walked for: a closed session costs no walk. It is asked only where having no role breaks none.
+fn ask_each<'a>(
+    state: &'a [u64; PLACES],
+    kind: Kind,
+    juniors: &'a [u64; 64],
+    own: &'a [u64],
+) -> bool
+    ensures { λ b. ⌜ Asked (breaksSome (setsOf kind (view (now (state .entry))))) (tableOf (now (juniors .entry))) (now (own .entry)) b ⌝ }
 {
-    match kind {
-        Kind::Static => 256,
-        Kind::Dynamic => 64,
-    }
-}
-
-// The roles that one of them has itself: those assigned to the user, or those active in the session.
-fn own_roles(state: &[u64; PLACES], kind: Kind, i: u16) -> u64
-    ensures { λ x. ⌜ x ≡ ownRoles kind (view (now (state .entry))) i ⌝ }
-{
-    match kind {
-        Kind::Static => assigned_to(state, User { number: i }),
-        Kind::Dynamic => {
-            let session = session_at(state, Session { number: i });
-            session.active
+    let mut i: usize = 0;
+    while i < own.len() {
+        let roles = own[i];
+        i += 1;
+        if roles != 0 {
+            let held = hierarchy::reach(juniors, roles);
+            if breaks_some(state, kind, held) {
+                return true;
+            }
         }
     }
+    false
 }
 
-// Is a rule of the kind broken for some user, or in some session, with these lines? Where having no role breaks one, everybody does; where having all 64 breaks none, nobody does, so that with no set of the kind there is no sweep. Else the first that breaks one ends the sweep, and one with no role is not walked for: a closed session costs no walk.
+// Is a rule of the kind broken for some user, or in some session, with these lines? Where having no role breaks one, everybody does; where having all 64 breaks none, nobody does, so that with no set of the kind there is no sweep.
 pub fn ask_rule<'a>(state: &'a [u64; PLACES], kind: Kind, juniors: &'a [u64; 64]) -> bool
     ensures { λ b. ⌜ b ≡ asksRule kind (view (now (state .entry))) (tableOf (now (juniors .entry))) ⌝ }
 {
@@ -57,14 +58,23 @@ pub fn ask_rule<'a>(state: &'a [u64; PLACES], kind: Kind, juniors: &'a [u64; 64]
     if !breaks_some(state, kind, ALL_ROLES) {
         return false;
     }
-    let n = asked_of(kind);
-    let mut i: u16 = 0;
-    while i < n {
-        let own = own_roles(state, kind, i);
-        i += 1;
-        if own != 0 {
-            let held = hierarchy::reach(juniors, own);
-            if breaks_some(state, kind, held) {
+    match kind {
+        Kind::Static => ask_each(state, kind, juniors, assigned(state)),
+        Kind::Dynamic => ask_each(state, kind, juniors, active(state)),
+    }
+}
+
+// Does one of those who have these roles themselves break the rule of the set? As above.
+fn ask_each_of_set<'a>(state: &'a [u64; PLACES], set: RoleSet, own: &'a [u64]) -> bool
+    ensures { λ b. ⌜ Asked (breaks set) (view (now (state .entry)) .juniors) (now (own .entry)) b ⌝ }
+{
+    let mut k: usize = 0;
+    while k < own.len() {
+        let roles = own[k];
+        k += 1;
+        if roles != 0 {
+            let held = walking::reach(state, roles);
+            if breaks(set, held) {
                 return true;
             }
         }
@@ -79,19 +89,10 @@ pub fn ask_set(state: &[u64; PLACES], kind: Kind, set: RoleSet) -> bool
     if breaks(set, 0) {
         return true;
     }
-    let n = asked_of(kind);
-    let mut i: u16 = 0;
-    while i < n {
-        let own = own_roles(state, kind, i);
-        i += 1;
-        if own != 0 {
-            let held = walking::reach(state, own);
-            if breaks(set, held) {
-                return true;
-            }
-        }
+    match kind {
+        Kind::Static => ask_each_of_set(state, set, assigned(state)),
+        Kind::Dynamic => ask_each_of_set(state, set, active(state)),
     }
-    false
 }
 
 // What one session keeps of its active roles; a closed one stays as it is.

@@ -52,6 +52,7 @@ state =
       less = λ κs a x y e f vx vy p q. p ∙ sym q;
       juniors = λ κs a x y e f p q. laws.table-one p q;
       assigned = λ κs a x y e f p q. laws.table-one p q;
+      active = λ κs a x y e f p q. laws.table-one p q;
       holders = λ κs a x y e f p q. laws.table-one p q;
       juniors-table = λ κs a x y e f vx vy p q. laws.table-one p q;
       assigned-table = λ κs a x y e f vx vy p q. laws.table-one p q;

@@ -74,6 +74,7 @@ pub record State : Type 0 where
   pub less : Unique state.naming.less.Kinds.ps state.naming.less.Kinds.r state.naming.less.Reads.Post
   pub juniors : UniqueSeen state.parts.juniors.Kinds.ps state.parts.juniors.Kinds.r state.parts.juniors.Reads.Post (λ κs x e. x .now)
   pub assigned : UniqueSeen state.parts.assigned.Kinds.ps state.parts.assigned.Kinds.r state.parts.assigned.Reads.Post (λ κs x e. x .now)
+  pub active : UniqueSeen state.parts.active.Kinds.ps state.parts.active.Kinds.r state.parts.active.Reads.Post (λ κs x e. x .now)
   pub holders : UniqueSeen state.parts.holders.Kinds.ps state.parts.holders.Kinds.r state.parts.holders.Reads.Post (λ κs x e. x .now)
   pub juniors-table : Unique state.parts.juniors_table.Kinds.ps state.parts.juniors_table.Kinds.r state.parts.juniors_table.Reads.Post
   pub assigned-table : Unique state.parts.assigned_table.Kinds.ps state.parts.assigned_table.Kinds.r state.parts.assigned_table.Reads.Post
