@@ -14,8 +14,9 @@ static marruskil_state state;
 static int may_release(uint64_t session)
 {
     uint8_t yes = 0;
+    uint16_t looked = 0;
 
-    return marruskil_check(&state, session, RELEASE, MAP, &yes) == 0 && yes == 1;
+    return marruskil_check(&state, session, RELEASE, MAP, &yes, &looked) == 0 && yes == 1;
 }
 
 /* Somebody asks the server to release the map, in a session. */

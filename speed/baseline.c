@@ -356,13 +356,22 @@ static int drop(struct engine *e, unsigned u, unsigned x, unsigned r) {
     return DONE;
 }
 
-static int check(const struct engine *e, unsigned x, unsigned op, unsigned obj, int walk, int *yes) {
+/* The roles up to and including the lowest of those that hold the grant; all of them where none does. */
+static u64 up_to_first(u64 roles, u64 holding) {
+    u64 first = holding & -holding;
+    return holding ? roles & (first | (first - 1)) : roles;
+}
+
+static int check(const struct engine *e, unsigned x, unsigned op, unsigned obj, int walk, int *yes, unsigned *looked) {
     *yes = 0;
+    *looked = 0;
     if (x >= 64 || op >= 16 || obj >= 256) return BEYOND;
     if (!e->sessions[x].live) return MISSING;
     u64 active = e->sessions[x].active;
     u64 effective = walk ? walked(e, active) : reached(e, active);
-    *yes = (effective & e->holders[op * 256 + obj]) != 0;
+    u64 holding = effective & e->holders[op * 256 + obj];
+    *yes = holding != 0;
+    *looked = count(up_to_first(effective, holding));
     return DONE;
 }
 
@@ -767,8 +776,10 @@ static u64 mix(u64 sum, int answer, u64 result) { return (sum << 1 | sum >> 63) 
 static u64 checks(struct engine *e, u64 rounds, int walk) {
     u64 sum = 1;
     for (u64 i = 0; i < rounds; i++) {
-        int yes, answer = check(e, i % 8 * 2, i / 8 % 4, i % 8 * 32 + i / 32 % 32, walk, &yes);
-        sum = mix(sum, answer, (u64)yes);
+        int yes;
+        unsigned looked;
+        int answer = check(e, i % 8 * 2, i / 8 % 4, i % 8 * 32 + i / 32 % 32, walk, &yes, &looked);
+        sum = mix(sum, answer, (u64)looked + (yes ? 65536 : 0));
     }
     return sum;
 }

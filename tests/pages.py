@@ -114,7 +114,9 @@ def refusals_of_questions():
     shape = "1 when beyond ∷ 2 when missing ∷ 15 when ltb room (length list) ∷ []"
     holds("crates/model/specs/Questions: a review has other refusals than 1, 2 and 15", shape in text)
     check = block(read("crates/demands/specs/Demand2.antt"), r"\ncheckRefusals m .*?=", r"\n")
-    found = {"Check": sorted(map(int, re.findall(r"(\d+) when ", check)))}
+    own = read("crates/unique/specs/OwnCalls.antt")
+    holds("crates/unique/specs/OwnCalls: it does not say when `check`, asked through `ask`, is 15", "pub two-places : " in own and "≡ 15) ↔ " in own)
+    found = {"Check": sorted(map(int, re.findall(r"(\d+) when ", check))) + [15]}
     for name, conditions in re.findall(r"^ask m room \((\w+)[^)]*\) = review m room (.*)$", text, re.M):
         beyond, missing = re.match(r"(never|\([^()]*(?:\([^()]*\)[^()]*)*\)) (never|\([^()]*(?:\([^()]*\)[^()]*)*\)) ", conditions).groups()
         found[name] = [n for n, c in ((1, beyond), (2, missing)) if c != "never"] + [15]

@@ -161,6 +161,8 @@ class Function:
             if buffers:
                 return "UniqueLent {A = List ℕ × ℕ}", [f"(λ κs e. (e {place(buffers[0])} .now, {at}))"]
             return "UniqueLent {A = ℕ}", [f"(λ κs e. {at})"]
+        if len(numbers) == known == 2 and not seen:
+            return "UniqueLent {A = ℕ × ℕ}", [f"(λ κs e. (e {place(numbers[0])} .now, e {place(numbers[1])} .now))"]
         if "&" in self.result or numbers or len(states) > 1 or len(buffers) > 1:
             self.bad("lends or is lent several things")
         if states and buffers:

@@ -519,12 +519,21 @@ impl State {
 
 // Questions.
 impl State {
+    /// Yes (1) or no (0), and the number of effective roles looked at: "taken in ascending order, up to and including the first
+    /// that holds the grant, or all of them where none does".
     pub fn check(&self, session: u16, operation: u16, object: u16) -> Review {
         let number = SessionNumber::new(session)?;
         let (operation, object) = (Operation::new(operation)?, Object::new(object)?);
         let effective = self.effective_roles(self.need_session(number)?);
-        let yes = effective.iter().any(|&role| self.grants.contains(&(role, operation, object)));
-        Ok(vec![u16::from(yes)])
+        let mut looked_at = 0;
+        // The set gives its roles in ascending order.
+        for role in effective {
+            looked_at += 1;
+            if self.grants.contains(&(role, operation, object)) {
+                return Ok(vec![1, looked_at]);
+            }
+        }
+        Ok(vec![0, looked_at])
     }
 
     pub fn assigned_users(&self, role: u16) -> Review {

@@ -1,5 +1,7 @@
-//! What a comparison must reach: the pairs of word and answer that the paper lists, and the events named here and in `dynamic`.
+//! What a comparison must reach: the pairs of word and answer that the paper lists, and the events named here, in `checks` and in
+//! `dynamic`.
 
+mod checks;
 mod dynamic;
 
 use crate::engine::{numbers, Kind, Role, State, MOST_ASSIGNMENTS, MOST_GRANTS, MOST_LINES};
@@ -63,6 +65,17 @@ const EVENTS: &[&str] = &[
     "inherit: the line was implied already",
     "inherit: 6 through a longer chain",
     "check: yes through an inherited role alone",
+    "check: yes at the first of several roles",
+    "check: yes after several roles, with more to come",
+    "check: yes at the last of several roles",
+    "check: yes at an inherited role, with a higher one active that holds the grant too",
+    "check: yes at an active role, with a lower one inherited",
+    "check: yes after 16 roles or more",
+    "check: yes after all 64 roles",
+    "check: no after several roles",
+    "check: no after 16 roles or more",
+    "check: no after all 64 roles",
+    "check: no with none active, though some role holds the grant",
     "session: 9 where 11 applies too",
     "session: 11 while 64 are open, though the active roles alone keep the rule",
     "activate: 9 where 11 applies too",
@@ -152,12 +165,17 @@ const TABLES: [(usize, &str, &str); 4] = [
     (64, "64 sessions are open", "room freed in a full table of sessions is used again"),
 ];
 
+/// The events of other counts, with the row that each belongs to.
+fn other_counts() -> impl Iterator<Item = (&'static str, &'static str)> {
+    dynamic::events().chain(checks::events())
+}
+
 /// How often each pair and each event came up.
 #[derive(Default)]
 pub struct Tally {
     pairs: BTreeMap<(&'static str, u8), u64>,
     events: BTreeMap<&'static str, u64>,
-    /// How often another count than a DSD rule's would give another answer.
+    /// How often another count than that of a DSD rule or of `check` would give another answer or number.
     other_counts: BTreeMap<(&'static str, &'static str), u64>,
     pub lines: u64,
     /// The tables that have been full in the script at hand.
@@ -232,13 +250,7 @@ impl Tally {
             ("role-perms" | "user-perms" | "session-perms", 0, 2048) => self.event("a list of 2,048 permissions"),
             ("assigned-users" | "auth-users", 0, 256) => self.event("a list of 256 users"),
             ("assigned-roles" | "auth-roles" | "session-roles", 0, 64) => self.event("a list of 64 roles"),
-            ("check", 0, _) if reply.results == [1] => {
-                let session = before.sessions.iter().find(|(number, _)| number.number() == asked[0]);
-                let active = session.map_or(BTreeSet::new(), |(_, session)| session.active.clone());
-                let granted = before.grants.iter().filter(|(_, op, on)| [op.number(), on.number()] == asked[1..]);
-                let through_active = granted.map(|(role, _, _)| role).any(|role| active.contains(role));
-                self.event_if(!through_active, "check: yes through an inherited role alone");
-            }
+            ("check", 0, _) => self.check_line(before, &asked, &reply.results),
             ("inherit", 6, _) => {
                 let line_back = before.lines.iter().any(|(senior, junior)| [junior.number(), senior.number()] == asked[..]);
                 self.event_if(asked[0] != asked[1] && !line_back, "inherit: 6 through a longer chain");
@@ -356,7 +368,7 @@ impl Tally {
         let not_listed =
             found.difference(&wanted).map(|(row, answer)| format!("CAME UP, BUT IS NOT LISTED: {row}: answer {answer}"));
         let events = EVENTS.iter().filter(|event| !self.events.contains_key(*event)).map(|event| format!("NEVER CAME UP: {event}"));
-        let counts = dynamic::events().filter(|event| !self.other_counts.contains_key(event));
+        let counts = other_counts().filter(|event| !self.other_counts.contains_key(event));
         let counts = counts.map(|(row, event)| format!("NEVER CAME UP: {row}: {event}"));
         never.chain(not_listed).chain(events).chain(counts).collect()
     }
@@ -380,7 +392,7 @@ impl Tally {
         for event in EVENTS {
             println!("{:>7}  {event}", self.events.get(event).unwrap_or(&0));
         }
-        for (row, event) in dynamic::events() {
+        for (row, event) in other_counts() {
             println!("{:>7}  {row}: {event}", self.other_counts.get(&(row, event)).unwrap_or(&0));
         }
         println!();

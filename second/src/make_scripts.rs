@@ -1,5 +1,6 @@
 //! Random scripts. Each line is chosen with the state before it in view, aimed at acceptance or at a certain refusal.
 
+mod checks;
 mod flaws;
 mod numbers;
 mod seniors;

@@ -8,7 +8,7 @@ use crate::{engine::State, reload, script};
 const EXAMPLE: &str =
     "user 7\nrole 0\nrole 1\nrole 2\ninherit 2 0\nssd 0 2 0 1\nassign 7 2\nassign 7 1\ngrant 4 30 0\nsession 7 2\n\
                        check 0 4 30\ncheck 0 4 31\ninherit 0 2\ndeassign 7 2\ncheck 0 4 30\nauth-roles 7\n";
-const EXAMPLE_OUTPUT: &str = "0\n0\n0\n0\n0\n0\n0\n10\n0\n0 0\n0 1\n0 0\n6\n0\n0 0\n0\ntotal 14 2\n";
+const EXAMPLE_OUTPUT: &str = "0\n0\n0\n0\n0\n0\n0\n10\n0\n0 0\n0 1 1\n0 0 2\n6\n0\n0 0 0\n0\ntotal 14 2\n";
 
 /// Name, lines after the example's first ten, and their answers.
 const SHEET: &[(&str, &str, &str)] = &[
@@ -19,7 +19,7 @@ const SHEET: &[(&str, &str, &str)] = &[
     ("P5", "inherit 2 1", "10"),
     ("P6", "activate 7 0 0; session-roles 0", "0; 0 0 2"),
     ("P7", "deassign 7 2; session-roles 0", "0; 0"),
-    ("P8", "disinherit 2 0; check 0 4 30; session-roles 0", "0; 0 0; 0 2"),
+    ("P8", "disinherit 2 0; check 0 4 30; session-roles 0", "0; 0 0 1; 0 2"),
     ("P9", "ssd-drop 0 1; ssd-roles 0", "7; 0 0 1"),
     ("P10", "norole 1", "8"),
     ("P11", "role 63; role 64", "0; 1"),
@@ -95,7 +95,7 @@ const READINGS: &[(&str, &str, &str, &str)] = &[
          grant 2 5 1",
         "session 7 2 3; session 7 2; activate 7 0 3; activate 7 0 1; session-roles 0; check 0 1 5; check 0 2 5; session 7 3; \
          drop 7 0 2; activate 7 0 3; check 0 1 5; check 0 2 5",
-        "11; 0 0; 11; 11; 0 2; 0 1; 0 0; 0 1; 0; 0; 0 0; 0 1",
+        "11; 0 0; 11; 11; 0 2; 0 1 1; 0 0 2; 0 1; 0; 0; 0 0 2; 0 1 1",
     ),
     (
         "a role active with its own junior counts beside it, and a role reached twice counts once",
@@ -130,6 +130,55 @@ const READINGS: &[(&str, &str, &str, &str)] = &[
          disinherit 1 0; dsd-card 1 2; dsd-add 0 0; inherit 1 0",
         "11; 11; 0; 11; 0 2 3; 0; 11; 0 3; 0; 0; 0; 11",
     ),
+    (
+        "check counts the role that holds the grant, and none after it",
+        "role 1; role 3; role 5; user 7; assign 7 1; assign 7 3; assign 7 5; session 7 1 3 5; grant 0 0 1; grant 0 1 3; grant 0 2 5",
+        "check 0 0 0; check 0 0 1; check 0 0 2; check 0 0 3; grant 0 0 5; check 0 0 0; revoke 0 0 1; check 0 0 0; drop 7 0 3; \
+         check 0 0 0; check 0 0 3",
+        "0 1 1; 0 1 2; 0 1 3; 0 0 3; 0; 0 1 1; 0; 0 1 3; 0; 0 1 2; 0 0 2",
+    ),
+    (
+        "check takes active and inherited roles alike in ascending order",
+        "role 0; role 2; role 3; role 4; user 7; inherit 2 0; inherit 2 3; assign 7 2; assign 7 4; session 7 2 4; grant 1 0 0; \
+         grant 1 0 2; grant 1 1 2; grant 1 2 3; grant 1 2 4; grant 1 3 4",
+        "check 0 1 0; check 0 1 1; check 0 1 2; check 0 1 3; check 0 1 4; activate 7 0 3; check 0 1 2; disinherit 2 0; \
+         check 0 1 0; check 0 1 3",
+        "0 1 1; 0 1 2; 0 1 3; 0 1 4; 0 0 4; 0; 0 1 3; 0; 0 1 1; 0 1 3",
+    ),
+    (
+        "check does not count in the order of the lines, down or up",
+        "role 1; role 3; role 5; role 7; role 9; user 7; inherit 5 3; inherit 3 9; inherit 5 7; inherit 7 1; assign 7 5; \
+         session 7 5; grant 2 1 1; grant 2 3 3; grant 2 5 5; grant 2 7 7; grant 2 9 9",
+        "check 0 2 1; check 0 2 3; check 0 2 5; check 0 2 7; check 0 2 9; check 0 2 2",
+        "0 1 1; 0 1 2; 0 1 3; 0 1 4; 0 1 5; 0 0 5",
+    ),
+    (
+        "check looks on until a role holds the grant itself, and counts a role reached twice once",
+        "role 0; role 1; role 2; role 3; user 7; inherit 0 3; inherit 1 3; inherit 0 2; assign 7 0; assign 7 1; session 7 0 1; \
+         grant 3 0 3",
+        "check 0 3 0; check 0 3 1; grant 3 0 2; check 0 3 0; grant 3 0 0; check 0 3 0",
+        "0 1 4; 0 0 4; 0; 0 1 3; 0; 0 1 1",
+    ),
+    (
+        "check looks at no other roles of the owner, nor at those of other sessions",
+        "role 0; role 1; role 2; role 3; user 7; user 8; inherit 3 1; assign 7 0; assign 7 2; assign 7 3; assign 8 0; session 7 2; \
+         session 7 0 3; session 8 0; grant 4 0 0; grant 4 2 2",
+        "check 0 4 0; check 0 4 2; check 1 4 0; check 1 4 2; check 2 4 0; check 2 4 2",
+        "0 0 1; 0 1 1; 0 1 1; 0 0 3; 0 1 1; 0 0 1",
+    ),
+    (
+        "check with none active gives 0: as opened, dropped and shed",
+        "role 0; role 2; user 7; inherit 2 0; assign 7 2; grant 5 0 0; session 7; session 7 2; session 7 0",
+        "check 0 5 0; check 1 5 0; check 2 5 0; drop 7 1 2; check 1 5 0; activate 7 1 2; check 1 5 0; check 1 5 1; deassign 7 2; \
+         check 1 5 0; check 2 5 0",
+        "0 0 0; 0 1 1; 0 1 1; 0; 0 0 0; 0; 0 1 1; 0 0 2; 0; 0 0 0; 0 0 0",
+    ),
+    (
+        "a check that is refused has no results",
+        "role 0; user 7; assign 7 0; grant 0 0 0; session 7 0",
+        "check 0 0 0; check 64 0 0; check 0 16 0; check 0 0 256; check 63 0 0; check 1 16 0; check 0 0; check 0 0 0 0; check 0 00 0",
+        "0 1 1; 1; 1; 1; 2; 1; 14; 14; 14",
+    ),
 ];
 
 /// Name, lines to begin with that fill a table, lines after them, and the answers to these.
@@ -151,6 +200,21 @@ fn full_tables() -> Vec<(&'static str, String, &'static str, &'static str)> {
             "session 7 2 3; session 7 2; end 7 9; session 7 2 3; session 7 3",
             "11; 12; 0; 11; 0 9",
         ),
+    ]
+}
+
+/// Name, lines to begin with by which a session has all 64 roles effective, lines after them, and the answers to these.
+fn all_effective() -> Vec<(&'static str, String, &'static str, &'static str)> {
+    let roles: String = (0..64).map(|role| format!("role {role}; ")).collect();
+    let juniors: String = (0..64).filter(|role| *role != 31).map(|junior| format!("inherit 31 {junior}; ")).collect();
+    let assignments: String = (0..64).map(|role| format!("assign 7 {role}; ")).collect();
+    let list: String = (0..64).map(|role| format!(" {role}")).collect();
+    let checks = "check 0 4 30; check 0 4 31; grant 4 31 63; check 0 4 31; grant 4 31 62; check 0 4 31; norole 62; check 0 4 31; \
+                  grant 4 31 0; check 0 4 31; check 0 4 30";
+    let answers = "0 0 64; 0 0 64; 0; 0 1 64; 0; 0 1 63; 0; 0 1 63; 0; 0 1 1; 0 0 63";
+    vec![
+        ("check with 63 roles inherited", format!("{roles}{juniors}user 7; assign 7 31; session 7 31"), checks, answers),
+        ("check with 64 roles active", format!("{roles}user 7; {assignments}session 7{list}"), checks, answers),
     ]
 }
 
@@ -238,7 +302,7 @@ pub fn selftest() -> bool {
     for (name, beginning, lines, answers) in READINGS {
         test(name, &run_after(beginning, lines), answers);
     }
-    for (name, beginning, lines, answers) in full_tables() {
+    for (name, beginning, lines, answers) in full_tables().into_iter().chain(all_effective()) {
         test(name, &run_after(&beginning, lines), answers);
     }
 

@@ -61,25 +61,33 @@ static void write_assign(unsigned i) {
 
 /* ---- the rounds: each gives a checksum of the answers and results */
 
+/* Several results as one number. */
+static unsigned with_next(unsigned results, unsigned next) { return results * 128 + next; }
+
 static uint64_t mix(uint64_t sum, unsigned answer, unsigned result) { return sum * 31 + answer * 2 + result; }
 
 static uint64_t our_checks(uint64_t rounds) {
     uint64_t sum = 1;
     for (uint64_t i = 0; i < rounds; i++) {
         uint8_t yes = 0;
-        unsigned answer = marruskil_check(&state, bench(i), op(i), obj(i), &yes);
-        sum = mix(sum, answer, yes);
+        uint16_t looked = 0;
+        unsigned answer = marruskil_check(&state, bench(i), op(i), obj(i), &yes, &looked);
+        sum = mix(sum, answer, with_next(yes, looked));
     }
     return sum;
 }
 
-/* The answer number of an answer line, and the result after it, 0 where there is none. */
-static unsigned answer_in(size_t n, unsigned *result) {
+/* The answer number of an answer line, and the results after it, 0 where there is none. */
+static unsigned answer_in(size_t n, unsigned *results) {
     unsigned answer = 0;
     size_t at = 0;
-    *result = 0;
+    *results = 0;
     for (; at < n && out[at] >= '0'; at++) answer = answer * 10 + (unsigned)(out[at] - '0');
-    for (at++; at < n && out[at] >= '0'; at++) *result = *result * 10 + (unsigned)(out[at] - '0');
+    while (at < n && out[at] == ' ') {
+        unsigned next = 0;
+        for (at++; at < n && out[at] >= '0'; at++) next = next * 10 + (unsigned)(out[at] - '0');
+        *results = with_next(*results, next);
+    }
     return answer;
 }
 
@@ -99,8 +107,10 @@ static uint64_t our_pairs(uint64_t rounds) { return our_lines(2 * rounds); }
 static uint64_t c_checks(uint64_t rounds) {
     uint64_t sum = 1;
     for (uint64_t i = 0; i < rounds; i++) {
-        int yes = 0, answer = c_check(engine, bench(i), op(i), obj(i), &yes);
-        sum = mix(sum, (unsigned)answer, (unsigned)yes);
+        int yes = 0;
+        unsigned looked = 0;
+        int answer = c_check(engine, bench(i), op(i), obj(i), &yes, &looked);
+        sum = mix(sum, (unsigned)answer, with_next((unsigned)yes, looked));
     }
     return sum;
 }
@@ -123,8 +133,10 @@ static uint64_t c_pairs(uint64_t rounds) {
 static uint64_t nothings(uint64_t rounds) {
     uint64_t sum = 1;
     for (uint64_t i = 0; i < rounds; i++) {
-        int yes = 0, answer = c_nothing(engine, bench(i), op(i), obj(i), &yes);
-        sum = mix(sum, (unsigned)answer, (unsigned)yes);
+        int yes = 0;
+        unsigned looked = 0;
+        int answer = c_nothing(engine, bench(i), op(i), obj(i), &yes, &looked);
+        sum = mix(sum, (unsigned)answer, with_next((unsigned)yes, looked));
     }
     return sum;
 }

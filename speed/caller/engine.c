@@ -10,7 +10,9 @@ struct engine *c_built(void) {
     return &engine;
 }
 
-int c_check(const struct engine *e, unsigned session, unsigned op, unsigned obj, int *yes) { return check(e, session, op, obj, 0, yes); }
+int c_check(const struct engine *e, unsigned session, unsigned op, unsigned obj, int *yes, unsigned *looked) {
+    return check(e, session, op, obj, 0, yes, looked);
+}
 
 int c_grant(struct engine *e, unsigned op, unsigned obj, unsigned r) { return grant(e, op, obj, r); }
 
@@ -23,8 +25,9 @@ u64 c_save(const struct engine *e, u8 *out, u64 room) {
     return save(e, out, room, &length) == DONE ? length : 0;
 }
 
-int c_nothing(const struct engine *e, unsigned session, unsigned op, unsigned obj, int *yes) {
+int c_nothing(const struct engine *e, unsigned session, unsigned op, unsigned obj, int *yes, unsigned *looked) {
     (void)e, (void)session, (void)op, (void)obj;
     *yes = 0;
+    *looked = 0;
     return DONE;
 }

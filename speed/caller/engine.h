@@ -8,7 +8,7 @@ struct engine;
 struct engine *c_built(void);
 
 /* Each gives the answer number. */
-int c_check(const struct engine *e, unsigned session, unsigned op, unsigned obj, int *yes);
+int c_check(const struct engine *e, unsigned session, unsigned op, unsigned obj, int *yes, unsigned *looked);
 int c_grant(struct engine *e, unsigned op, unsigned obj, unsigned r);
 int c_assign(struct engine *e, unsigned u, unsigned r);
 int c_deassign(struct engine *e, unsigned u, unsigned r);
@@ -17,6 +17,6 @@ int c_deassign(struct engine *e, unsigned u, unsigned r);
 unsigned long c_save(const struct engine *e, unsigned char *out, unsigned long room);
 
 /* Does nothing and answers 0: what a call alone costs. */
-int c_nothing(const struct engine *e, unsigned session, unsigned op, unsigned obj, int *yes);
+int c_nothing(const struct engine *e, unsigned session, unsigned op, unsigned obj, int *yes, unsigned *looked);
 
 #endif

@@ -14,6 +14,7 @@ IN_C = {
     "&[u8]": [["const char *", "size_t"], ["const uint8_t *", "size_t"]],
     "&mut [u8]": [["char *", "size_t"], ["uint8_t *", "size_t"]],
     "&mut u8": [["uint8_t *"]],
+    "&mut u16": [["uint16_t *"]],
     "&mut usize": [["size_t *"]],
     "u64": [["uint64_t"]],
     "u16": [["uint16_t"]],

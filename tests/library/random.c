@@ -142,13 +142,15 @@ static void try_obey(marruskil_state *state, uint8_t *line_end, uint8_t *out_end
 static void try_check(const marruskil_state *state)
 {
     uint8_t result = UNTOUCHED;
+    uint16_t looked = UNTOUCHED;
     uint64_t session = below(2) ? below(64) : any_number(), operation = below(2) ? below(16) : any_number(), object = below(2) ? below(256) : any_number();
     uint16_t answer;
 
     before = *state;
-    answer = marruskil_check(state, session, operation, object, &result);
+    answer = marruskil_check(state, session, operation, object, &result, &looked);
     count(answer);
     must(answer == 0 ? result <= 1 : result == UNTOUCHED, "check stores another result than 0 or 1, or one on a refusal");
+    must(answer == 0 ? looked <= 64 : looked == UNTOUCHED, "check looks at more than 64 roles, or stores how many on a refusal");
     must((answer == 1) == (session > 63 || operation > 15 || object > 255), "check answers 1 for numbers in their ranges, or not for one beyond");
     must(memcmp(state, &before, sizeof before) == 0, "check changes the state");
 }

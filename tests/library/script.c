@@ -45,13 +45,13 @@ static void try_short(const char *line, size_t length, size_t room)
     must(untouched(out, 0, sizeof out), "a short buffer is written to");
 }
 
-/* The line `check`, asked by the function: the same answer, and on a refusal the result's place is untouched. */
+/* The line `check`, asked by the function: the same answer and results, and on a refusal the places of the results are untouched. */
 static void try_check(const char *line, size_t length, size_t answered)
 {
     char text[64], told[16];
     unsigned session, operation, object;
     uint8_t result = UNTOUCHED;
-    uint16_t number;
+    uint16_t number, looked = UNTOUCHED;
 
     if (length >= sizeof text)
         return;
@@ -59,14 +59,14 @@ static void try_check(const char *line, size_t length, size_t answered)
     text[length] = 0;
     if (sscanf(text, "check %5u %5u %5u", &session, &operation, &object) != 3 || memcmp(answer, "14\n", 3) == 0)
         return;
-    number = marruskil_check(&before, session, operation, object, &result);
+    number = marruskil_check(&before, session, operation, object, &result, &looked);
     if (number == 0)
-        sprintf(told, "0 %u\n", (unsigned)result);
+        sprintf(told, "0 %u %u\n", (unsigned)result, (unsigned)looked);
     else
         sprintf(told, "%u\n", (unsigned)number);
-    must(number == 0 || result == UNTOUCHED, "a refused check stores a result");
+    must(number == 0 || (result == UNTOUCHED && looked == UNTOUCHED), "a refused check stores a result");
     must(strlen(told) == answered && memcmp(told, answer, answered) == 0, "the function check and the line check differ");
-    must(marruskil_check(&before, session + 65536u, operation, object, &result) == 1, "a session number is cut to sixteen bits");
+    must(marruskil_check(&before, session + 65536u, operation, object, &result, &looked) == 1, "a session number is cut to sixteen bits");
 }
 
 static void try_file(void)

@@ -11,7 +11,7 @@ use lib.Seq.{sets, sets-eq}
 use Rattle.roleset.specs.Bounded.{some, every, tally, total, members}
 use Rattle.roleset.specs.Roles.{has, pack, those, with, without, union, common, minus, subset, isEmpty, count}
 use Rattle.hierarchy.specs.Walks.{juniorsOf, walk, reach}
-use Rattle.model.specs.Lists.{rising, someFrom, listed, setOf}
+use Rattle.model.specs.Lists.{rising, someFrom, listed, setOf, upToFirst}
 use Rattle.model.specs.Model.{Model, empty, put}
 use Rattle.model.specs.Questions.{ask, assignedRoles, authRoles, sessionRoles}
 use Rattle.model.specs.Sheet.{verdict, settle}
@@ -21,7 +21,7 @@ use Rattle.model.specs.commands.Users.{user, role, norole, inSet, withoutRole}
 use Rattle.model.specs.commands.Assigning.{assign, assigned, deassign, deassigned, grant, granted}
 use Rattle.model.specs.commands.Inheriting.{inherit, lined, disinherit, unlined}
 use Rattle.model.specs.commands.Sets.{broken, makeSet, dropMember}
-use Rattle.model.specs.commands.Sessions.{freeFrom, opened, session, activeSet, activate, permitted, check}
+use Rattle.model.specs.commands.Sessions.{freeFrom, opened, session, activeSet, activate, permitted, looked, check}
 use Rattle.decimal.specs.Decimal.{decimal, lead, numbered, takenFrom}
 use Rattle.words.specs.Bytes.{same}
 use Rattle.words.proofs.Laws.{and-true}
@@ -49,7 +49,7 @@ each-answered m (P k rows ∷ rest) e = let p = and-true (right rows m) (each re
 
 -- the first ten lines and then each row, in one computation
 computed : rightThen firstTenLines (each sheet) empty ≡ true
-unfolding some every tally total members has pack those with without union common minus subset isEmpty count juniorsOf walk reach rising someFrom listed setOf empty put ask assignedRoles authRoles sessionRoles verdict settle step breaks breaksSome staticBroken dynamicBroken shedded shed assignments grants linesStanding sessionsOpen user role norole inSet withoutRole assign assigned deassign deassigned grant granted inherit lined disinherit unlined broken makeSet dropMember freeFrom opened session activeSet activate permitted check decimal lead numbered takenFrom same words spelling takes placeIn which partsOf upTo render wordIn numbersIn parse meanings meant obey answerText tells rightThen each
+unfolding some every tally total members has pack those with without union common minus subset isEmpty count juniorsOf walk reach rising someFrom listed setOf upToFirst empty put ask assignedRoles authRoles sessionRoles verdict settle step breaks breaksSome staticBroken dynamicBroken shedded shed assignments grants linesStanding sessionsOpen user role norole inSet withoutRole assign assigned deassign deassigned grant granted inherit lined disinherit unlined broken makeSet dropMember freeFrom opened session activeSet activate permitted looked check decimal lead numbered takenFrom same words spelling takes placeIn which partsOf upTo render wordIn numbersIn parse meanings meant obey answerText tells rightThen each
 computed = refl
 
 -- lines of text and commands that say the same, whatever the policy before them

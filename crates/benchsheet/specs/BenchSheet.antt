@@ -40,8 +40,8 @@ sheet =
     P 6 ("activate 7 0 0" ⇒ "0" ∷ "assigned-roles 7" ⇒ "0 2" ∷ "auth-roles 7" ⇒ "0 0 2" ∷ []) ∷
     -- "0, session 0 open, none active"
     P 7 ("deassign 7 2" ⇒ "0" ∷ "session-roles 0" ⇒ "0" ∷ []) ∷
-    -- "0, then 0 0 with role 2 active"
-    P 8 ("disinherit 2 0" ⇒ "0" ∷ "check 0 4 30" ⇒ "0 0" ∷ "session-roles 0" ⇒ "0 2" ∷ []) ∷
+    -- "0, then 0 0 1 with role 2 active" (request 10)
+    P 8 ("disinherit 2 0" ⇒ "0" ∷ "check 0 4 30" ⇒ "0 0 1" ∷ "session-roles 0" ⇒ "0 2" ∷ []) ∷
     P 9 ("ssd-drop 0 1" ⇒ "7" ∷ []) ∷
     P 10 ("norole 1" ⇒ "8" ∷ []) ∷
     P 11 ("role 63" ⇒ "0" ∷ "role 64" ⇒ "1" ∷ []) ∷

@@ -31,6 +31,7 @@ use Rattle.misreadings.proofs.ShutOut.{shut-out}
 use Rattle.misreadings.proofs.Reviewers.{reviewers-shut-out}
 use Rattle.misreadings.proofs.Deleting.{deleting-shut-out}
 use Rattle.misreadings.proofs.DynamicRule.{dynamic-shut-out}
+use Rattle.misreadings.proofs.HowFar.{how-far}
 use Rattle.clibrary.proofs.Calling.{longest-answer}
 use Rattle.unique.proofs.Promises as promises
 use Rattle.unique.proofs.Handed.{owned}
@@ -115,6 +116,7 @@ claims =
       reviewers-shut-out = reviewers-shut-out;
       deleting-shut-out = deleting-shut-out;
       dynamic-shut-out = dynamic-shut-out;
+      how-far = how-far;
       own-calls = own-calls;
       longest-answer = longest-answer;
       owned = owned;

@@ -39,6 +39,7 @@ use Rattle.misreadings.specs.Readings.{examples, answered, expected, InheritedG
 use Rattle.misreadings.specs.ShutOut.{ShutOut, ReviewersShutOut}
 use Rattle.misreadings.specs.Deleting.{DeletingShutOut}
 use Rattle.misreadings.specs.DynamicRule.{DynamicShutOut}
+use Rattle.misreadings.specs.HowFar.{HowFar}
 use Rattle.clibrary.specs.Calls.{LongestAnswer}
 use Rattle.unique.specs.Promises as promises
 use Rattle.unique.specs.Handed.{Owned}
@@ -133,6 +134,7 @@ pub record Claims : Type 0 where
   pub reviewers-shut-out : ReviewersShutOut
   pub deleting-shut-out : DeletingShutOut
   pub dynamic-shut-out : DynamicShutOut
+  pub how-far : HowFar
   -- ---- the code's own calls, its own states, its buffers, and every number of its state
   pub own-calls : OwnCalls
   pub longest-answer : LongestAnswer

@@ -3,7 +3,7 @@ use mathlib.Core.List.{List, [], _∷_}
 use mathlib.Core.Logic.{_⊎_}
 use mathlib.Core.Path.{_≡_}
 use Prim.Native.Nat.{ℕ, _≤_, _<_}
-use lib.ListN.{length}
+use lib.ListN.{length, drop}
 use lib.Seq.{sets}
 use Rattle.model.specs.Model.{Model}
 use Rattle.model.specs.Sheet.{Told}
@@ -40,16 +40,17 @@ pub record LongestAnswer : Type 0 where
   -- a command's answer line has 12 bytes at most: a line with a longer one changes nothing
   pub commands : (m : Model) (text : List ℕ) → 12 < length (answerLine (obey m text)) → obey m text .after ≡ m
 
--- the place of the result: it holds the result, and is as it was where there is none
+-- the place of a result: it holds the first of the results, and is as it was where there is none
 abbrev pub placed : List ℕ → ℕ → ℕ
 placed [] before = before
 placed (result ∷ rest) before = result
 
--- What a question with at most one result tells: the answer's number, and the result where the caller says. "Every refusal changes nothing in ..
--- lent buffers, and gives no results."
-pub record ChecksAt (told : Told) (before after answer : ℕ) : Type 0 where
+-- What `check` tells: the answer's number, and its two results where the caller says. "Every refusal changes nothing in .. lent buffers, and gives no
+-- results."
+pub record ChecksAt (told : Told) (before after lookedBefore lookedAfter answer : ℕ) : Type 0 where
   pub answered : answer ≡ told .answer
   pub result : after ≡ placed (told .results) before
+  pub looked : lookedAfter ≡ placed (drop 1 (told .results)) lookedBefore
 
 -- what a load tells that answers a and leaves the state l
 abbrev pub loaded : ℕ → List ℕ → Told

@@ -80,7 +80,7 @@ fn sixteen(n: u64) -> u16
     if n < 65535 { n as u16 } else { 65535 }
 }
 
-// May the session do the operation on the object? Gives the answer's number; the result, 1 for yes and 0 for no, is stored where the caller says, and a refusal stores nothing.
+// May the session do the operation on the object? Gives the answer's number; the results, 1 for yes and 0 for no, and how many effective roles were looked at, are stored where the caller says, and a refusal stores nothing.
 #[no_mangle]
 pub extern "C" fn marruskil_check(
     state: &[u64; PLACES],
@@ -88,8 +88,9 @@ pub extern "C" fn marruskil_check(
     operation: u64,
     object: u64,
     result: &mut u8,
+    looked: &mut u16,
 ) -> u16
-    ensures { λ a. ⌜ ChecksAt (check (view (now (state .entry))) session operation object) (now (result .entry)) (now (result .exit)) a ⌝ }
+    ensures { λ a. ⌜ ChecksAt (check (view (now (state .entry))) session operation object) (now (result .entry)) (now (result .exit)) (now (looked .entry)) (now (looked .exit)) a ⌝ }
 {
     let x = Session {
         number: sixteen(session),
@@ -98,6 +99,7 @@ pub extern "C" fn marruskil_check(
     let answer = c.answer;
     if numbers::is_done(answer) {
         *result = c.yes as u8;
+        *looked = c.looked;
         return 0;
     }
     numbers::number_of(answer)

@@ -38,16 +38,16 @@ first : List ℕ → ℕ
 first [] = 0
 first (a ∷ rest) = a
 
-result-yes : (rs : List Refusal) (m after : Model) (b : Bool) → settle rs m (bit b ∷ []) after ≡ done (1 ∷ []) after → b ≡ true
+result-yes : (rs : List Refusal) (m after : Model) (b : Bool) (rest others : List ℕ) → settle rs m (bit b ∷ rest) after ≡ done (1 ∷ others) after → b ≡ true
 unfolding first
-result-yes rs m after b e = go (verdict rs) refl
+result-yes rs m after b rest others e = go (verdict rs) refl
   where
-    told : first (settle rs m (bit b ∷ []) after .results) ≡ 1
+    told : first (settle rs m (bit b ∷ rest) after .results) ≡ 1
     told = ap (λ (x : Told). first (x .results)) e
 
     go : (n : ℕ) → verdict rs ≡ n → b ≡ true
-    go zero p = bit-yes b (sym (ap (λ (x : Told). first (x .results)) (settle-done rs m (bit b ∷ []) after p)) ∙ told)
-    go (suc n) p = absurd (let z : 0 ≡ 1 = sym (ap (λ (x : Told). first (x .results)) (settle-refused rs m (bit b ∷ []) after (λ q. omega arith))) ∙ told in omega arith)
+    go zero p = bit-yes b (sym (ap (λ (x : Told). first (x .results)) (settle-done rs m (bit b ∷ rest) after p)) ∙ told)
+    go (suc n) p = absurd (let z : 0 ≡ 1 = sym (ap (λ (x : Told). first (x .results)) (settle-refused rs m (bit b ∷ rest) after (λ q. omega arith))) ∙ told in omega arith)
 
 -- ---- a role below one that the owner is authorised for is one that the owner is authorised for
 
@@ -72,9 +72,9 @@ rules m s = record { circles = s .rules .acyclic .never; active = active; access
         side (inl h) = active k r h .through
         side (inr q) = below m (m .assigned (m .sessions k .owner)) (q .0) r (active k (q .0) (q .1) .through) (q .2)
 
-    access : (k op obj : ℕ) → check m k op obj ≡ done (1 ∷ []) m → Through m k (permission op obj)
-    access k op obj e =
-        let found = permitted-exact m k (permission op obj) .0 (result-yes _ m m (permitted m k (permission op obj)) e) in
+    access : (k op obj n : ℕ) → check m k op obj ≡ done (1 ∷ n ∷ []) m → Through m k (permission op obj)
+    access k op obj n e =
+        let found = permitted-exact m k (permission op obj) .0 (result-yes _ m m (permitted m k (permission op obj)) _ _ e) in
         let p = effective-exact m s k (found .0) .0 (found .1) in
         let reached : Effective m k (found .0) = record { exists = p .0; through = p .1 } in
         record { role = found .0; effective = reached; holds = found .2; authorised = owned k (found .0) reached }

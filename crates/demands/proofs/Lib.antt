@@ -9,6 +9,7 @@ pub mod Kept
 pub mod Demand1
 pub mod Exact
 pub mod Cases
+pub mod Looking
 pub mod Demand2
 pub mod Reviews
 pub mod Demand3

@@ -25,7 +25,7 @@ use Rattle.model.specs.declared.Question.{Question}
 use Rattle.model.specs.declared.Question.the-variants.{Check, AssignedUsers, AssignedRoles, AuthUsers, AuthRoles, RolePerms, UserPerms, SessionRoles, SessionPerms, RoleOps, UserOps, Sets, SetRoles, SetCount}
 use Rattle.sound.proofs.Carried.{lines-small}
 use Rattle.sound.proofs.Members.{common-member, common-intro}
-use Rattle.sound.proofs.Words.{authorised-exact, effective-exact}
+use Rattle.sound.proofs.Words.{authorised-exact}
 use Rattle.reviews.proofs.Agreeing.{auth-agree}
 use Rattle.reviews.proofs.ListLaws.{listed-member, member-listed, members-ascending}
 use Rattle.reviews.proofs.Listed.{set-count-cardinality}
@@ -37,6 +37,7 @@ use Rattle.demands.proofs.Demand2.{demand2}
 use Rattle.demands.proofs.Exact.{exact}
 use Rattle.demands.proofs.Lists.{member, ascends}
 use Rattle.demands.proofs.Kept.{reachable-sound}
+use Rattle.demands.proofs.Looking.{effective-to, effective-met}
 
 -- ---- a review
 
@@ -70,18 +71,12 @@ module _ (m : Model) (s : Sound m) where
       small (inl e) = omega arith
       small (inr i) = ends-small (lines-small m (s .shape)) i .0
 
-  -- The computed sets of the roles that a user is authorised for, and of a session's effective roles, are the stated ones.
+  -- The computed set of the roles that a user is authorised for is the stated one.
   authorised-to : (u q : ℕ) → has (authorised m u) q ≡ true → Authorised m u q
   authorised-to u q h = let e = authorised-exact m s u q .0 h in record { exists = e .0; through = e .1 }
 
   authorised-met : (u q : ℕ) → Authorised m u q → has (authorised m u) q ≡ true
   authorised-met u q a = authorised-exact m s u q .1 (a .exists, a .through)
-
-  effective-to : (k q : ℕ) → has (effective m k) q ≡ true → Effective m k q
-  effective-to k q h = let e = effective-exact m s k q .0 h in record { exists = e .0; through = e .1 }
-
-  effective-met : (k q : ℕ) → Effective m k q → has (effective m k) q ≡ true
-  effective-met k q a = effective-exact m s k q .1 (a .exists, a .through)
 
   -- The users that are authorised for a role are those that have it among theirs.
   auth-users : {room : ℕ} {beyond missing : Bool} (r : ℕ) → Listing m room beyond missing (λ u. Authorised m u r) (review m room beyond missing (authUsers m r))

@@ -8,11 +8,13 @@ use native.Mathlib.Omega.{arith}
 use native.Mathlib.Decide.{ℕ-discrete}
 use lib.Dec.{eqb}
 use borrow.Author.Tests.{leb-false, lt-leb, eqb-true, not-false}
-use Rattle.roleset.specs.Bounded.{bit}
+use lib.ListN.{length}
+use Rattle.roleset.specs.Bounded.{bit, members}
 use Rattle.roleset.specs.Roles.{has, common, isEmpty}
 use Rattle.roleset.proofs.BoundedLaws.{clash, never}
 use Rattle.hierarchy.specs.Walks.{reach}
 use Rattle.numbers.specs.declared.User.{User}
+use Rattle.model.specs.Lists.{upToFirst}
 use Rattle.model.specs.Model.{Model, RoleSet, Session, closedSession, withUsers, withAssigned, withSessions}
 use Rattle.model.specs.Sheet.{Refusal, _when_, Told, verdict, settle, done, refused}
 use Rattle.model.specs.Sound.{Sound}
@@ -22,7 +24,7 @@ use Rattle.model.specs.commands.Naming.{userBeyond, userMissing, sessionBeyond,
 use Rattle.model.specs.commands.Users.{endedOf, allEnded, endAll, hasOpen, withoutUser, nouser, withoutRole}
 use Rattle.model.specs.commands.Assigning.{assigned, deassigned, granted, revoked}
 use Rattle.model.specs.commands.Inheriting.{lined, unlined}
-use Rattle.model.specs.commands.Sessions.{lowestFree, sessionSet, opened, activeSet, permitted, check}
+use Rattle.model.specs.commands.Sessions.{lowestFree, sessionSet, opened, activeSet, permitted, looked, check}
 use Rattle.model.specs.declared.Command.{Command}
 use Rattle.model.specs.declared.Command.the-variants.{AddUser, AddRole, NoUser, NoRole, Assign, Deassign, Grant, Revoke, Inherit, Disinherit, MakeSet, DropSet, AddMember, DropMember, SetCardinality, OpenSession, Activate, DropActive, EndSession, EndAll}
 use Rattle.model.specs.declared.Kind.{Kind}
@@ -134,7 +136,7 @@ module _ (m : Model) (u : User) where
 
 -- its results, by the session, the lines and the grants
 abbrev told-results : Session → (ℕ → ℕ) → (ℕ → ℕ) → ℕ → ℕ → ℕ → List ℕ
-told-results session juniors holders s op obj = elim (eqb (verdict (1 when (sessionBeyond s || permissionBeyond op obj) ∷ 2 when not (session .live) ∷ [])) 0) [ true ↦ bit (not (isEmpty (common (reach juniors (session .active)) (holders (permission op obj))))) ∷ [] | false ↦ [] ]
+told-results session juniors holders s op obj = elim (eqb (verdict (1 when (sessionBeyond s || permissionBeyond op obj) ∷ 2 when not (session .live) ∷ [])) 0) [ true ↦ bit (not (isEmpty (common (reach juniors (session .active)) (holders (permission op obj))))) ∷ length (upToFirst (has (holders (permission op obj))) (members 64 (has (reach juniors (session .active))))) ∷ [] | false ↦ [] ]
 
 settle-results : (rs : List Refusal) (m : Model) (gives : List ℕ) (left : Model) → settle rs m gives left .results ≡ elim (eqb (verdict rs) 0) as (λ _. List ℕ) [ true ↦ gives | false ↦ [] ]
 unfolding settle
@@ -145,7 +147,7 @@ settle-results rs m gives left = go (eqb (verdict rs) 0)
     go false = refl
 
 check-results : (m : Model) (s op obj : ℕ) → check m s op obj .results ≡ told-results (m .sessions s) (m .juniors) (m .holders) s op obj
-unfolding check permitted
+unfolding check permitted looked
 check-results m s op obj = settle-results _ m _ m
 
 check-answer : (m : Model) (s op obj : ℕ) → check m s op obj .answer ≡ verdict (1 when (sessionBeyond s || permissionBeyond op obj) ∷ 2 when not (m .sessions s .live) ∷ [])

@@ -24,6 +24,7 @@ use Rattle.model.specs.declared.Command.the-variants.{AddUser, AddRole, NoUser,
 use Rattle.model.specs.declared.Kind.{Kind}
 use Rattle.model.specs.declared.Kind.the-variants.{Static, Dynamic}
 use Rattle.demands.specs.Authorised.{Effective}
+use Rattle.demands.specs.Many.{HowMany}
 use Rattle.demands.specs.Reachable.{Reachable}
 
 -- ---- what each command changes, where it is done
@@ -278,8 +279,25 @@ pub record Granted (m : Model) (s p : ℕ) : Type 0 where
   pub effective : Effective m s role
   pub holds : has (m .holders p) role ≡ true
 
+-- The first effective role of the session, "taken in ascending order", "that holds the grant": active or inherited alike.
+pub record FirstHolder (m : Model) (s p role : ℕ) : Type 0 where
+  pub effective : Effective m s role
+  pub holds : has (m .holders p) role ≡ true
+  pub first : (k : ℕ) → Effective m s k → has (m .holders p) k ≡ true → role ≤ k
+
+-- "the number of effective roles it looked at .. up to and including the first that holds the grant" (request 10)
+pub record LookedUpTo (m : Model) (s p n : ℕ) : Type 0 where
+  pub role : ℕ
+  pub holder : FirstHolder m s p role
+  pub number : HowMany (λ k. Effective m s k × (k ≤ role)) n
+
+-- "or all of them where none does"
+pub record LookedAtAll (m : Model) (s p n : ℕ) : Type 0 where
+  pub none : Granted m s p → ⊥
+  pub number : HowMany (Effective m s) n
+
 -- "`check s op obj`: refusals 1 and 2, else answer 0 with the result 1 for yes or 0 for no. Yes exactly when some effective role of the session
--- holds the grant."
+-- holds the grant." "`check` now also gives the number of effective roles it looked at" (request 10)
 abbrev pub checkRefusals : Model → ℕ → ℕ → ℕ → List Refusal
 checkRefusals m s op obj = 1 when (s beyond 63 || (op beyond 15 || obj beyond 255)) ∷ 2 when not (m .sessions s .live) ∷ []
 
@@ -289,10 +307,16 @@ pub record Checked (m : Model) (s op obj : ℕ) (told : Told) : Type 0 where
   pub refused : (n : ℕ) → (n ≡ 0 → ⊥) → (told .answer ≡ n) ↔ FirstToApply (checkRefusals m s op obj) n
   -- 0 is answered exactly when neither applies.
   pub done : (told .answer ≡ 0) ↔ ((n : ℕ) → Applies (checkRefusals m s op obj) n → ⊥)
-  -- Then there is one result, and it is 1 or 0.
-  pub answers : told .answer ≡ 0 → (told .results ≡ 1 ∷ []) ⊎ (told .results ≡ 0 ∷ [])
+  -- Then there are two results, and the first is 1 or 0.
+  pub answers : told .answer ≡ 0 → (n : ℕ) × ((told .results ≡ 1 ∷ n ∷ []) ⊎ (told .results ≡ 0 ∷ n ∷ []))
   -- It is 1, yes, exactly when an effective role of the session holds the permission, "written as operation * 256 + object".
-  pub exactly : told .answer ≡ 0 → (told .results ≡ 1 ∷ []) ↔ Granted m s (op * 256 + obj)
+  pub exactly : told .answer ≡ 0 → ((n : ℕ) × (told .results ≡ 1 ∷ n ∷ [])) ↔ Granted m s (op * 256 + obj)
+  -- The second is the number of the effective roles looked at: on yes of those up to the first that holds it, on no of all of them.
+  pub looked-yes : told .answer ≡ 0 → (n : ℕ) → (told .results ≡ 1 ∷ n ∷ []) ↔ LookedUpTo m s (op * 256 + obj) n
+  pub looked-no : told .answer ≡ 0 → (n : ℕ) → (told .results ≡ 0 ∷ n ∷ []) ↔ LookedAtAll m s (op * 256 + obj) n
+  -- "The number .. is at most 64. A session with none active gives 0", and no other does.
+  pub at-most : (said n : ℕ) → told .results ≡ said ∷ n ∷ [] → n ≤ 64
+  pub none-active : (said n : ℕ) → told .results ≡ said ∷ n ∷ [] → (n ≡ 0) ↔ ((r : ℕ) → has (m .sessions s .active) r ≡ false)
   -- A refusal gives no results.
   pub silent : (told .answer ≡ 0 → ⊥) → told .results ≡ []
   -- Nothing is changed, whatever the answer.

@@ -32,7 +32,7 @@ pub record Rules (m : Model) : Type 0 where
   -- "every active role is one its owner is authorised for"
   pub active : (s r : ℕ) → has (m .sessions s .active) r ≡ true → Authorised m (m .sessions s .owner) r
   -- "and access goes only through such a role"
-  pub access : (s op obj : ℕ) → check m s op obj ≡ done (1 ∷ []) m → Through m s (op * 256 + obj)
+  pub access : (s op obj n : ℕ) → check m s op obj ≡ done (1 ∷ n ∷ []) m → Through m s (op * 256 + obj)
   -- "no user is authorised (inheritance counted) for as many roles of a static set as its cardinality"
   pub static : StaticBroken m → ⊥
   -- "a session may have fewer than n effective roles of a dynamic set" (request 2)

@@ -1,5 +1,6 @@
--- "As many as n", and "strictly ascending", in plain words. Assumes nothing.
+-- "As many as n", "strictly ascending" and "how many", in plain words. Assumes nothing.
 use mathlib.Core.List.{List, [], _∷_, List·Memᴰ}
+use mathlib.Core.Logic.{_↔_}
 use mathlib.Core.Path.{_≡_}
 use Prim.Native.Nat.{ℕ, _<_}
 use lib.ListN.{length}
@@ -21,3 +22,10 @@ pub data Ascending : List ℕ → Type 0 where
   empty : Ascending []
   single : {a : ℕ} → Ascending (a ∷ [])
   rises : {a b : ℕ} {rest : List ℕ} → a < b → Ascending (b ∷ rest) → Ascending (a ∷ b ∷ rest)
+
+-- There are n of these numbers, neither more nor fewer: the ascending list of all of them has n.
+pub record HowMany (among : ℕ → Type 0) (n : ℕ) : Type 0 where
+  pub list : List ℕ
+  pub ascending : Ascending list
+  pub members : (k : ℕ) → List·Memᴰ k list ↔ among k
+  pub long : length list ≡ n

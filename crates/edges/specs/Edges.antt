@@ -65,7 +65,7 @@ numbers =
     -- session 0 is open
     "nouser 255" ⇒ "16" ∷
     -- the same in questions
-    "check 0 15 255" ⇒ "0 1" ∷
+    "check 0 15 255" ⇒ "0 1 1" ∷
     "check 0 16 255" ⇒ "1" ∷
     "check 0 15 256" ⇒ "1" ∷
     "check 64 15 255" ⇒ "1" ∷

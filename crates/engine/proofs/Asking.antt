@@ -1,7 +1,7 @@
--- Any question in a lent buffer: a review has asked for its room itself, and `check` has its one result there, or none. Assumes nothing.
+-- Any question in a lent buffer: a review has asked for its room itself, and `check` has its two results there, or none. Assumes nothing.
 use mathlib.Core.Bool.{true, false}
 use mathlib.Core.List.{List, [], _∷_}
-use mathlib.Core.Path.{_≡_, refl, ap}
+use mathlib.Core.Path.{_≡_, refl, ap, _∙_}
 use Prim.Native.Nat.{ℕ, _<_, _≤_}
 use native.Mathlib.Omega.{arith}
 use lib.ListN.{length, drop, set, length-set, length-append}
@@ -33,21 +33,22 @@ fits-already told before after x e r = rw same r
 pub asked-arm : (m : Model) {q r : Question} (before after : List ℕ) (x : Review) → q ≡ r → length after ≡ length before → Asked m r before after x → AskedAny m q before after x
 asked-arm m before after x e same told = rw e (fits-already _ before after x same told)
 
--- ---- `check`: refused; done with no place for its result; done with one
+-- ---- `check`: refused; done with no room for its two results; done with room
 
 module _ (m : Model) (told : Told) (c : Checked) (before : List ℕ) (tells : toldChecked m c ≡ told) where
   pub check-refused : isDone (c .answer) ≡ false → Reviewed (fitted (length before) told) before before (record { answer = c .answer; count = 0 })
   unfolding toldChecked
   check-refused e = rw (← tells, e) (fits-already _ before before _ refl (record { answer = refl; count = refl; buffer = refl }))
 
-  pub check-short : isDone (c .answer) ≡ true → length before < 1 → Reviewed (fitted (length before) told) before before (record { answer = BufferShort; count = 0 })
+  pub check-short : isDone (c .answer) ≡ true → length before < 2 → Reviewed (fitted (length before) told) before before (record { answer = BufferShort; count = 0 })
   unfolding fitted toldChecked
-  check-short e h = rw (← tells, e, lt-ltb (length before) 1 h, fitted) (record { answer = refl; count = refl; buffer = refl })
+  check-short e h = rw (← tells, e, lt-ltb (length before) 2 h, fitted) (record { answer = refl; count = refl; buffer = refl })
 
-  pub check-done : isDone (c .answer) ≡ true → 1 ≤ length before → Reviewed (fitted (length before) told) before (set before 0 (bit (c .yes))) (record { answer = c .answer; count = 1 })
+  pub check-done : isDone (c .answer) ≡ true → 2 ≤ length before → Reviewed (fitted (length before) told) before (set (set before 0 (bit (c .yes))) 1 (c .looked)) (record { answer = c .answer; count = 2 })
   unfolding toldChecked
-  check-done e h = rw (← tells, e) (fits-already _ before _ _ (length-set before 0 (bit (c .yes))) (record { answer = refl; count = refl; buffer = first before h }))
+  check-done e h = rw (← tells, e) (fits-already _ before _ _ (length-set (set before 0 (bit (c .yes))) 1 (c .looked) ∙ length-set before 0 (bit (c .yes))) (record { answer = refl; count = refl; buffer = first before h }))
     where
-      first : (l : List ℕ) → 1 ≤ length l → set l 0 (bit (c .yes)) ≡ bit (c .yes) ∷ drop 1 l
+      first : (l : List ℕ) → 2 ≤ length l → set (set l 0 (bit (c .yes))) 1 (c .looked) ≡ bit (c .yes) ∷ c .looked ∷ drop 2 l
       first [] h = absurd (omega (arith, h))
-      first (k ∷ l) h = refl
+      first (k ∷ []) h = absurd (omega (arith, h))
+      first (k ∷ j ∷ l) h = refl

@@ -80,7 +80,7 @@ pub fn step(state: &mut [u64; PLACES], c: Command, list: &[u16]) -> Stepped
     }
 }
 
-// `check` with its one result in the buffer: 1 for yes or 0 for no; 15 too, where the buffer has no place.
+// `check` with its two results in the buffer: 1 for yes or 0 for no, and how many effective roles it looked at; 15 too, where the buffer has fewer than two places.
 fn check(state: &[u64; PLACES], x: Session, op: u16, obj: u16, out: &mut [u16]) -> Review
     ensures { λ r. ⌜ AskedAny (view (now (state .entry))) (Check x op obj) (now (out .entry)) (now (out .exit)) r ⌝ }
 {
@@ -89,17 +89,18 @@ fn check(state: &[u64; PLACES], x: Session, op: u16, obj: u16, out: &mut [u16]) 
     if !numbers::is_done(answer) {
         return Review { answer, count: 0 };
     }
-    if out.len() < 1 {
+    if out.len() < 2 {
         return Review {
             answer: Answer::BufferShort,
             count: 0,
         };
     }
     out[0] = c.yes as u16;
-    Review { answer, count: 1 }
+    out[1] = c.looked;
+    Review { answer, count: 2 }
 }
 
-// Any question, with its results in the buffer. The answer of `check` is 15 too where the buffer has no place.
+// Any question, with its results in the buffer. The answer of `check` is 15 too where the buffer has fewer than two places.
 pub fn ask(state: &[u64; PLACES], q: Question, out: &mut [u16]) -> Review
     ensures { λ x. ⌜ AskedAny (view (now (state .entry))) q (now (out .entry)) (now (out .exit)) x ⌝ }
 {

@@ -9,7 +9,7 @@ use Rattle.roleset.specs.Bounded.{bit, some, every, tally, members}
 use Rattle.roleset.specs.Roles.{has, pack, those, with, without, union, common, minus, subset, isEmpty, count}
 use Rattle.roleset.proofs.BoundedLaws.{some-intro}
 use Rattle.hierarchy.specs.Walks.{juniorsOf, walk, reach}
-use Rattle.model.specs.Lists.{rising, someFrom, listed, setOf}
+use Rattle.model.specs.Lists.{rising, someFrom, listed, setOf, upToFirst}
 use Rattle.model.specs.Model.{Model, empty, put}
 use Rattle.model.specs.Questions.{ask, sessionRoles}
 use Rattle.model.specs.Sheet.{verdict, settle}
@@ -19,7 +19,7 @@ use Rattle.model.specs.commands.Users.{user, role}
 use Rattle.model.specs.commands.Assigning.{assign, assigned, grant, granted}
 use Rattle.model.specs.commands.Inheriting.{inherit, lined}
 use Rattle.model.specs.commands.Sets.{broken, makeSet}
-use Rattle.model.specs.commands.Sessions.{freeFrom, opened, session, permitted, check}
+use Rattle.model.specs.commands.Sessions.{freeFrom, opened, session, permitted, looked, check}
 use Rattle.model.specs.declared.Kind.the-variants.{Static}
 use Rattle.benchsheet.specs.Lines.{Answers, answers, afterwards, atTheBench}
 use Rattle.demands.specs.Demand2.{wouldBreak}
@@ -46,8 +46,8 @@ pub record Looked (m : Model) : Type 0 where
 unfoldable look : Model → Answers
 look m = (bit (m .sessions 0 .live) ∷ bit (has (m .sessions 0 .active) 2) ∷ bit (has (m .roles) 0) ∷ bit (has (m .juniors 2) 0) ∷ bit (has (m .holders (permission 4 30)) 0) ∷ m .holders (permission 4 31) ∷ bit (brokenByAssigned (lined m 2 1)) ∷ bit (staticBroken (lined m 2 1) 7) ∷ bit (has (m .roles) 2) ∷ bit (m .ssd 0 .there) ∷ bit (has (m .holders (permission 4 30)) 2) ∷ []) ∷ answers m accessAtTheBench
 
-computed : look atTheBench ≡ (1 ∷ 1 ∷ 1 ∷ 1 ∷ 1 ∷ 0 ∷ 0 ∷ 1 ∷ 1 ∷ 1 ∷ 0 ∷ []) ∷ (0 ∷ 2 ∷ []) ∷ (0 ∷ 1 ∷ []) ∷ (0 ∷ 0 ∷ []) ∷ []
-unfolding some every tally members has pack those with without union common minus subset isEmpty count juniorsOf walk reach rising someFrom listed setOf empty put ask sessionRoles verdict settle step breaks breaksSome staticBroken dynamicBroken sessionsOpen user role assign assigned grant granted inherit lined broken makeSet freeFrom opened session permitted check answers afterwards atTheBench brokenByAssigned look
+computed : look atTheBench ≡ (1 ∷ 1 ∷ 1 ∷ 1 ∷ 1 ∷ 0 ∷ 0 ∷ 1 ∷ 1 ∷ 1 ∷ 0 ∷ []) ∷ (0 ∷ 2 ∷ []) ∷ (0 ∷ 1 ∷ 1 ∷ []) ∷ (0 ∷ 0 ∷ 2 ∷ []) ∷ []
+unfolding some every tally members has pack those with without union common minus subset isEmpty count juniorsOf walk reach rising someFrom listed setOf upToFirst empty put ask sessionRoles verdict settle step breaks breaksSome staticBroken dynamicBroken sessionsOpen user role assign assigned grant granted inherit lined broken makeSet freeFrom opened session permitted looked check answers afterwards atTheBench brokenByAssigned look
 computed = refl
 
 first : Answers → List ℕ

@@ -10,7 +10,7 @@ use Rattle.roleset.specs.Roles.{has, pack, those, with, without, union, common,
 use Rattle.roleset.proofs.BoundedLaws.{clash}
 use Rattle.hierarchy.specs.Lines.{one}
 use Rattle.hierarchy.specs.Walks.{juniorsOf, walk, reach}
-use Rattle.model.specs.Lists.{rising, someFrom, listed, setOf}
+use Rattle.model.specs.Lists.{rising, someFrom, listed, setOf, upToFirst}
 use Rattle.model.specs.Model.{Model, empty, put}
 use Rattle.model.specs.Questions.{ask}
 use Rattle.model.specs.Sheet.{verdict, settle}
@@ -20,7 +20,7 @@ use Rattle.model.specs.commands.Users.{user, role}
 use Rattle.model.specs.commands.Assigning.{assign, assigned, grant, granted}
 use Rattle.model.specs.commands.Inheriting.{inherit, lined}
 use Rattle.model.specs.commands.Sets.{broken, makeSet}
-use Rattle.model.specs.commands.Sessions.{freeFrom, opened, session, activeSet, activate, drop, permitted, check}
+use Rattle.model.specs.commands.Sessions.{freeFrom, opened, session, activeSet, activate, drop, permitted, looked, check}
 use Rattle.model.specs.declared.Command.{Command}
 use Rattle.model.specs.declared.Command.the-variants.{NoRole, Assign, Deassign, Disinherit, DropActive, EndSession, EndAll}
 use Rattle.benchsheet.specs.Lines.{answers, afterwards}
@@ -37,7 +37,7 @@ use Rattle.misreadings.specs.ShutOut.{Engine}
 -- ---- the student's session
 
 hole : Hole
-unfolding some every tally members has pack those with union common minus subset isEmpty count juniorsOf walk reach rising someFrom listed setOf empty put ask verdict settle step breaks breaksSome staticBroken dynamicBroken sessionsOpen user role assign assigned grant granted inherit lined broken makeSet freeFrom opened session activeSet activate permitted check answers afterwards theStudents bothActive brokenByActive
+unfolding some every tally members has pack those with union common minus subset isEmpty count juniorsOf walk reach rising someFrom listed setOf upToFirst empty put ask verdict settle step breaks breaksSome staticBroken dynamicBroken sessionsOpen user role assign assigned grant granted inherit lined broken makeSet freeFrom opened session activeSet activate permitted looked check answers afterwards theStudents bothActive brokenByActive
 hole = record { passed = refl; together = refl; broken = record { who = 0; name = 0; there = refl; many = record { list = 0 ∷ 1 ∷ []; different = more not-there (more List·Memᴰ·not-nil none); long = refl; each = each } }; refused = refl }
   where
     not-there : List·Memᴰ {A = ℕ} 0 (1 ∷ []) → ⊥

@@ -4,3 +4,4 @@ pub mod ShutOut
 pub mod Deleting
 pub mod Reviewers
 pub mod DynamicRule
+pub mod HowFar

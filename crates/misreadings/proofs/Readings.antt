@@ -8,7 +8,7 @@ use Rattle.roleset.specs.Bounded.{some, every, tally, members}
 use Rattle.roleset.specs.Roles.{has, pack, those, with, without, union, common, minus, subset, isEmpty, count}
 use Rattle.roleset.proofs.BoundedLaws.{and-left, and-right, some-intro}
 use Rattle.hierarchy.specs.Walks.{juniorsOf, walk, reach}
-use Rattle.model.specs.Lists.{rising, someFrom, listed, setOf}
+use Rattle.model.specs.Lists.{rising, someFrom, listed, setOf, upToFirst}
 use Rattle.model.specs.Model.{Model, empty, put}
 use Rattle.model.specs.Questions.{ask, assignedRoles, authRoles, sessionRoles}
 use Rattle.model.specs.Sheet.{verdict, settle}
@@ -18,14 +18,14 @@ use Rattle.model.specs.commands.Users.{user, role}
 use Rattle.model.specs.commands.Assigning.{assign, assigned, deassign, deassigned, grant, granted}
 use Rattle.model.specs.commands.Inheriting.{inherit, lined, disinherit, unlined}
 use Rattle.model.specs.commands.Sets.{broken, makeSet}
-use Rattle.model.specs.commands.Sessions.{freeFrom, opened, session, end, permitted, check}
+use Rattle.model.specs.commands.Sessions.{freeFrom, opened, session, end, permitted, looked, check}
 use Rattle.benchsheet.specs.Lines.{answers, afterwards}
 use Rattle.benchsheet.proofs.Same.{sameBy, same-by}
 use Rattle.misreadings.specs.Readings.{twoSeniorsAbove, examples, answered, expected, brokenByTwo, WrongRules}
 use Rattle.misreadings.proofs.Bench.{bench}
 
 readings-same : sameBy (sameBy (sameBy eqb)) (answered examples) (expected examples) ≡ true
-unfolding sameBy some every tally members has pack those with without union common minus subset isEmpty count juniorsOf walk reach rising someFrom listed setOf empty put ask assignedRoles authRoles sessionRoles verdict settle step breaks breaksSome staticBroken dynamicBroken shedded shed sessionsOpen user role assign assigned deassign deassigned grant granted inherit lined disinherit unlined broken makeSet freeFrom opened session end permitted check answers afterwards answered expected
+unfolding sameBy some every tally members has pack those with without union common minus subset isEmpty count juniorsOf walk reach rising someFrom listed setOf upToFirst empty put ask assignedRoles authRoles sessionRoles verdict settle step breaks breaksSome staticBroken dynamicBroken shedded shed sessionsOpen user role assign assigned deassign deassigned grant granted inherit lined disinherit unlined broken makeSet freeFrom opened session end permitted looked check answers afterwards answered expected
 readings-same = refl
 
 -- every example answers as the paper says

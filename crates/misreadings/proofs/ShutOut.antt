@@ -58,15 +58,14 @@ checked-one m s op obj t v x y = told-one t v same (go (ℕ-discrete (t .answer)
     same = one-answer (t .answer) (v .answer) _ (x .refused) (y .refused)
 
     go : Dec (t .answer ≡ 0) → t .results ≡ v .results
-    go (yes p) = pick (x .answers p) (y .answers (sym same ∙ p))
+    go (yes p) = pick (x .answers p)
       where
-        pick : (t .results ≡ 1 ∷ []) ⊎ (t .results ≡ 0 ∷ []) → (v .results ≡ 1 ∷ []) ⊎ (v .results ≡ 0 ∷ []) → t .results ≡ v .results
-        pick (inl a) b = a ∙ sym (y .exactly (sym same ∙ p) .1 (x .exactly p .0 a))
-        pick (inr a) (inl b) = x .exactly p .1 (y .exactly (sym same ∙ p) .0 b) ∙ sym b
-        pick (inr a) (inr b) = a ∙ sym b
+        pick : (n : ℕ) × ((t .results ≡ 1 ∷ n ∷ []) ⊎ (t .results ≡ 0 ∷ n ∷ [])) → t .results ≡ v .results
+        pick (n, inl a) = a ∙ sym (y .looked-yes (sym same ∙ p) n .1 (x .looked-yes p n .0 a))
+        pick (n, inr a) = a ∙ sym (y .looked-no (sym same ∙ p) n .1 (x .looked-no p n .0 a))
     go (no p) = x .silent p ∙ sym (y .silent (λ e. p (same ∙ e)))
 
-one-checker : (checker other : Checker) → Answers checker → Answers other → (m : Model) → Reachable m → (s op obj : ℕ) → checker m s op obj ≡ other m s op obj
+pub one-checker : (checker other : Checker) → Answers checker → Answers other → (m : Model) → Reachable m → (s op obj : ℕ) → checker m s op obj ≡ other m s op obj
 one-checker checker other f g m p s op obj = checked-one m s op obj (checker m s op obj) (other m s op obj) (f m p s op obj) (g m p s op obj)
 
 -- ---- the engines that are shut out
@@ -124,21 +123,23 @@ bench-open = none-applies _ (refl, (ap not (bench .live), tt))
 bench-closed : (n : ℕ) → Applies (checkRefusals atTheBench 0 4 31) n → ⊥
 bench-closed = none-applies _ (refl, (ap not (bench .live), tt))
 
-yes-is-not-no : _≡_ {A = List ℕ} (1 ∷ []) (0 ∷ []) → ⊥
-yes-is-not-no e = let z : _≡_ {A = ℕ} 1 0 = cc in omega arith
+yes-is-not-no : (n k : ℕ) → _≡_ {A = List ℕ} (1 ∷ n ∷ []) (0 ∷ k ∷ []) → ⊥
+yes-is-not-no n k e = let z : _≡_ {A = ℕ} 1 0 = cc in omega arith
 
-yes-always : (checker : Checker) → Answers checker → ((m : Model) (s op obj : ℕ) → checker m s op obj .answer ≡ 0 → checker m s op obj .results ≡ 1 ∷ []) → ⊥
+yes-always : (checker : Checker) → Answers checker → ((m : Model) (s op obj : ℕ) → checker m s op obj .answer ≡ 0 → (n : ℕ) × (checker m s op obj .results ≡ 1 ∷ n ∷ [])) → ⊥
 yes-always checker f h =
     let x = f atTheBench bench-reachable 0 4 31 in
     let answered = x .done .1 bench-closed in
     let g = x .exactly answered .0 (h atTheBench 0 4 31 answered) in
     clash (has 0 (g .role)) (ap (λ (set : ℕ). has set (g .role)) (sym (bench .unheld)) ∙ g .holds) (has-none (g .role))
 
-no-always : (checker : Checker) → Answers checker → ((m : Model) (s op obj : ℕ) → checker m s op obj .answer ≡ 0 → checker m s op obj .results ≡ 0 ∷ []) → ⊥
+no-always : (checker : Checker) → Answers checker → ((m : Model) (s op obj : ℕ) → checker m s op obj .answer ≡ 0 → (n : ℕ) × (checker m s op obj .results ≡ 0 ∷ n ∷ [])) → ⊥
 no-always checker f h =
     let x = f atTheBench bench-reachable 0 4 30 in
     let answered = x .done .1 bench-open in
-    yes-is-not-no (sym (x .exactly answered .1 bench-granted) ∙ h atTheBench 0 4 30 answered)
+    let told = x .exactly answered .1 bench-granted in
+    let said = h atTheBench 0 4 30 answered in
+    yes-is-not-no (told .0) (said .0) (sym (told .1) ∙ said .1)
 
 -- demand 2 leaves one engine; those that the paper names are shut out
 pub shut-out : ShutOut

@@ -60,11 +60,11 @@ pub record Hole : Type 0 where
   -- The rule over active roles lets the session through,
   pub passed : brokenByActive bothActive ≡ false
   -- and in it the student both captures and releases.
-  pub together : answers bothActive (question (Check (s 0) 0 30) ∷ question (Check (s 0) 2 30) ∷ []) ≡ (0 ∷ 1 ∷ []) ∷ (0 ∷ 1 ∷ []) ∷ []
+  pub together : answers bothActive (question (Check (s 0) 0 30) ∷ question (Check (s 0) 2 30) ∷ []) ≡ (0 ∷ 1 ∷ 1 ∷ []) ∷ (0 ∷ 1 ∷ 2 ∷ []) ∷ []
   -- By the rule over effective roles it is broken:
   pub broken : DynamicBroken bothActive
   -- `session 7 2 3` is refused; with 2 alone it is not, but then `activate 7 0 3` is, and the student captures and does not release.
-  pub refused : answers theStudents (command (OpenSession (u 7)) (2 ∷ 3 ∷ []) ∷ command (OpenSession (u 7)) (2 ∷ []) ∷ command (Activate (u 7) (s 0) (r 3)) [] ∷ question (Check (s 0) 0 30) ∷ question (Check (s 0) 2 30) ∷ []) ≡ (11 ∷ []) ∷ (0 ∷ 0 ∷ []) ∷ (11 ∷ []) ∷ (0 ∷ 1 ∷ []) ∷ (0 ∷ 0 ∷ []) ∷ []
+  pub refused : answers theStudents (command (OpenSession (u 7)) (2 ∷ 3 ∷ []) ∷ command (OpenSession (u 7)) (2 ∷ []) ∷ command (Activate (u 7) (s 0) (r 3)) [] ∷ question (Check (s 0) 0 30) ∷ question (Check (s 0) 2 30) ∷ []) ≡ (11 ∷ []) ∷ (0 ∷ 0 ∷ []) ∷ (11 ∷ []) ∷ (0 ∷ 1 ∷ 1 ∷ []) ∷ (0 ∷ 0 ∷ 2 ∷ []) ∷ []
 
 -- ---- a line that breaks the rule in another's session
 

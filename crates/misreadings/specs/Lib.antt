@@ -2,3 +2,4 @@ pub mod Readings
 pub mod ShutOut
 pub mod Deleting
 pub mod DynamicRule
+pub mod HowFar

@@ -96,7 +96,7 @@ abbrev pub accessAtTheBench : List Line
 accessAtTheBench = question (SessionRoles (s 0)) ∷ question (Check (s 0) 4 30) ∷ question (Check (s 0) 4 31) ∷ []
 
 abbrev pub InheritedGrant : Type 0
-InheritedGrant = answers atTheBench accessAtTheBench ≡ (0 ∷ 2 ∷ []) ∷ (0 ∷ 1 ∷ []) ∷ (0 ∷ 0 ∷ []) ∷ []
+InheritedGrant = answers atTheBench accessAtTheBench ≡ (0 ∷ 2 ∷ []) ∷ (0 ∷ 1 ∷ 1 ∷ []) ∷ (0 ∷ 0 ∷ 2 ∷ []) ∷ []
 
 -- ---- two wrong rules, and where they would pass what the paper refuses
 

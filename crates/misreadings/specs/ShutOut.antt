@@ -32,9 +32,9 @@ pub record ShutOut : Type 0 where
   -- "An engine that refuses everything is shut out by demand 2's exact refusals,
   pub refusing : (engine : Engine) → Obeys engine → ((m : Model) (c : Command) (list : List ℕ) → engine m c list .answer ≡ 0 → ⊥) → ⊥
   -- and so is one that always says yes
-  pub yesAlways : (checker : Checker) → Answers checker → ((m : Model) (s op obj : ℕ) → checker m s op obj .answer ≡ 0 → checker m s op obj .results ≡ 1 ∷ []) → ⊥
+  pub yesAlways : (checker : Checker) → Answers checker → ((m : Model) (s op obj : ℕ) → checker m s op obj .answer ≡ 0 → (n : ℕ) × (checker m s op obj .results ≡ 1 ∷ n ∷ [])) → ⊥
   -- or always no."
-  pub noAlways : (checker : Checker) → Answers checker → ((m : Model) (s op obj : ℕ) → checker m s op obj .answer ≡ 0 → checker m s op obj .results ≡ 0 ∷ []) → ⊥
+  pub noAlways : (checker : Checker) → Answers checker → ((m : Model) (s op obj : ℕ) → checker m s op obj .answer ≡ 0 → (n : ℕ) × (checker m s op obj .results ≡ 0 ∷ n ∷ [])) → ⊥
   -- "One that does nothing satisfies demand 3 and breaks demand 2,
   pub idle : (engine : Engine) → Obeys engine → ((m : Model) (c : Command) (list : List ℕ) → engine m c list .after ≡ m) → ⊥
   -- as does one that obeys its first command and only acknowledges the rest."

@@ -1,3 +1,4 @@
 pub mod Puts
 pub mod Asking
 pub mod Results
+pub mod Looking

@@ -27,3 +27,8 @@ listed (a ∷ rest) k = eqb k a || listed rest k
 -- the set of the listed roles
 unfoldable pub setOf : List ℕ → ℕ
 setOf l = those (listed l)
+
+-- the list up to and including the first number that passes the test, or all of it where none does
+unfoldable pub upToFirst : (ℕ → Bool) → List ℕ → List ℕ
+upToFirst test [] = []
+upToFirst test (k ∷ rest) = k ∷ elim (test k) [ true ↦ [] | false ↦ upToFirst test rest ]

@@ -8,16 +8,15 @@ use native.Mathlib.Omega.{arith}
 use lib.Dec.{eqb, leb, ltb}
 use borrow.Author.Tests.{le-leb}
 use Rattle.roleset.specs.Roles.{has, with, none}
-use Rattle.roleset.proofs.BoundedLaws.{and-both}
+use Rattle.roleset.proofs.BoundedLaws.{clash, and-both}
 use Rattle.roleset.proofs.Laws.{count-le}
 use Rattle.model.specs.Model.{Model, RoleSet}
 use Rattle.model.specs.Sheet.{Refusal, verdict, settle}
 use Rattle.model.specs.Lists.{rising, ascending, listed}
 use Rattle.model.specs.Sound.{Shape, SetShape}
 use Rattle.model.specs.Words.{reached, authorised, effective, permission}
-use Rattle.model.specs.Questions.{holds, authorisedBy, assignedUsers, assignedRoles, authUsers, authRoles, rolePerms, userPerms, sessionRoles, sessionPerms, roleOps, userOps, setNames, setRoles, setCount, ask}
+use Rattle.model.specs.Questions.{holds, authorisedBy, assignedUsers, assignedRoles, authUsers, authRoles, rolePerms, userPerms, sessionRoles, sessionPerms, roleOps, userOps, setNames, setRoles, setCount, isReview, ask}
 use Rattle.model.specs.commands.Sets.{setsOf}
-use Rattle.model.specs.commands.Sessions.{check}
 use Rattle.model.specs.declared.Kind.{Kind}
 use Rattle.model.specs.declared.Kind.the-variants.{Static, Dynamic}
 use Rattle.model.specs.declared.Question.{Question}
@@ -107,20 +106,20 @@ one-ascending : (n : ℕ) → ascending (n ∷ []) ≡ true
 unfolding rising
 one-ascending n = and-both (leb 0 n) true (le-leb 0 n (omega arith)) refl
 
--- Whatever the policy, the room and the question, the results are strictly ascending.
-pub results-ascending : (m : Model) (room : ℕ) (q : Question) → ascending (ask m room q .results) ≡ true
-unfolding ask check assignedUsers assignedRoles authUsers authRoles rolePerms userPerms sessionRoles sessionPerms roleOps userOps setNames setRoles setCount
-results-ascending m room (Check s op obj) = settled-ascending _ m m _ (one-ascending _)
-results-ascending m room (AssignedUsers r) = settled-ascending _ m m _ (members-ascending 256 _)
-results-ascending m room (AssignedRoles u) = settled-ascending _ m m _ (members-ascending 64 _)
-results-ascending m room (AuthUsers r) = settled-ascending _ m m _ (members-ascending 256 _)
-results-ascending m room (AuthRoles u) = settled-ascending _ m m _ (members-ascending 64 _)
-results-ascending m room (RolePerms r) = settled-ascending _ m m _ (members-ascending 4096 _)
-results-ascending m room (UserPerms u) = settled-ascending _ m m _ (members-ascending 4096 _)
-results-ascending m room (SessionRoles s) = settled-ascending _ m m _ (members-ascending 64 _)
-results-ascending m room (SessionPerms s) = settled-ascending _ m m _ (members-ascending 4096 _)
-results-ascending m room (RoleOps r obj) = settled-ascending _ m m _ (members-ascending 16 _)
-results-ascending m room (UserOps u obj) = settled-ascending _ m m _ (members-ascending 16 _)
-results-ascending m room (Sets kind) = settled-ascending _ m m _ (members-ascending 16 _)
-results-ascending m room (SetRoles kind name) = settled-ascending _ m m _ (members-ascending 64 _)
-results-ascending m room (SetCount kind name) = settled-ascending _ m m _ (one-ascending _)
+-- Whatever the policy, the room and the review, the results are strictly ascending.
+pub results-ascending : (m : Model) (room : ℕ) (q : Question) → isReview q ≡ true → ascending (ask m room q .results) ≡ true
+unfolding ask isReview assignedUsers assignedRoles authUsers authRoles rolePerms userPerms sessionRoles sessionPerms roleOps userOps setNames setRoles setCount
+results-ascending m room (Check s op obj) h = clash false h refl
+results-ascending m room (AssignedUsers r) h = settled-ascending _ m m _ (members-ascending 256 _)
+results-ascending m room (AssignedRoles u) h = settled-ascending _ m m _ (members-ascending 64 _)
+results-ascending m room (AuthUsers r) h = settled-ascending _ m m _ (members-ascending 256 _)
+results-ascending m room (AuthRoles u) h = settled-ascending _ m m _ (members-ascending 64 _)
+results-ascending m room (RolePerms r) h = settled-ascending _ m m _ (members-ascending 4096 _)
+results-ascending m room (UserPerms u) h = settled-ascending _ m m _ (members-ascending 4096 _)
+results-ascending m room (SessionRoles s) h = settled-ascending _ m m _ (members-ascending 64 _)
+results-ascending m room (SessionPerms s) h = settled-ascending _ m m _ (members-ascending 4096 _)
+results-ascending m room (RoleOps r obj) h = settled-ascending _ m m _ (members-ascending 16 _)
+results-ascending m room (UserOps u obj) h = settled-ascending _ m m _ (members-ascending 16 _)
+results-ascending m room (Sets kind) h = settled-ascending _ m m _ (members-ascending 16 _)
+results-ascending m room (SetRoles kind name) h = settled-ascending _ m m _ (members-ascending 64 _)
+results-ascending m room (SetCount kind name) h = settled-ascending _ m m _ (one-ascending _)

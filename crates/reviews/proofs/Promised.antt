@@ -7,10 +7,11 @@ use native.Mathlib.Omega.{arith}
 use lib.Dec.{eqb}
 use lib.ListN.{length}
 use borrow.Author.Tests.{le-ltb, eqb-true}
+use Rattle.roleset.proofs.BoundedLaws.{clash}
 use Rattle.numbers.proofs.Answers.{number-one-to-one}
 use Rattle.model.specs.Model.{Model}
 use Rattle.model.specs.Sheet.{Told, Refusal, verdict, settle}
-use Rattle.model.specs.Questions.{assignedUsers, assignedRoles, authUsers, authRoles, rolePerms, userPerms, sessionRoles, sessionPerms, roleOps, userOps, setNames, setRoles, setCount, review, ask}
+use Rattle.model.specs.Questions.{assignedUsers, assignedRoles, authUsers, authRoles, rolePerms, userPerms, sessionRoles, sessionPerms, roleOps, userOps, setNames, setRoles, setCount, review, isReview, ask}
 use Rattle.model.specs.commands.Sessions.{check}
 use Rattle.model.specs.declared.Question.{Question}
 use Rattle.model.specs.declared.Question.the-variants.{Check, AssignedUsers, AssignedRoles, AuthUsers, AuthRoles, RolePerms, UserPerms, SessionRoles, SessionPerms, RoleOps, UserOps, Sets, SetRoles, SetCount}
@@ -31,18 +32,18 @@ review-fits m room beyond missing list = go (eqb (verdict rs) 0) refl
     go true e = rw (e, settle) (done-room beyond missing room (length list) (eqb-true (verdict rs) 0 e))
     go false e = rw (e, settle) (omega arith)
 
-one-fits : (rs : List Refusal) (m : Model) (room n : ℕ) → 1 ≤ room → length (settle rs m (n ∷ []) m .results) ≤ room
+two-fit : (rs : List Refusal) (m : Model) (room a n : ℕ) → 2 ≤ room → length (settle rs m (a ∷ n ∷ []) m .results) ≤ room
 unfolding settle
-one-fits rs m room n h = go (eqb (verdict rs) 0) refl
+two-fit rs m room a n h = go (eqb (verdict rs) 0) refl
   where
-    go : (b : Bool) → eqb (verdict rs) 0 ≡ b → length (settle rs m (n ∷ []) m .results) ≤ room
+    go : (b : Bool) → eqb (verdict rs) 0 ≡ b → length (settle rs m (a ∷ n ∷ []) m .results) ≤ room
     go true e = rw (e, settle) (omega arith)
     go false e = rw (e, settle) (omega arith)
 
--- No question gives more results than the buffer has places, where it has one.
-pub results-fit : (m : Model) (room : ℕ) (q : Question) → 1 ≤ room → length (ask m room q .results) ≤ room
-unfolding ask check
-results-fit m room (Check s op obj) h = one-fits _ m room _ h
+-- No question gives more results than the buffer has places, where it has two for `check`.
+pub results-fit : (m : Model) (room : ℕ) (q : Question) → (isReview q ≡ false → 2 ≤ room) → length (ask m room q .results) ≤ room
+unfolding ask check isReview
+results-fit m room (Check s op obj) h = two-fit _ m room _ _ (h refl)
 results-fit m room (AssignedUsers r) h = review-fits m room _ _ (assignedUsers m (r .number))
 results-fit m room (AssignedRoles u) h = review-fits m room _ _ (assignedRoles m (u .number))
 results-fit m room (AuthUsers r) h = review-fits m room _ _ (authUsers m (r .number))
@@ -57,8 +58,11 @@ results-fit m room (Sets kind) h = review-fits m room _ _ (setNames kind m)
 results-fit m room (SetRoles kind name) h = review-fits m room _ _ (setRoles kind m (name .number))
 results-fit m room (SetCount kind name) h = review-fits m room _ _ (setCount kind m (name .number))
 
--- In a buffer with a place or more, every question is told as the paper has it, `check` too.
-pub asked-with-room : (m : Model) (room : ℕ) (q : Question) → 1 ≤ room → fitted room (ask m room q) ≡ ask m room q
+pub reviews-fit : (m : Model) (room : ℕ) (q : Question) → isReview q ≡ true → length (ask m room q .results) ≤ room
+reviews-fit m room q e = results-fit m room q (λ f. clash (isReview q) e f)
+
+-- A review is told as the paper has it in any buffer, and `check` in one with two places or more.
+pub asked-with-room : (m : Model) (room : ℕ) (q : Question) → (isReview q ≡ false → 2 ≤ room) → fitted room (ask m room q) ≡ ask m room q
 unfolding fitted
 asked-with-room m room q h = rw (le-ltb room (length (ask m room q .results)) (results-fit m room q h), fitted)
 

@@ -27,7 +27,7 @@ abbrev pub Asked : Model → Question → List ℕ → List ℕ → Review → T
 Asked m q before after x = Reviewed (ask m (length before) q) before after x
 
 -- What was told, where it is to stand in a buffer with so much room: "15: the lent output buffer is shorter than the whole result". A review asks that
--- itself; `check`, whose one result stands in the buffer too where it is asked like a review, does not.
+-- itself; `check`, whose two results stand in the buffer too where it is asked like a review, does not.
 unfoldable pub fitted : ℕ → Told → Told
 fitted room told = elim (ltb room (length (told .results))) [ true ↦ refused 15 (told .after) | false ↦ told ]
 

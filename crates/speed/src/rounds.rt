@@ -11,8 +11,10 @@ pub(crate) fn mix(sum: u64, a: Answer, result: u64) -> u64 {
     std::num::wrapping_add_u64(answered, result)
 }
 
-fn told(yes: bool) -> u64 {
-    if yes { 1 } else { 0 }
+// Both results of `check` as one number.
+fn told(yes: bool, looked: u16) -> u64 {
+    let n = looked as u64;
+    if yes { n + 65536 } else { n }
 }
 
 // Operation and object of round i: in the school some half of the objects are the session's own.
@@ -34,7 +36,7 @@ pub(crate) fn check(state: &[u64; PLACES], rounds: u64) -> u64 {
         };
         let a = checking::check(state, x, operation_of(i), object_of(i));
         let answer = a.answer;
-        sum = mix(sum, answer, told(a.yes));
+        sum = mix(sum, answer, told(a.yes, a.looked));
         i += 1;
     }
     sum

@@ -1,4 +1,4 @@
--- Where a function gives one result: on a refusal there is none. Assumes nothing.
+-- Where a function gives one result, or two: on a refusal there is none. Assumes nothing.
 use mathlib.Core.Bool.{Bool, true, false}
 use mathlib.Core.List.{List, [], _∷_}
 use Prim.Native.Nat.{ℕ}
@@ -14,3 +14,8 @@ isDone a = eqb (numberOf a) 0
 abbrev pub given : Bool → ℕ → List ℕ
 given true result = result ∷ []
 given false result = []
+
+-- the two results where it is done, and no results on a refusal
+abbrev pub bothGiven : Bool → ℕ → ℕ → List ℕ
+bothGiven true first second = first ∷ second ∷ []
+bothGiven false first second = []

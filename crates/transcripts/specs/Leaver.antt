@@ -23,7 +23,7 @@ leaver =
     -- nothing has changed: 7 has the role still,
     "assigned-roles 7" ⇒ "0 3" ∷
     -- and the review goes on
-    "check 0 1 30" ⇒ "0 1" ∷
+    "check 0 1 30" ⇒ "0 1 1" ∷
     -- the teacher has seen enough: the sessions of 7 end, and nothing else:
     "end-all 7" ⇒ "0" ∷
     -- 7 has the role still
@@ -31,7 +31,7 @@ leaver =
     -- session 0 is gone;
     "check 0 1 30" ⇒ "2" ∷
     -- session 1, of another user, goes on
-    "check 1 1 30" ⇒ "0 1" ∷
+    "check 1 1 30" ⇒ "0 1 1" ∷
     -- now 7 can go, and the assignments with 7
     "nouser 7" ⇒ "0" ∷
     "assigned-users 3" ⇒ "0 8" ∷

@@ -10,7 +10,7 @@ use Rattle.program.specs.Printing.{Begins, Runs}
 use Rattle.program.specs.declared.Run.{Run}
 use Rattle.transcripts.specs.Rows.{Row, _⇒_, lineOf, scriptOf, printedFor}
 
--- the paper's example
+-- the paper's example, with what `check` gives since request 10
 abbrev pub example : List Row
 example =
     "user 7" ⇒ "0" ∷
@@ -23,11 +23,11 @@ example =
     "assign 7 1" ⇒ "10" ∷
     "grant 4 30 0" ⇒ "0" ∷
     "session 7 2" ⇒ "0 0" ∷
-    "check 0 4 30" ⇒ "0 1" ∷
-    "check 0 4 31" ⇒ "0 0" ∷
+    "check 0 4 30" ⇒ "0 1 1" ∷
+    "check 0 4 31" ⇒ "0 0 2" ∷
     "inherit 0 2" ⇒ "6" ∷
     "deassign 7 2" ⇒ "0" ∷
-    "check 0 4 30" ⇒ "0 0" ∷
+    "check 0 4 30" ⇒ "0 0 0" ∷
     "auth-roles 7" ⇒ "0" ∷
     []
 

@@ -44,15 +44,15 @@ story =
     -- user 2 opens session 0 as the lead
     "session 2 4" ⇒ "0 0" ∷
     -- it may release, through the two roles in between
-    "check 0 1 9" ⇒ "0 1" ∷
+    "check 0 1 9" ⇒ "0 1 1" ∷
     -- it may not record
-    "check 0 0 9" ⇒ "0 0" ∷
+    "check 0 0 9" ⇒ "0 0 4" ∷
     -- the role is taken away while the session is open
     "deassign 2 4" ⇒ "0" ∷
     -- the session has no role any more
     "session-roles 0" ⇒ "0" ∷
     -- and releases nothing
-    "check 0 1 9" ⇒ "0 0" ∷
+    "check 0 1 9" ⇒ "0 0 0" ∷
     "end 2 0" ⇒ "0" ∷
     []
 

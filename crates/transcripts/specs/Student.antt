@@ -26,13 +26,13 @@ student =
     "session 7 2 3" ⇒ "11" ∷
     -- one senior: session 0
     "session 7 2" ⇒ "0 0" ∷
-    "check 0 0 30" ⇒ "0 1" ∷
+    "check 0 0 30" ⇒ "0 1 1" ∷
     -- the other one too. Refused
     "activate 7 0 3" ⇒ "11" ∷
-    "check 0 2 30" ⇒ "0 0" ∷
+    "check 0 2 30" ⇒ "0 0 2" ∷
     -- in a session of its own it may release
     "session 7 3" ⇒ "0 1" ∷
-    "check 1 2 30" ⇒ "0 1" ∷
+    "check 1 2 30" ⇒ "0 1 1" ∷
     -- another role, under the first senior
     "role 4" ⇒ "0" ∷
     "inherit 2 4" ⇒ "0" ∷

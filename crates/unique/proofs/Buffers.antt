@@ -6,23 +6,21 @@ use mathlib.Core.Path.{_≡_, refl, sym, ap, subst, _∙_}
 use Prim.Native.Nat.{ℕ, zero, suc, _+_, _-_, _≤_, _<_}
 use native.Mathlib.Omega.{arith}
 use native.Mathlib.Decide.{decLe}
-use lib.Dec.{eqb, ltb}
+use lib.Dec.{ltb}
 use lib.ListN.{length, getD, set, drop, length-append, length-drop, length-set, List·getD-eq-default}
 use lib.Seq.{sets, length-sets, getD-append-add, getD-drop, getD-set-same, getD-set-other}
-use borrow.Author.Tests.{eqb-true, ltb-false}
-use Rattle.roleset.proofs.BoundedLaws.{clash}
+use borrow.Author.Tests.{ltb-false}
 use Rattle.numbers.specs.Answers.{numberOf}
 use Rattle.model.specs.Model.{Model}
-use Rattle.model.specs.Questions.{assignedUsers, assignedRoles, authUsers, authRoles, rolePerms, userPerms, sessionRoles, sessionPerms, roleOps, userOps, setNames, setRoles, setCount, review, ask}
-use Rattle.model.specs.Sheet.{Told, Refusal, verdict, settle}
+use Rattle.model.specs.Questions.{isReview, ask}
+use Rattle.model.specs.Sheet.{Told}
 use Rattle.model.specs.declared.Question.{Question}
-use Rattle.model.specs.declared.Question.the-variants.{Check, AssignedUsers, AssignedRoles, AuthUsers, AuthRoles, RolePerms, UserPerms, SessionRoles, SessionPerms, RoleOps, UserOps, Sets, SetRoles, SetCount}
 use Rattle.model.specs.declared.Question.the-variants as questions
-use Rattle.sound.proofs.Sheet.{done-clear}
 use Rattle.demands.proofs.Demand1.{demand1}
 use Rattle.state.specs.View.{view}
-use Rattle.reviews.specs.Reviewing.{Reviewed, fitted, refusals}
+use Rattle.reviews.specs.Reviewing.{Reviewed, fitted}
 use Rattle.reviews.specs.declared.Review.{Review}
+use Rattle.reviews.proofs.Promised.{reviews-fit}
 use Rattle.policyform.specs.Encode.{encode}
 use Rattle.policyform.specs.Promises.{Saves}
 use Rattle.text.specs.Putting.{Put}
@@ -55,56 +53,6 @@ lent {told} {before} {after} {x} silent fits r =
     }
 
 -- ---- the reviews
-
--- what a review of a list tells fits
-review-fits : (m : Model) (room : ℕ) (beyond missing : Bool) (list : List ℕ) → length (review m room beyond missing list .results) ≤ room
-unfolding settle
-review-fits m room beyond missing list = go (eqb (verdict rs) 0) refl
-  where
-    rs : List Refusal
-    rs = refusals beyond missing room (length list)
-
-    go : (b : Bool) → eqb (verdict rs) 0 ≡ b → length (settle rs m list m .results) ≤ room
-    go true e = rw (e, settle) (ltb-false room (length list) (done-clear rs refl (eqb-true (verdict rs) 0 e) .1 .1 .0))
-    go false e = rw (e, settle) (omega arith)
-
--- every question but `check` is one
-isReview : Question → Bool
-isReview q =
-    elim q [
-      | Check s op obj ↦ false
-      | AssignedUsers r ↦ true
-      | AssignedRoles u ↦ true
-      | AuthUsers r ↦ true
-      | AuthRoles u ↦ true
-      | RolePerms r ↦ true
-      | UserPerms u ↦ true
-      | SessionRoles s ↦ true
-      | SessionPerms s ↦ true
-      | RoleOps r obj ↦ true
-      | UserOps u obj ↦ true
-      | Sets kind ↦ true
-      | SetRoles kind name ↦ true
-      | SetCount kind name ↦ true
-    ]
-
--- and gives no more results than there is room for
-reviews-fit : (m : Model) (room : ℕ) (q : Question) → isReview q ≡ true → length (ask m room q .results) ≤ room
-unfolding ask isReview
-reviews-fit m room (Check s op obj) h = clash false h refl
-reviews-fit m room (AssignedUsers r) h = review-fits m room _ _ (assignedUsers m (r .number))
-reviews-fit m room (AssignedRoles u) h = review-fits m room _ _ (assignedRoles m (u .number))
-reviews-fit m room (AuthUsers r) h = review-fits m room _ _ (authUsers m (r .number))
-reviews-fit m room (AuthRoles u) h = review-fits m room _ _ (authRoles m (u .number))
-reviews-fit m room (RolePerms r) h = review-fits m room _ _ (rolePerms m (r .number))
-reviews-fit m room (UserPerms u) h = review-fits m room _ _ (userPerms m (u .number))
-reviews-fit m room (SessionRoles s) h = review-fits m room _ _ (sessionRoles m (s .number))
-reviews-fit m room (SessionPerms s) h = review-fits m room _ _ (sessionPerms m (s .number))
-reviews-fit m room (RoleOps r obj) h = review-fits m room _ _ (roleOps m (r .number) obj)
-reviews-fit m room (UserOps u obj) h = review-fits m room _ _ (userOps m (u .number) obj)
-reviews-fit m room (Sets kind) h = review-fits m room _ _ (setNames kind m)
-reviews-fit m room (SetRoles kind name) h = review-fits m room _ _ (setRoles kind m (name .number))
-reviews-fit m room (SetCount kind name) h = review-fits m room _ _ (setCount kind m (name .number))
 
 -- a review by its own function
 reviewed : {before after : List ℕ} {x : Review} (m : Model) (q : Question) → isReview q ≡ true → Reviewed (ask m (length before) q) before after x → Lent (numberOf (x .answer)) (x .count) before after

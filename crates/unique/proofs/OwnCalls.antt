@@ -8,22 +8,23 @@ use native.Mathlib.Omega.{arith}
 use lib.Dec.{eqb, ltb}
 use lib.ListN.{length, getD, take, drop}
 use lib.Seq.{sets, take-at}
-use borrow.Author.Tests.{eqb-true, eqb-false, leb-false, lt-leb, lt-ltb, le-ltb}
+use borrow.Author.Tests.{eqb-true, eqb-false, leb-false, lt-leb, le-ltb, ltb-true, ltb-false}
 use Rattle.roleset.specs.Bounded.{bit}
 use Rattle.roleset.specs.Roles.{has}
 use Rattle.roleset.proofs.BoundedLaws.{clash, or-clear}
 use Rattle.numbers.specs.Answers.{numberOf}
 use Rattle.numbers.specs.declared.Answer.{Answer}
+use Rattle.numbers.specs.declared.Session.{Session}
 use Rattle.model.specs.Model.{Model}
 use Rattle.model.specs.Questions.{ask}
-use Rattle.model.specs.Sheet.{Told, _when_, refused}
+use Rattle.model.specs.Sheet.{Told, _when_, verdict, settle, done, refused}
 use Rattle.model.specs.Step as steps
 use Rattle.model.specs.declared.Command.{Command}
 use Rattle.model.specs.declared.Command.the-variants as commands
 use Rattle.model.specs.declared.Question.{Question}
 use Rattle.model.specs.declared.Question.the-variants as questions
 use Rattle.state.specs.View.{view, told}
-use Rattle.state.specs.Results.{isDone, given}
+use Rattle.state.specs.Results.{isDone, given, bothGiven}
 use Rattle.checking.specs.Answering.{toldChecked, Owns, toldOwned}
 use Rattle.checking.specs.declared.Checked as code
 use Rattle.checking.specs.declared.Owned.{Owned}
@@ -47,7 +48,7 @@ use Rattle.script.specs.LineAnswers.{toldAt}
 use Rattle.program.specs.Printing.{Stage, piece}
 use Rattle.transcripts.proofs.ScriptLines.{script-lines}
 use Rattle.demands.specs.Authorised.{InOrBelow, Effective}
-use Rattle.demands.specs.Demand2.{Exactly, _beyond_, checkRefusals, Checked}
+use Rattle.demands.specs.Demand2.{Exactly, Applies, _beyond_, checkRefusals, Checked}
 use Rattle.demands.specs.Demand3.{Shape}
 use Rattle.demands.specs.Reachable.{Reachable}
 use Rattle.demands.specs.Reviews as reviewing
@@ -58,9 +59,11 @@ use Rattle.demands.proofs.Exact.{exact, applies-none, none-applies}
 use Rattle.demands.proofs.PolicyFile.{faithful}
 use Rattle.unique.specs.Handed.{Handed}
 use Rattle.unique.specs.Unique.{State}
-use Rattle.unique.specs.OwnCalls.{Does, toldStepped, Commands, MayDo, toldReview, Questions, Means, LineTells, Lines, Files, OwnCalls, FromC, NoPlace, OwnerTold}
+use Rattle.unique.specs.OwnCalls.{Does, toldStepped, Commands, MayDo, toldReview, Questions, Means, LineTells, Lines, Files, OwnCalls, FromC, InPlaces, OwnerTold}
 use Rattle.clibrary.specs.Calls.{Obeys, ChecksAt, SavesAt, answerLine, placed}
-use Rattle.model.specs.commands.Sessions.{owner}
+use Rattle.model.specs.Words.{permission}
+use Rattle.model.specs.commands.Naming.{sessionBeyond, permissionBeyond, sessionMissing}
+use Rattle.model.specs.commands.Sessions.{permitted, looked, check, owner}
 use Rattle.unique.proofs.Handed.{reachable, owned}
 use Rattle.unique.proofs.Unique.{states}
 
@@ -122,20 +125,42 @@ fitted-after room t = go (ltb room (length (t .results))) refl
     go true e = rw (e, fitted)
     go false e = rw (e, fitted)
 
--- with no place in the buffer
-no-place-told : (m : Model) (t told : Told) → t .after ≡ m → told ≡ fitted 0 t → NoPlace m t told
+-- in a buffer with so many places
+in-places : (m : Model) (q : Question) {before after : List ℕ} {x : Review} → Reviewed (fitted (length before) (ask m (length before) q)) before after x → InPlaces (length before) m (ask m (length before) q) (toldReview m x after)
 unfolding fitted
-no-place-told m t told same e = by (t .results) refl
+in-places m q {before} {after} {x} r = go (ltb room (length (t .results))) refl
   where
-    chosen : Bool → Told
-    chosen b = elim b as (λ _. Told) [ true ↦ refused 15 (t .after) | false ↦ t ]
+    room : ℕ
+    room = length before
 
-    by : (l : List ℕ) → t .results ≡ l → NoPlace m t told
-    by [] none = inl (none, e ∙ ap chosen (ap (λ (l : List ℕ). ltb 0 (length l)) none ∙ le-ltb 0 0 (omega arith)))
-    by (k ∷ l) some = inr ((λ none. absurd (omega (arith, ap length some, ap length none))), e ∙ ap chosen (ap (λ (l : List ℕ). ltb 0 (length l)) some ∙ lt-ltb 0 (length (k ∷ l)) (omega arith)) ∙ ap (refused 15) same)
+    t : Told
+    t = ask m room q
 
-no-room : (m : Model) (q : Question) {before after : List ℕ} {x : Review} → length before ≡ 0 → Reviewed (fitted (length before) (ask m (length before) q)) before after x → NoPlace m (ask m 0 q) (toldReview m x after)
-no-room m q z r = no-place-told m (ask m 0 q) _ (demand1 .asking m 0 q) (reviewed-tells (fitted-after 0 (ask m 0 q) ∙ demand1 .asking m 0 q) (rw z at r))
+    told : toldReview m x after ≡ fitted room t
+    told = reviewed-tells (fitted-after room t ∙ demand1 .asking m room q) r
+
+    go : (b : Bool) → ltb room (length (t .results)) ≡ b → InPlaces room m t (toldReview m x after)
+    go true e = inr (ltb-true room (length (t .results)) e, told ∙ rw (e, fitted) (ap (refused 15) (demand1 .asking m room q)))
+    go false e = inl (ltb-false room (length (t .results)) e, told ∙ rw (e, fitted))
+
+-- `check`: 15 where it is done and has fewer than two places
+two-or-15 : (a b : Bool) (m : Model) (said n room : ℕ) → let t = settle (1 when a ∷ 2 when b ∷ []) m (said ∷ n ∷ []) m in (fitted room t .answer ≡ 15) ↔ ((t .answer ≡ 0) × (room < 2))
+unfolding fitted settle verdict
+two-or-15 true b m said n room = rw (le-ltb room 0 (omega arith), fitted) ((λ e. absurd (omega (arith, e))), λ q. absurd (omega (arith, q .0)))
+two-or-15 false true m said n room = rw (le-ltb room 0 (omega arith), fitted) ((λ e. absurd (omega (arith, e))), λ q. absurd (omega (arith, q .0)))
+two-or-15 false false m said n room = go (ltb room 2) refl
+  where
+    go : (b : Bool) → ltb room 2 ≡ b → (elim b as (λ _. Told) [ true ↦ refused 15 m | false ↦ done (said ∷ n ∷ []) m ] .answer ≡ 15) ↔ ((_≡_ {A = ℕ} 0 0) × (room < 2))
+    go true e = ((λ z. (refl, ltb-true room 2 e)), λ q. refl)
+    go false e = ((λ z. absurd (omega (arith, z))), λ q. absurd (omega (arith, q .1, ltb-false room 2 e)))
+
+check-15 : (m : Model) (q : Question) (s : Session) (op obj : ℕ) {before after : List ℕ} {x : Review} → q ≡ questions.Check s op obj → Reviewed (fitted (length before) (ask m (length before) q)) before after x → (numberOf (x .answer) ≡ 15) ↔ (((n : ℕ) → Applies (checkRefusals m (s .number) op obj) n → ⊥) × (length before < 2))
+unfolding ask check
+check-15 m q s op obj {before} {after} {x} e r =
+    let told : numberOf (x .answer) ≡ fitted (length before) (check m (s .number) op obj) .answer = (rw e at (r .answer)) in
+    let both = two-or-15 (sessionBeyond (s .number) || permissionBeyond op obj) (sessionMissing m (s .number)) m (bit (permitted m (s .number) (permission op obj))) (looked m (s .number) (permission op obj)) (length before) in
+    let whole : Exactly m (checkRefusals m (s .number) op obj) _ m (check m (s .number) op obj) = exact (checkRefusals m (s .number) op obj) m _ m refl refl in
+    ((λ z. let y = both .0 (sym told ∙ z) in (whole .done .0 (y .0), y .1)), λ z. told ∙ both .1 (whole .done .1 (z .0), z .1))
 
 -- a session with an effective role is open, and is one of the 64
 open-session : {m : Model} {s r : ℕ} → Shape m → Effective m s r → (m .sessions s .live ≡ true) × (s ≤ 63)
@@ -148,31 +173,31 @@ open-session {m} {s} {r} shape e = go (e .through)
     go (inl h) = live r h
     go (inr (a, h, below)) = live a h
 
--- one result that is 1 says yes
-said : (b y : Bool) → given b (bit y) ≡ 1 ∷ [] → y ≡ true
-said b true e = refl
-said true false e = absurd (let z : _≡_ {A = ℕ} 0 1 = cc in omega arith)
-said false false e = absurd (omega (arith, ap length e))
+-- a first result that is 1 says yes
+said : (b y : Bool) (n k : ℕ) → bothGiven b (bit y) n ≡ 1 ∷ k ∷ [] → y ≡ true
+said b true n k e = refl
+said true false n k e = absurd (let z : _≡_ {A = ℕ} 0 1 = cc in omega arith)
+said false false n k e = absurd (omega (arith, ap length e))
 
 -- what `check` hands back says yes exactly where access is granted
-says-yes : (m : Model) (s op obj : ℕ) (x : code.Checked) → Shape m → Checked m s op obj (toldChecked m x) → (isDone (x .answer) ≡ false → x .yes ≡ false) → (x .yes ≡ true) ↔ MayDo m s op obj
+says-yes : (m : Model) (s op obj : ℕ) (x : code.Checked) → Shape m → Checked m s op obj (toldChecked m x) → (isDone (x .answer) ≡ false → (x .yes ≡ false) × (x .looked ≡ 0)) → (x .yes ≡ true) ↔ MayDo m s op obj
 unfolding toldChecked
 says-yes m s op obj x shape c silent = (granted (isDone (x .answer)) refl, yes)
   where
     granted : (b : Bool) → isDone (x .answer) ≡ b → x .yes ≡ true → MayDo m s op obj
-    granted false d y = clash (x .yes) y (silent d)
+    granted false d y = clash (x .yes) y (silent d .0)
     granted true d y =
         let zero = eqb-true (numberOf (x .answer)) 0 d in
         let clear = applies-none (checkRefusals m s op obj) (c .done .0 zero) .0 in
         let ranges = or-clear (op beyond 15) (obj beyond 255) (or-clear (s beyond 63) (op beyond 15 || obj beyond 255) clear .1) in
-        record { operation = omega (arith, leb-false 16 op (ranges .0)); object = omega (arith, leb-false 256 obj (ranges .1)); granted = c .exactly zero .0 (rw (d, y)) }
+        record { operation = omega (arith, leb-false 16 op (ranges .0)); object = omega (arith, leb-false 256 obj (ranges .1)); granted = c .exactly zero .0 (x .looked, rw (d, y)) }
 
     yes : MayDo m s op obj → x .yes ≡ true
     yes may =
         let there = open-session shape (may .granted .effective) in
         let within : (s beyond 63 || (op beyond 15 || obj beyond 255)) ≡ false = rw (lt-leb 64 s (omega (arith, there .1)), lt-leb 16 op (omega arith), lt-leb 256 obj (omega arith)) in
         let zero = c .done .1 (none-applies (checkRefusals m s op obj) (within, (rw (there .0), tt))) in
-        said (isDone (x .answer)) (x .yes) (c .exactly zero .1 (may .granted))
+        let told = c .exactly zero .1 (may .granted) in said (isDone (x .answer)) (x .yes) (x .looked) (told .0) (told .1)
 
 -- whose a session is
 owner-told : (m : Model) (s : ℕ) (x : Owned) → Owns m (owner m s) x → OwnerTold m s (numberOf (x .answer)) (x .owner)
@@ -187,7 +212,8 @@ of-questions =
       yes = λ c h. says-yes _ _ _ _ (c .result) (owned .shape h) (subst (Checked _ _ _ _) (sym (c .met .tells)) (demand2 .access _ (reachable h) _ _ _)) (c .met .silent);
       ask = λ c h. reviewed-tells (demand1 .asking _ _ (c .given .1 .0)) (rw (asked-with-room _ _ (c .given .1 .0) h) at (c .met));
       asked = λ c h room. subst (reviewing.Answered (view (c .given .0 .now)) (length (c .given .1 .1 .0 .now)) (c .given .1 .0)) (sym (reviewed-tells (demand1 .asking _ _ (c .given .1 .0)) (rw (asked-with-room _ _ (c .given .1 .0) room) at (c .met)))) (questions-demand .questions (view (c .given .0 .now)) (reachable h) (length (c .given .1 .1 .0 .now)) (c .given .1 .0));
-      no-place = λ c z. no-room (view (c .given .0 .now)) (c .given .1 .0) z (c .met);
+      in-places = λ c. in-places (view (c .given .0 .now)) (c .given .1 .0) (c .met);
+      two-places = λ c s op obj e. check-15 (view (c .given .0 .now)) (c .given .1 .0) s op obj e (c .met);
       owner = λ c. owner-told _ _ _ (c .met);
       -- ---- written by tests/unique.py: the reviews
       assigned-users = λ c. reviewed-tells (demand1 .asking _ _ (questions.AssignedUsers (c .given .1 .0))) (c .met);
@@ -281,20 +307,23 @@ obeyed-at : {m : Model} {t : Told} {out after l : List ℕ} {size : ℕ} → Obe
 obeyed-at (inl x) = ((λ h. absurd (omega (arith, h, x .short))), (λ h. (x .no-length, x .untouched, x .unchanged)))
 obeyed-at (inr x) = ((λ h. (x .long, x .stored, x .state)), (λ h. absurd (omega (arith, h, x .fits))))
 
--- what `check` stores where the caller says is its result
-module _ {m : Model} {s op obj before after answer : ℕ} {t : Told} (x : Checked m s op obj t) (p : ChecksAt t before after answer) where
-  stored : (b : Bool) → eqb answer 0 ≡ b → t .results ≡ given b after
-  stored true e = one (x .answers (sym (p .answered) ∙ eqb-true answer 0 e))
+-- what `check` stores where the caller says is its results
+module _ {m : Model} {s op obj before after seen n answer : ℕ} {t : Told} (x : Checked m s op obj t) (p : ChecksAt t before after seen n answer) where
+  stored : (b : Bool) → eqb answer 0 ≡ b → t .results ≡ bothGiven b after n
+  stored true e = let q = x .answers (sym (p .answered) ∙ eqb-true answer 0 e) in both (q .0) (q .1)
     where
-      one : (t .results ≡ 1 ∷ []) ⊎ (t .results ≡ 0 ∷ []) → t .results ≡ after ∷ []
-      one (inl q) = q ∙ ap (λ (n : ℕ). n ∷ []) (sym (p .result ∙ ap (λ (l : List ℕ). placed l before) q))
-      one (inr q) = q ∙ ap (λ (n : ℕ). n ∷ []) (sym (p .result ∙ ap (λ (l : List ℕ). placed l before) q))
+      two : (a k : ℕ) → t .results ≡ a ∷ k ∷ [] → t .results ≡ after ∷ n ∷ []
+      two a k q = q ∙ (λ i. sym (p .result ∙ ap (λ (l : List ℕ). placed l before) q) i ∷ sym (p .looked ∙ ap (λ (l : List ℕ). placed (drop 1 l) seen) q) i ∷ [])
+
+      both : (k : ℕ) → (t .results ≡ 1 ∷ k ∷ []) ⊎ (t .results ≡ 0 ∷ k ∷ []) → t .results ≡ after ∷ n ∷ []
+      both k (inl q) = two 1 k q
+      both k (inr q) = two 0 k q
   stored false e = x .silent (λ z. eqb-false answer 0 e (p .answered ∙ z))
 
-  checked-at : Checked m s op obj (record { answer = answer; results = given (eqb answer 0) after; after = m }) × ((answer ≡ 0 → ⊥) → after ≡ before)
+  checked-at : Checked m s op obj (record { answer = answer; results = bothGiven (eqb answer 0) after n; after = m }) × ((answer ≡ 0 → ⊥) → (after ≡ before) × (n ≡ seen))
   checked-at = (
     subst (Checked m s op obj) (λ i. record { answer = sym (p .answered) i; results = stored (eqb answer 0) refl i; after = x .unchanged i }) x,
-    λ n. p .result ∙ ap (λ (l : List ℕ). placed l before) (x .silent (λ z. n (p .answered ∙ z))),
+    λ z. let none = x .silent (λ e. z (p .answered ∙ e)) in (p .result ∙ ap (λ (l : List ℕ). placed l before) none, p .looked ∙ ap (λ (l : List ℕ). placed (drop 1 l) seen) none),
   )
 
 -- the length of a save is stored where it is done

@@ -31,7 +31,7 @@ use Rattle.state.proofs.OneToOne.{view-one-to-one}
 use Rattle.state.proofs.Tables as tables
 use Rattle.hierarchy.specs.Walks.{Reaches, ReachesUp, TellsCircle}
 use Rattle.sweeps.specs.Sweeps.{ShedsAll, Strips}
-use Rattle.state.specs.Results.{isDone, given}
+use Rattle.state.specs.Results.{isDone, given, bothGiven}
 use Rattle.sessions.specs.Answering.{Opens, toldOpened}
 use Rattle.checking.specs.Answering.{Checks, Owns, toldChecked, toldOwned}
 use Rattle.sessions.specs.declared.Opened.{Opened}
@@ -140,6 +140,10 @@ first : List ℕ → ℕ
 first [] = 0
 first (a ∷ rest) = a
 
+second : List ℕ → ℕ
+second [] = 0
+second (a ∷ rest) = first rest
+
 -- Two results, each given where its flag says so and 0 where it does not, are one where what is told is, and so are the flags.
 results-one : (b d : Bool) (m n : ℕ) → given b m ≡ given d n → (b ≡ false → m ≡ 0) → (d ≡ false → n ≡ 0) → (b ≡ d) × (m ≡ n)
 unfolding first
@@ -147,6 +151,13 @@ results-one true true m n e sm sn = (refl, ap first e)
 results-one true false m n e sm sn = absurd (omega (arith, ap length e))
 results-one false true m n e sm sn = absurd (omega (arith, ap length e))
 results-one false false m n e sm sn = (refl, sm refl ∙ sym (sn refl))
+
+both-one : (b d : Bool) (m n k j : ℕ) → bothGiven b m k ≡ bothGiven d n j → (b ≡ false → (m ≡ 0) × (k ≡ 0)) → (d ≡ false → (n ≡ 0) × (j ≡ 0)) → (m ≡ n) × (k ≡ j)
+unfolding first second
+both-one true true m n k j e sm sn = (ap first e, ap second e)
+both-one true false m n k j e sm sn = absurd (omega (arith, ap length e))
+both-one false true m n k j e sm sn = absurd (omega (arith, ap length e))
+both-one false false m n k j e sm sn = (sm refl .0 ∙ sym (sn refl .0), sm refl .1 ∙ sym (sn refl .1))
 
 bits-one : (a b : Bool) → bit a ≡ bit b → a ≡ b
 bits-one true true e = refl
@@ -169,13 +180,16 @@ opens-one {x = x} {y} {l} {r} sl sr p q = ((λ i. record { answer = answers i; s
 
 pub checks-one : {m : Model} {told : Told} {x y : Checked} → Checks m told x → Checks m told y → x ≡ y
 unfolding toldChecked
-checks-one {m} {x = x} {y} p q = λ i. record { answer = answers i; yes = bits-one (x .yes) (y .yes) (results-one (isDone (x .answer)) (isDone (y .answer)) (bit (x .yes)) (bit (y .yes)) (ap (λ (t : Told). t .results) same) (λ h. ap bit (p .silent h)) (λ h. ap bit (q .silent h)) .1) i }
+checks-one {m} {x = x} {y} p q = λ i. record { answer = answers i; yes = bits-one (x .yes) (y .yes) (both .0) i; looked = both .1 i }
   where
     same : toldChecked m x ≡ toldChecked m y
     same = p .tells ∙ sym (q .tells)
 
     answers : x .answer ≡ y .answer
     answers = number-one-to-one (x .answer) (y .answer) (ap (λ (t : Told). t .answer) same)
+
+    both : (bit (x .yes) ≡ bit (y .yes)) × (x .looked ≡ y .looked)
+    both = both-one (isDone (x .answer)) (isDone (y .answer)) (bit (x .yes)) (bit (y .yes)) (x .looked) (y .looked) (ap (λ (t : Told). t .results) same) (λ h. (ap bit (p .silent h .0), p .silent h .1)) (λ h. (ap bit (q .silent h .0), q .silent h .1))
 
 pub owns-one : {m : Model} {told : Told} {x y : Owned} → Owns m told x → Owns m told y → x ≡ y
 unfolding toldOwned
@@ -256,8 +270,8 @@ obeys-one sl sr (inl p) (inr q) = absurd (omega (arith, p .short, q .fits))
 obeys-one sl sr (inr p) (inl q) = absurd (omega (arith, p .fits, q .short))
 obeys-one sl sr (inr p) (inr q) = (p .long ∙ sym (q .long), states sl sr (p .state) (q .state), p .stored ∙ sym (q .stored))
 
-pub checks-at-one : {told : Told} {before after after′ x y : ℕ} → calls.ChecksAt told before after x → calls.ChecksAt told before after′ y → (x ≡ y) × (after ≡ after′)
-checks-at-one p q = (p .answered ∙ sym (q .answered), p .result ∙ sym (q .result))
+pub checks-at-one : {told : Told} {before after after′ seen n n′ x y : ℕ} → calls.ChecksAt told before after seen n x → calls.ChecksAt told before after′ seen n′ y → (x ≡ y) × (_≡_ {A = ℕ × ℕ} (after, n) (after′, n′))
+checks-at-one p q = (p .answered ∙ sym (q .answered), λ i. ((p .result ∙ sym (q .result)) i, (p .looked ∙ sym (q .looked)) i))
 
 pub loaded-one : {m : Model} {bytes : List ℕ} {x y : ℕ} {l r : List ℕ} → State l → State r → Loads m bytes (calls.loaded x l) → Loads m bytes (calls.loaded y r) → (x ≡ y) × (l ≡ r)
 loaded-one {m} {bytes} {x} {y} {l} {r} sl sr p q =

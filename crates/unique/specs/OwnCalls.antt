@@ -5,7 +5,7 @@
 --
 -- Of a call c, `c .given` is what the function was given, in the order of its parameters: .0 is the first, .1 .0 the second, .1 .1 .0 the third. `c .exits`
 -- is the same after the call, `c .result` what it handed back, and `.now` the numbers of what was lent.
-use mathlib.Core.Bool.{true, not}
+use mathlib.Core.Bool.{true, false, not}
 use mathlib.Core.List.{List, [], _∷_}
 use mathlib.Core.Logic.{_⊎_, _↔_}
 use mathlib.Core.Path.{_≡_}
@@ -14,6 +14,7 @@ use lib.Dec.{eqb}
 use lib.ListN.{length, getD, take, drop}
 use lib.Seq.{sets}
 use Rattle.numbers.specs.Answers.{numberOf}
+use Rattle.numbers.specs.declared.Session.{Session}
 use Rattle.model.specs.Model.{Model, empty}
 use Rattle.model.specs.Questions as model
 use Rattle.model.specs.Sheet.{Told, _when_, refused}
@@ -22,7 +23,7 @@ use Rattle.model.specs.declared.Command.the-variants as commands
 use Rattle.model.specs.declared.Question.{Question}
 use Rattle.model.specs.declared.Question.the-variants as questions
 use Rattle.state.specs.View.{view, told}
-use Rattle.state.specs.Results.{given}
+use Rattle.state.specs.Results.{given, bothGiven}
 use Rattle.sessions.specs.Answering.{toldOpened}
 use Rattle.checking.specs.Answering.{toldChecked}
 use Rattle.engine.specs.declared.Stepped.{Stepped}
@@ -37,7 +38,7 @@ use Rattle.meaning.specs.declared.Meant.{Meant}
 use Rattle.meaning.specs.declared.Meant.the-variants.{Do, Ask, Nothing}
 use Rattle.script.specs.Script.{answerText, lineFeed}
 use Rattle.program.specs.Printing.{Begins, stageOf, line}
-use Rattle.demands.specs.Demand2.{Exactly, _beyond_, refusals, results, effect, Checked, Granted}
+use Rattle.demands.specs.Demand2.{Exactly, Applies, _beyond_, refusals, results, effect, checkRefusals, Checked, Granted}
 use Rattle.demands.specs.Reviews as demands
 use Rattle.policyform.specs.Promises.{Loads, Saves}
 use Rattle.unique.specs.Handed.{Call, Handed}
@@ -118,9 +119,13 @@ toldReview m x after = record { answer = numberOf (x .answer); results = take (x
 abbrev pub Tells : List ℕ → Question → List ℕ → List ℕ → Review → Type 0
 Tells l q before after x = toldReview (view l) x after ≡ model.ask (view l) (length before) q
 
--- What is told where there is no place at all for results: what has none is told as it is, and what would have one is 15, `check` too.
-abbrev pub NoPlace : Model → Told → Told → Type 0
-NoPlace m asked told = ((asked .results ≡ []) × (told ≡ asked)) ⊎ ((asked .results ≡ [] → ⊥) × (told ≡ refused 15 m))
+-- What is told of a question in a buffer with so many places: what has no more results than that is told as it is, and what would have more is 15.
+abbrev pub InPlaces : ℕ → Model → Told → Told → Type 0
+InPlaces places m asked told = ((length (asked .results) ≤ places) × (told ≡ asked)) ⊎ ((places < length (asked .results)) × (told ≡ refused 15 m))
+
+-- A question has its room: a review asks for it itself, and `check` has two results.
+abbrev pub HasRoom : Question → ℕ → Type 0
+HasRoom q places = model.isReview q ≡ false → 2 ≤ places
 
 -- What the question whose session s is answers, and the owner that it hands back.
 abbrev pub OwnerTold : Model → ℕ → ℕ → ℕ → Type 0
@@ -131,15 +136,18 @@ pub record Questions : Type 0 where
   pub check : (c : Call checking.check.Kinds.ps checking.check.Kinds.r checking.check.Reads.Post) → Handed (c .given .0 .now) → Checked (view (c .given .0 .now)) (c .given .1 .0 .number) (c .given .1 .1 .0) (c .given .1 .1 .1 .0) (toldChecked (view (c .given .0 .now)) (c .result))
   -- "Yes exactly when some effective role of the session holds the grant."
   pub yes : (c : Call checking.check.Kinds.ps checking.check.Kinds.r checking.check.Reads.Post) → Handed (c .given .0 .now) → (c .result .yes ≡ true) ↔ MayDo (view (c .given .0 .now)) (c .given .1 .0 .number) (c .given .1 .1 .0) (c .given .1 .1 .1 .0)
-  -- Any question through `ask`, of any state, with a buffer that has a place.
-  pub ask : (c : Call engine.ask.Kinds.ps engine.ask.Kinds.r engine.ask.Reads.Post) → 1 ≤ length (c .given .1 .1 .0 .now)
+  -- Any question through `ask`, of any state: a review with any buffer, `check` with one of two places or more.
+  pub ask : (c : Call engine.ask.Kinds.ps engine.ask.Kinds.r engine.ask.Reads.Post) → HasRoom (c .given .1 .0) (length (c .given .1 .1 .0 .now))
       → Tells (c .given .0 .now) (c .given .1 .0) (c .given .1 .1 .0 .now) (c .exits .1 .1 .0 .now) (c .result)
   -- So on a state of the code's own it is answered as demand 2 says of questions.
-  pub asked : (c : Call engine.ask.Kinds.ps engine.ask.Kinds.r engine.ask.Reads.Post) → Handed (c .given .0 .now) → 1 ≤ length (c .given .1 .1 .0 .now)
+  pub asked : (c : Call engine.ask.Kinds.ps engine.ask.Kinds.r engine.ask.Reads.Post) → Handed (c .given .0 .now) → HasRoom (c .given .1 .0) (length (c .given .1 .1 .0 .now))
       → demands.Answered (view (c .given .0 .now)) (length (c .given .1 .1 .0 .now)) (c .given .1 .0) (toldReview (view (c .given .0 .now)) (c .result) (c .exits .1 .1 .0 .now))
-  -- With no place at all.
-  pub no-place : (c : Call engine.ask.Kinds.ps engine.ask.Kinds.r engine.ask.Reads.Post) → length (c .given .1 .1 .0 .now) ≡ 0
-      → NoPlace (view (c .given .0 .now)) (model.ask (view (c .given .0 .now)) 0 (c .given .1 .0)) (toldReview (view (c .given .0 .now)) (c .result) (c .exits .1 .1 .0 .now))
+  -- With any buffer, of any state.
+  pub in-places : (c : Call engine.ask.Kinds.ps engine.ask.Kinds.r engine.ask.Reads.Post)
+      → InPlaces (length (c .given .1 .1 .0 .now)) (view (c .given .0 .now)) (model.ask (view (c .given .0 .now)) (length (c .given .1 .1 .0 .now)) (c .given .1 .0)) (toldReview (view (c .given .0 .now)) (c .result) (c .exits .1 .1 .0 .now))
+  -- So `check` is 15 exactly where it is not refused otherwise and the buffer has fewer than two places (request 10).
+  pub two-places : (c : Call engine.ask.Kinds.ps engine.ask.Kinds.r engine.ask.Reads.Post) (s : Session) (op obj : ℕ) → c .given .1 .0 ≡ questions.Check s op obj
+      → (numberOf (c .result .answer) ≡ 15) ↔ (((n : ℕ) → Applies (checkRefusals (view (c .given .0 .now)) (s .number) op obj) n → ⊥) × (length (c .given .1 .1 .0 .now) < 2))
   -- Whose a session is, of any state: 1 where its number is beyond 63, else 2 where it is not open, else its owner.
   pub owner : (c : Call checking.owner.Kinds.ps checking.owner.Kinds.r checking.owner.Reads.Post) → OwnerTold (view (c .given .0 .now)) (c .given .1 .0 .number) (numberOf (c .result .answer)) (c .result .owner)
   -- Each review by its own function, of any state, with any buffer.
@@ -221,11 +229,11 @@ pub record FromC : Type 0 where
       × (length (answerText (t .answer) (t .results)) ≤ length (c .given .1 .1 .0 .now)
       → (c .result ≡ length (answerText (t .answer) (t .results))) × (c .exits .1 .1 .0 .now ≡ sets (c .given .1 .1 .0 .now) 0 (answerText (t .answer) (t .results))) × (view (c .exits .0 .now) ≡ t .after))
       × (length (c .given .1 .1 .0 .now) < length (answerText (t .answer) (t .results)) → (c .result ≡ 0) × (c .exits .1 .1 .0 .now ≡ c .given .1 .1 .0 .now) × (view (c .exits .0 .now) ≡ view (c .given .0 .now)))
-  -- The number that is handed back, and where that is 0 the one stored where the caller says, are those that demand 2 says of the question for access.
+  -- The number that is handed back, and where that is 0 the two stored where the caller says, are those that demand 2 says of the question for access.
   -- Where it is refused, what stood there stays.
   pub marruskil-check : (c : Call clibrary.marruskil_check.Kinds.ps clibrary.marruskil_check.Kinds.r clibrary.marruskil_check.Reads.Post) → Handed (c .given .0 .now)
-      → Checked (view (c .given .0 .now)) (c .given .1 .0) (c .given .1 .1 .0) (c .given .1 .1 .1 .0) (record { answer = c .result; results = given (eqb (c .result) 0) (c .exits .1 .1 .1 .1 .0 .now); after = view (c .given .0 .now) })
-      × ((c .result ≡ 0 → ⊥) → c .exits .1 .1 .1 .1 .0 .now ≡ c .given .1 .1 .1 .1 .0 .now)
+      → Checked (view (c .given .0 .now)) (c .given .1 .0) (c .given .1 .1 .0) (c .given .1 .1 .1 .0) (record { answer = c .result; results = bothGiven (eqb (c .result) 0) (c .exits .1 .1 .1 .1 .0 .now) (c .exits .1 .1 .1 .1 .1 .0 .now); after = view (c .given .0 .now) })
+      × ((c .result ≡ 0 → ⊥) → (c .exits .1 .1 .1 .1 .0 .now ≡ c .given .1 .1 .1 .1 .0 .now) × (c .exits .1 .1 .1 .1 .1 .0 .now ≡ c .given .1 .1 .1 .1 .1 .0 .now))
   -- Loading and saving are those of the policy file, to which `Loading` and `SavesAsThePaperSays` apply (fileanswers/specs).
   pub marruskil-load : (c : Call clibrary.marruskil_load.Kinds.ps clibrary.marruskil_load.Kinds.r clibrary.marruskil_load.Reads.Post)
       → Loads (view (c .given .0 .now)) (c .given .1 .0 .now) (record { answer = c .result; results = []; after = view (c .exits .0 .now) })

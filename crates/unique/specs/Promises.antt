@@ -242,7 +242,7 @@ pub record Program : Type 0 where
 pub record Clibrary : Type 0 where
   pub marruskil-start : UniqueState clibrary.marruskil_start.Kinds.ps clibrary.marruskil_start.Kinds.r clibrary.marruskil_start.Reads.Post (λ κs e. e .0 .now)
   pub marruskil-obey : UniqueBoth clibrary.marruskil_obey.Kinds.ps clibrary.marruskil_obey.Kinds.r clibrary.marruskil_obey.Reads.Post (λ κs e. e .0 .now) (λ κs e. e .1 .1 .0 .now)
-  pub marruskil-check : UniqueLent {A = ℕ} clibrary.marruskil_check.Kinds.ps clibrary.marruskil_check.Kinds.r clibrary.marruskil_check.Reads.Post (λ κs e. e .1 .1 .1 .1 .0 .now)
+  pub marruskil-check : UniqueLent {A = ℕ × ℕ} clibrary.marruskil_check.Kinds.ps clibrary.marruskil_check.Kinds.r clibrary.marruskil_check.Reads.Post (λ κs e. (e .1 .1 .1 .1 .0 .now, e .1 .1 .1 .1 .1 .0 .now))
   pub marruskil-load : UniqueState clibrary.marruskil_load.Kinds.ps clibrary.marruskil_load.Kinds.r clibrary.marruskil_load.Reads.Post (λ κs e. e .0 .now)
   pub marruskil-save : UniqueLent {A = List ℕ × ℕ} clibrary.marruskil_save.Kinds.ps clibrary.marruskil_save.Kinds.r clibrary.marruskil_save.Reads.Post (λ κs e. (e .1 .0 .now, e .1 .1 .0 .now))
 

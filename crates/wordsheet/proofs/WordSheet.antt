@@ -5,7 +5,7 @@ use mathlib.Core.Path.{_≡_, refl}
 use Rattle.roleset.specs.Bounded.{some, every, tally, total, members}
 use Rattle.roleset.specs.Roles.{has, pack, those, with, without, union, common, minus, subset, isEmpty, count}
 use Rattle.hierarchy.specs.Walks.{juniorsOf, walk, reach, turned, atOrAbove}
-use Rattle.model.specs.Lists.{rising, someFrom, listed, setOf}
+use Rattle.model.specs.Lists.{rising, someFrom, listed, setOf, upToFirst}
 use Rattle.model.specs.Model.{empty, put}
 use Rattle.model.specs.Questions.{ask, assignedUsers, assignedRoles, authUsers, authRoles, sessionRoles, roleOps, userOps, setNames, setRoles, setCount}
 use Rattle.model.specs.Sheet.{verdict, settle}
@@ -15,7 +15,7 @@ use Rattle.model.specs.commands.Users.{user, role, endAll, hasOpen, nouser, nor
 use Rattle.model.specs.commands.Assigning.{assign, assigned, deassign, deassigned, grant, granted, revoke, revoked}
 use Rattle.model.specs.commands.Inheriting.{inherit, lined, disinherit, unlined}
 use Rattle.model.specs.commands.Sets.{broken, makeSet, dropSet, addMember, dropMember, setCardinality}
-use Rattle.model.specs.commands.Sessions.{freeFrom, opened, session, activeSet, activate, drop, end, permitted, check}
+use Rattle.model.specs.commands.Sessions.{freeFrom, opened, session, activeSet, activate, drop, end, permitted, looked, check}
 use Rattle.decimal.specs.Decimal.{decimal, lead, numbered, takenFrom}
 use Rattle.words.specs.Bytes.{same}
 use Rattle.words.specs.ScriptWords.{words, spelling, takes, placeIn, which}
@@ -28,23 +28,23 @@ use Rattle.transcripts.proofs.Permissions.{quick, roleTold, userTold, sessionTo
 use Rattle.wordsheet.specs.WordSheet.{people, sessions, granting, revoking, sets, oneTooFew, oneTooMany, WordSheet}
 
 people-right : rightScript (plain people) "total 24 1" ≡ true
-unfolding some every tally total members has pack those with without union common minus subset isEmpty count juniorsOf walk reach turned atOrAbove rising someFrom listed setOf empty put ask assignedUsers assignedRoles authUsers authRoles sessionRoles roleOps userOps setNames setRoles setCount verdict settle step breaks breaksSome staticBroken dynamicBroken shedded shed sessionsOpen user role endAll hasOpen nouser norole inSet endedOf allEnded withoutUser withoutRole assign assigned deassign deassigned grant granted revoke revoked inherit lined disinherit unlined broken makeSet dropSet addMember dropMember setCardinality freeFrom opened session activeSet activate drop end permitted check decimal lead numbered takenFrom same words spelling takes placeIn which partsOf upTo render wordIn numbersIn parse meanings meant obey answerText totalText tallies rightLines noFeed noFeeds rightScript
+unfolding some every tally total members has pack those with without union common minus subset isEmpty count juniorsOf walk reach turned atOrAbove rising someFrom listed setOf upToFirst empty put ask assignedUsers assignedRoles authUsers authRoles sessionRoles roleOps userOps setNames setRoles setCount verdict settle step breaks breaksSome staticBroken dynamicBroken shedded shed sessionsOpen user role endAll hasOpen nouser norole inSet endedOf allEnded withoutUser withoutRole assign assigned deassign deassigned grant granted revoke revoked inherit lined disinherit unlined broken makeSet dropSet addMember dropMember setCardinality freeFrom opened session activeSet activate drop end permitted looked check decimal lead numbered takenFrom same words spelling takes placeIn which partsOf upTo render wordIn numbersIn parse meanings meant obey answerText totalText tallies rightLines noFeed noFeeds rightScript
 people-right = refl
 
 sessions-right : rightScript (plain sessions) "total 29 6" ≡ true
-unfolding some every tally total members has pack those with without union common minus subset isEmpty count juniorsOf walk reach turned atOrAbove rising someFrom listed setOf empty put ask assignedUsers assignedRoles authUsers authRoles sessionRoles roleOps userOps setNames setRoles setCount verdict settle step breaks breaksSome staticBroken dynamicBroken shedded shed sessionsOpen user role endAll hasOpen nouser norole inSet endedOf allEnded withoutUser withoutRole assign assigned deassign deassigned grant granted revoke revoked inherit lined disinherit unlined broken makeSet dropSet addMember dropMember setCardinality freeFrom opened session activeSet activate drop end permitted check decimal lead numbered takenFrom same words spelling takes placeIn which partsOf upTo render wordIn numbersIn parse meanings meant obey answerText totalText tallies rightLines noFeed noFeeds rightScript
+unfolding some every tally total members has pack those with without union common minus subset isEmpty count juniorsOf walk reach turned atOrAbove rising someFrom listed setOf upToFirst empty put ask assignedUsers assignedRoles authUsers authRoles sessionRoles roleOps userOps setNames setRoles setCount verdict settle step breaks breaksSome staticBroken dynamicBroken shedded shed sessionsOpen user role endAll hasOpen nouser norole inSet endedOf allEnded withoutUser withoutRole assign assigned deassign deassigned grant granted revoke revoked inherit lined disinherit unlined broken makeSet dropSet addMember dropMember setCardinality freeFrom opened session activeSet activate drop end permitted looked check decimal lead numbered takenFrom same words spelling takes placeIn which partsOf upTo render wordIn numbersIn parse meanings meant obey answerText totalText tallies rightLines noFeed noFeeds rightScript
 sessions-right = refl
 
 sets-right : rightScript (plain sets) "total 32 3" ≡ true
-unfolding some every tally total members has pack those with without union common minus subset isEmpty count juniorsOf walk reach turned atOrAbove rising someFrom listed setOf empty put ask assignedUsers assignedRoles authUsers authRoles sessionRoles roleOps userOps setNames setRoles setCount verdict settle step breaks breaksSome staticBroken dynamicBroken shedded shed sessionsOpen user role endAll hasOpen nouser norole inSet endedOf allEnded withoutUser withoutRole assign assigned deassign deassigned grant granted revoke revoked inherit lined disinherit unlined broken makeSet dropSet addMember dropMember setCardinality freeFrom opened session activeSet activate drop end permitted check decimal lead numbered takenFrom same words spelling takes placeIn which partsOf upTo render wordIn numbersIn parse meanings meant obey answerText totalText tallies rightLines noFeed noFeeds rightScript
+unfolding some every tally total members has pack those with without union common minus subset isEmpty count juniorsOf walk reach turned atOrAbove rising someFrom listed setOf upToFirst empty put ask assignedUsers assignedRoles authUsers authRoles sessionRoles roleOps userOps setNames setRoles setCount verdict settle step breaks breaksSome staticBroken dynamicBroken shedded shed sessionsOpen user role endAll hasOpen nouser norole inSet endedOf allEnded withoutUser withoutRole assign assigned deassign deassigned grant granted revoke revoked inherit lined disinherit unlined broken makeSet dropSet addMember dropMember setCardinality freeFrom opened session activeSet activate drop end permitted looked check decimal lead numbered takenFrom same words spelling takes placeIn which partsOf upTo render wordIn numbersIn parse meanings meant obey answerText totalText tallies rightLines noFeed noFeeds rightScript
 sets-right = refl
 
 oneTooFew-right : rightScript (plain oneTooFew) "total 0 40" ≡ true
-unfolding some every tally total members has pack those with without union common minus subset isEmpty count juniorsOf walk reach turned atOrAbove rising someFrom listed setOf empty put ask assignedUsers assignedRoles authUsers authRoles sessionRoles roleOps userOps setNames setRoles setCount verdict settle step breaks breaksSome staticBroken dynamicBroken shedded shed sessionsOpen user role endAll hasOpen nouser norole inSet endedOf allEnded withoutUser withoutRole assign assigned deassign deassigned grant granted revoke revoked inherit lined disinherit unlined broken makeSet dropSet addMember dropMember setCardinality freeFrom opened session activeSet activate drop end permitted check decimal lead numbered takenFrom same words spelling takes placeIn which partsOf upTo render wordIn numbersIn parse meanings meant obey answerText totalText tallies rightLines noFeed noFeeds rightScript
+unfolding some every tally total members has pack those with without union common minus subset isEmpty count juniorsOf walk reach turned atOrAbove rising someFrom listed setOf upToFirst empty put ask assignedUsers assignedRoles authUsers authRoles sessionRoles roleOps userOps setNames setRoles setCount verdict settle step breaks breaksSome staticBroken dynamicBroken shedded shed sessionsOpen user role endAll hasOpen nouser norole inSet endedOf allEnded withoutUser withoutRole assign assigned deassign deassigned grant granted revoke revoked inherit lined disinherit unlined broken makeSet dropSet addMember dropMember setCardinality freeFrom opened session activeSet activate drop end permitted looked check decimal lead numbered takenFrom same words spelling takes placeIn which partsOf upTo render wordIn numbersIn parse meanings meant obey answerText totalText tallies rightLines noFeed noFeeds rightScript
 oneTooFew-right = refl
 
 oneTooMany-right : rightScript (plain oneTooMany) "total 0 39" ≡ true
-unfolding some every tally total members has pack those with without union common minus subset isEmpty count juniorsOf walk reach turned atOrAbove rising someFrom listed setOf empty put ask assignedUsers assignedRoles authUsers authRoles sessionRoles roleOps userOps setNames setRoles setCount verdict settle step breaks breaksSome staticBroken dynamicBroken shedded shed sessionsOpen user role endAll hasOpen nouser norole inSet endedOf allEnded withoutUser withoutRole assign assigned deassign deassigned grant granted revoke revoked inherit lined disinherit unlined broken makeSet dropSet addMember dropMember setCardinality freeFrom opened session activeSet activate drop end permitted check decimal lead numbered takenFrom same words spelling takes placeIn which partsOf upTo render wordIn numbersIn parse meanings meant obey answerText totalText tallies rightLines noFeed noFeeds rightScript
+unfolding some every tally total members has pack those with without union common minus subset isEmpty count juniorsOf walk reach turned atOrAbove rising someFrom listed setOf upToFirst empty put ask assignedUsers assignedRoles authUsers authRoles sessionRoles roleOps userOps setNames setRoles setCount verdict settle step breaks breaksSome staticBroken dynamicBroken shedded shed sessionsOpen user role endAll hasOpen nouser norole inSet endedOf allEnded withoutUser withoutRole assign assigned deassign deassigned grant granted revoke revoked inherit lined disinherit unlined broken makeSet dropSet addMember dropMember setCardinality freeFrom opened session activeSet activate drop end permitted looked check decimal lead numbered takenFrom same words spelling takes placeIn which partsOf upTo render wordIn numbersIn parse meanings meant obey answerText totalText tallies rightLines noFeed noFeeds rightScript
 oneTooMany-right = refl
 
 -- the three lists of permissions, said in a way that is quick to compute
@@ -56,8 +56,8 @@ said =
     record { line = "session-perms 0"; answer = "0 1822 4095"; told = sessionTold 0; is = session-told 0 } ∷
     []
 
-permissions-right : rightScript (plain granting ++ (said ++ plain revoking)) "total 23 0" ≡ true
-unfolding some every tally total members has pack those with without union common minus subset isEmpty count juniorsOf walk reach turned atOrAbove rising someFrom listed setOf empty put ask assignedUsers assignedRoles authUsers authRoles sessionRoles roleOps userOps setNames setRoles setCount verdict settle step breaks breaksSome staticBroken dynamicBroken shedded shed sessionsOpen user role endAll hasOpen nouser norole inSet endedOf allEnded withoutUser withoutRole assign assigned deassign deassigned grant granted revoke revoked inherit lined disinherit unlined broken makeSet dropSet addMember dropMember setCardinality freeFrom opened session activeSet activate drop end permitted check decimal lead numbered takenFrom same words spelling takes placeIn which partsOf upTo render wordIn numbersIn parse meanings meant obey answerText totalText tallies rightLines noFeed noFeeds rightScript quick said
+permissions-right : rightScript (plain granting ++ (said ++ plain revoking)) "total 24 0" ≡ true
+unfolding some every tally total members has pack those with without union common minus subset isEmpty count juniorsOf walk reach turned atOrAbove rising someFrom listed setOf upToFirst empty put ask assignedUsers assignedRoles authUsers authRoles sessionRoles roleOps userOps setNames setRoles setCount verdict settle step breaks breaksSome staticBroken dynamicBroken shedded shed sessionsOpen user role endAll hasOpen nouser norole inSet endedOf allEnded withoutUser withoutRole assign assigned deassign deassigned grant granted revoke revoked inherit lined disinherit unlined broken makeSet dropSet addMember dropMember setCardinality freeFrom opened session activeSet activate drop end permitted looked check decimal lead numbered takenFrom same words spelling takes placeIn which partsOf upTo render wordIn numbersIn parse meanings meant obey answerText totalText tallies rightLines noFeed noFeeds rightScript quick said
 permissions-right = refl
 
 pub word-sheet : WordSheet
@@ -66,7 +66,7 @@ word-sheet =
     record {
       people = prints-rows people "total 24 1" people-right;
       sessions = prints-rows sessions "total 29 6" sessions-right;
-      permissions = prints-said (plain granting ++ (said ++ plain revoking)) "total 23 0" permissions-right;
+      permissions = prints-said (plain granting ++ (said ++ plain revoking)) "total 24 0" permissions-right;
       sets = prints-rows sets "total 32 3" sets-right;
       oneTooFew = prints-rows oneTooFew "total 0 40" oneTooFew-right;
       oneTooMany = prints-rows oneTooMany "total 0 39" oneTooMany-right;

@@ -110,9 +110,10 @@ granting =
     "role-ops 63 30" ⇒ "0 7" ∷
     -- and user 255 is assigned to role 4 besides
     "user-ops 255 30" ⇒ "0 7 9" ∷
-    -- "1 for yes or 0 for no"
-    "check 0 7 30" ⇒ "0 1" ∷
-    "check 0 9 30" ⇒ "0 0" ∷
+    -- "1 for yes or 0 for no", and how many roles were looked at: role 1 holds operation 7; 63 holds 15 on 255, after 1; neither holds 9
+    "check 0 7 30" ⇒ "0 1 1" ∷
+    "check 0 15 255" ⇒ "0 1 2" ∷
+    "check 0 9 30" ⇒ "0 0 2" ∷
     []
 
 -- `role-perms`, `user-perms`, `session-perms`, after those lines: "operation * 256 + object", and 7 * 256 + 30 is 1822
@@ -127,7 +128,7 @@ permissions =
 abbrev pub revoking : List Row
 revoking =
     "revoke 7 30 1" ⇒ "0" ∷
-    "check 0 7 30" ⇒ "0 0" ∷
+    "check 0 7 30" ⇒ "0 0 2" ∷
     "norole 4" ⇒ "0" ∷
     "role 4" ⇒ "0" ∷
     "role-ops 4 30" ⇒ "0" ∷
@@ -271,7 +272,7 @@ oneTooMany =
 pub record WordSheet : Type 0 where
   pub people : Prints people "total 24 1"
   pub sessions : Prints sessions "total 29 6"
-  pub permissions : Prints (granting ++ (permissions ++ revoking)) "total 23 0"
+  pub permissions : Prints (granting ++ (permissions ++ revoking)) "total 24 0"
   pub sets : Prints sets "total 32 3"
   pub oneTooFew : Prints oneTooFew "total 0 40"
   pub oneTooMany : Prints oneTooMany "total 0 39"

@@ -9,7 +9,7 @@ use std::collections::BTreeSet;
 const ROWS: [&str; 7] = ["session", "activate", "inherit", "dsd", "dsd-add", "dsd-card", "file"];
 
 /// Roles of a session, as some engine might count them.
-type Count = fn(&State, &Session) -> Vec<Role>;
+pub type Count = fn(&State, &Session) -> Vec<Role>;
 
 /// Counts other than the rule's, and what happens where an engine with that count gives another answer: 11 where it counts fewer
 /// roles, done (0) where it counts more.
@@ -22,29 +22,29 @@ const OTHER_COUNTS: &[(u8, &str, Count)] = &[
     (0, "done, though roles counted again for each active role break the rule", counted_again),
 ];
 
-fn active_alone(_: &State, session: &Session) -> Vec<Role> {
+pub fn active_alone(_: &State, session: &Session) -> Vec<Role> {
     session.active.iter().copied().collect()
 }
 
-fn with_direct_juniors(state: &State, session: &Session) -> Vec<Role> {
+pub fn with_direct_juniors(state: &State, session: &Session) -> Vec<Role> {
     (&session.active | &direct_juniors(state, session)).into_iter().collect()
 }
 
-fn inherited_alone(state: &State, session: &Session) -> Vec<Role> {
+pub fn inherited_alone(state: &State, session: &Session) -> Vec<Role> {
     state.with_inherited(&direct_juniors(state, session)).into_iter().collect()
 }
 
-fn all_of_the_owner(state: &State, session: &Session) -> Vec<Role> {
+pub fn all_of_the_owner(state: &State, session: &Session) -> Vec<Role> {
     state.authorised_roles(session.owner).into_iter().collect()
 }
 
-fn all_sessions_of_the_owner(state: &State, session: &Session) -> Vec<Role> {
+pub fn all_sessions_of_the_owner(state: &State, session: &Session) -> Vec<Role> {
     let owned = state.sessions.values().filter(|other| other.owner == session.owner);
     let active = owned.fold(session.active.clone(), |all, other| &all | &other.active);
     state.with_inherited(&active).into_iter().collect()
 }
 
-fn counted_again(state: &State, session: &Session) -> Vec<Role> {
+pub fn counted_again(state: &State, session: &Session) -> Vec<Role> {
     session.active.iter().flat_map(|&role| state.with_inherited(&BTreeSet::from([role]))).collect()
 }
 

@@ -1,12 +1,26 @@
 //! Themes. Each begins a script; random steps fill it up.
 
+use super::checks::checks;
 use super::seniors::seniors;
 use super::{named, Draft, LONGEST_SCRIPT};
 use crate::words::{Takes, WORDS};
 
 /// Scripts take these in turn.
-pub const THEMES: &[fn(&mut Draft)] =
-    &[mixed, deep, full_assignments, crowded, full_grants, malformed, full_lines, seniors, mixed, full_sessions, leavers, wide];
+pub const THEMES: &[fn(&mut Draft)] = &[
+    mixed,
+    deep,
+    full_assignments,
+    crowded,
+    full_grants,
+    malformed,
+    full_lines,
+    seniors,
+    mixed,
+    full_sessions,
+    leavers,
+    wide,
+    checks,
+];
 
 fn mixed(draft: &mut Draft) {
     draft.users = draft.random().number(2, 12);

@@ -1,19 +1,18 @@
--- Each test is a refusal of `check`, in its order; past them the roles that the walk meets are held against the grant's holders. Assumes nothing.
+-- Each test is a refusal of `check`, in its order; past them the roles that the walk meets are looked at, lowest first. Assumes nothing.
 use borrow.Author.Needs.{needs}
 use mathlib.Core.Bool.{Bool, true, false, not, _||_}
-use mathlib.Core.List.{[], _∷_}
-use mathlib.Core.Path.{_≡_, refl, sym, ap, ap₂, _∙_}
+use mathlib.Core.Path.{_≡_, refl, sym, ap, ap₂, subst, _∙_}
 use Prim.Native.Nat.{ℕ}
-use Rattle.roleset.specs.Bounded.{bit}
-use Rattle.roleset.specs.Roles.{common, isEmpty}
 use Rattle.roleset.proofs.BoundedLaws.{clash}
+use Rattle.numbers.specs.declared.Answer.the-variants.{Done}
 use Rattle.model.specs.Model.{Model, Session}
-use Rattle.model.specs.Sheet.{verdict, settle, done}
+use Rattle.model.specs.Sheet.{verdict, settle}
 use Rattle.model.specs.Words.{permission, reached}
 use Rattle.model.specs.commands.Naming.{sessionBeyond, permissionBeyond, sessionMissing}
-use Rattle.model.specs.commands.Sessions.{check, permitted}
+use Rattle.model.specs.commands.Sessions.{check, permitted, looked}
 use Rattle.state.specs.View.{view}
-use Rattle.checking.specs.Answering.{toldChecked}
+use Rattle.checking.specs.Answering.{toldChecked, Checks}
+use Rattle.checking.proofs.Looking.{found, seen}
 use Rattle.checking.proofs.check.Statement.{statement}
 use Rattle.checking.proofs.check.Tie as tie
 
@@ -55,28 +54,25 @@ walked c = let s = to-start (to-1 (c .before)) in ap (λ (x : Session). reached 
 
 returns : tie.Need-returns
 unfolding toldChecked check settle verdict
-returns c = record { tells = rw (found-1 (c .before) ∙ c .if1 .taken); silent = λ h. refl }
+returns c = record { tells = rw (found-1 (c .before) ∙ c .if1 .taken); silent = λ h. (refl, refl) }
 
 returns-2 : tie.Need-returns-2
 unfolding toldChecked check settle verdict
-returns-2 c = let at = c .before .before in record { tells = rw (clear-1 (at .before), found-2 at ∙ c .if2 .taken); silent = λ h. refl }
+returns-2 c = let at = c .before .before in record { tells = rw (clear-1 (at .before), found-2 at ∙ c .if2 .taken); silent = λ h. (refl, refl) }
 
--- yes or no, in the words of the definition
-answered : (c : tie.After-is-empty) → let s = to-start (to-1 (c .before .before .before .before)) in not (c .is-empty .result) ≡ permitted (m s) (number s) (perm s)
-unfolding permitted
+-- what was found, in the words of the definitions
+answered : (c : tie.After-look) → let s = to-start (to-1 (c .before .before .before)) in c .look .result ≡ record { answer = Done; yes = permitted (m s) (number s) (perm s); looked = looked (m s) (number s) (perm s) }
+unfolding permitted looked
 answered c =
-    let holding : c .before .common .result ≡ common (c .before .before .before .reach .result) (c .before .before .holders-of .result) = c .before .common .ensures .is in
-    ap not (c .is-empty .ensures .is ∙ ap isEmpty (holding ∙ ap₂ common (sym (walked (c .before .before .before))) (c .before .before .holders-of .ensures)))
+    let ruled : c .look .result ≡ record { answer = Done; yes = found (c .before .before .reach .result) (c .before .holders-of .result); looked = seen (c .before .before .reach .result) (c .before .holders-of .result) } = c .look .ensures in
+    ruled ∙ ap₂ (λ (roles holders : ℕ). record { answer = Done; yes = found roles holders; looked = seen roles holders }) (sym (walked (c .before .before))) (c .before .holders-of .ensures)
 
 returns-3 : tie.Need-returns-3
 unfolding toldChecked check settle verdict
 returns-3 c =
-    let c2 = c .before .before .before .before in
+    let c2 = c .before .before .before in
     let s = to-start (to-1 c2) in
-    record {
-      tells = rw (clear-1 (to-1 c2), clear-2 c2) (ap (λ (b : Bool). done (bit b ∷ []) (m s)) (answered c));
-      silent = λ h. clash true refl h;
-    }
+    subst (Checks (m s) (check (m s) (number s) (c2 .before .before .before .before .before .before .before .args .op) (c2 .before .before .before .before .before .before .before .args .obj))) (sym (answered c)) (record { tells = rw (clear-1 (to-1 c2), clear-2 c2); silent = λ h. clash true refl h })
 
 pub check-spec : {M : Type 1} → statement M
 check-spec =
@@ -91,7 +87,6 @@ check-spec =
     (λ c κs. search needs)
     (λ c. search needs)
     (λ c. search needs)
-    (λ c κs. search needs)
     (λ c κs. search needs)
     (λ c κs. search needs)
     returns-3)

@@ -1,4 +1,4 @@
--- What `check` tells, with the result where the caller says. Assumes nothing.
+-- What `check` tells, with its results where the caller says. Assumes nothing.
 use borrow.Author.Needs.{needs}
 use borrow.Author.Tests.{eqb-true}
 use mathlib.Core.Bool.{Bool, true, false}
@@ -28,13 +28,13 @@ returns : tie.Need-returns
 returns c =
     let asked = c .before .before .before in
     let e : isDone (asked .check .result .answer) ≡ true = sym (c .before .before .is-done .ensures) ∙ c .before .if1 .taken in
-    rw (as-number (asked .check .result .yes)) (checked-done (start asked .args .result .now) (checks asked) e (eqb-true _ _ e))
+    rw (as-number (asked .check .result .yes)) (checked-done (start asked .args .result .now) (start asked .args .looked .now) (checks asked) e (eqb-true _ _ e))
 
 returns-2 : tie.Need-returns-2
 returns-2 c =
     let asked = c .before .before .before in
     let e : isDone (asked .check .result .answer) ≡ false = sym (c .before .before .is-done .ensures) ∙ c .before .if1 .left in
-    rw (c .number-of .ensures) (checked-refused (start asked .args .result .now) (checks asked) e)
+    rw (c .number-of .ensures) (checked-refused (start asked .args .result .now) (start asked .args .looked .now) (checks asked) e)
 
 pub marruskil-check-spec : {M : Type 1} → statement M
 marruskil-check-spec =

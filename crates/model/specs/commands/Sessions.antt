@@ -3,14 +3,15 @@ use mathlib.Core.Bool.{Bool, true, false, not, _&&_, _||_}
 use mathlib.Core.List.{List, [], _∷_}
 use Prim.Native.Nat.{ℕ, zero, suc}
 use lib.Dec.{eqb, leb}
-use Rattle.roleset.specs.Bounded.{bit}
+use lib.ListN.{length}
+use Rattle.roleset.specs.Bounded.{bit, members}
 use Rattle.roleset.specs.Roles.{has, with, without, common, subset, isEmpty}
 use Rattle.numbers.specs.Ranges.{sessions}
 use Rattle.model.specs.Model.{Model, Session, put, withSessions}
 use Rattle.model.specs.Model as model
 use Rattle.model.specs.Sheet.{Told, _when_, settle}
 use Rattle.model.specs.Words.{authorised, effective, dynamicBroken, permission, sessionsOpen}
-use Rattle.model.specs.Lists.{ascending, someFrom, setOf}
+use Rattle.model.specs.Lists.{ascending, someFrom, setOf, upToFirst}
 use Rattle.model.specs.commands.Naming.{userBeyond, roleBeyond, sessionBeyond, permissionBeyond, userMissing, roleMissing, sessionMissing}
 
 -- the first number from k on, among so many, that no live session has; the one past them where all are live
@@ -97,7 +98,12 @@ end m u s =
 unfoldable pub permitted : Model → ℕ → ℕ → Bool
 permitted m s p = not (isEmpty (common (effective m s) (m .holders p)))
 
--- "`check s op obj`: refusals 1 and 2, else answer 0 with the result 1 for yes or 0 for no."
+-- "the number of effective roles it looked at, taken in ascending order, up to and including the first that holds the grant, or all of them where none
+-- does" (request 10)
+unfoldable pub looked : Model → ℕ → ℕ → ℕ
+looked m s p = length (upToFirst (has (m .holders p)) (members 64 (has (effective m s))))
+
+-- "`check s op obj`: refusals 1 and 2, else answer 0 with the result 1 for yes or 0 for no"; "`check` now also gives the number" (request 10)
 unfoldable pub check : Model → ℕ → ℕ → ℕ → Told
 check m s op obj =
     settle
@@ -105,7 +111,7 @@ check m s op obj =
     ∷ 2 when sessionMissing m s
     ∷ [])
     m
-    (bit (permitted m s (permission op obj)) ∷ [])
+    (bit (permitted m s (permission op obj)) ∷ looked m s (permission op obj) ∷ [])
     m
 
 -- whose session s is; 1, 2
