@@ -168,11 +168,11 @@ module _ (m : Model) (s : Sound m) (k : ℕ) where
         let x = find f all all-ascending (g .role) (all-members (g .role) .1 (g .effective)) (g .holds) in
         record {
           role = x .0;
-          holder = record { effective = all-members (x .0) .0 (x .1 .member); holds = x .1 .passes; first = λ j e h. x .1 .first j (all-members j .1 e) h };
+          holder = record { effective = all-members (x .0) .0 (x .1 .member); holds = x .1 .passes; lowest = λ j e h. x .1 .first j (all-members j .1 e) h };
           number = record {
             list = upToFirst f all;
             ascending = up-to-ascending f all-ascending;
-            members = λ j. ((λ h. let q = up-to-members f all all-ascending (x .0) (x .1) j .0 h in (all-members j .0 (q .0), q .1)), λ q. up-to-members f all all-ascending (x .0) (x .1) j .1 (all-members j .1 (q .0), q .1));
+            members = λ j. ((λ h. let q = up-to-members f all all-ascending (x .0) (x .1) j .0 h in (all-members j .0 (q .0), omega (arith, q .1))), λ q. up-to-members f all all-ascending (x .0) (x .1) j .1 (all-members j .1 (q .0), omega (arith, q .1)));
             long = refl;
           };
         }
@@ -186,8 +186,8 @@ module _ (m : Model) (s : Sound m) (k : ℕ) where
     pub one-up-to : {n : ℕ} → LookedUpTo m k p n → looked m k p ≡ n
     one-up-to x =
         let y = looked-up-to (record { role = x .role; effective = x .holder .effective; holds = x .holder .holds }) in
-        let low : y .role ≤ x .role = y .holder .first (x .role) (x .holder .effective) (x .holder .holds) in
-        let high : x .role ≤ y .role = x .holder .first (y .role) (y .holder .effective) (y .holder .holds) in
+        let low : y .role ≤ x .role = y .holder .lowest (x .role) (x .holder .effective) (x .holder .holds) in
+        let high : x .role ≤ y .role = x .holder .lowest (y .role) (y .holder .effective) (y .holder .holds) in
         how-many-one (λ j q. (q .0, omega arith)) (λ j q. (q .0, omega arith)) (y .number) (x .number)
 
     pub one-at-all : {n : ℕ} → LookedAtAll m k p n → looked m k p ≡ n

@@ -280,10 +280,10 @@ pub record Granted (m : Model) (s p : ℕ) : Type 0 where
   pub holds : has (m .holders p) role ≡ true
 
 -- The first effective role of the session, "taken in ascending order", "that holds the grant": active or inherited alike.
-pub record FirstHolder (m : Model) (s p role : ℕ) : Type 0 where
-  pub effective : Effective m s role
-  pub holds : has (m .holders p) role ≡ true
-  pub first : (k : ℕ) → Effective m s k → has (m .holders p) k ≡ true → role ≤ k
+pub record FirstHolder (m : Model) (s p first : ℕ) : Type 0 where
+  pub effective : Effective m s first
+  pub holds : has (m .holders p) first ≡ true
+  pub lowest : (k : ℕ) → Effective m s k → has (m .holders p) k ≡ true → first ≤ k
 
 -- "the number of effective roles it looked at .. up to and including the first that holds the grant" (request 10)
 pub record LookedUpTo (m : Model) (s p n : ℕ) : Type 0 where

@@ -1,6 +1,6 @@
 -- The roles looked at are gone from the rest, and none of them holds the grant. Assumes nothing.
 use borrow.Author.Needs.{needs}
-use mathlib.Core.Bool.{true, false}
+use mathlib.Core.Bool.{Bool, true, false}
 use mathlib.Core.Path.{_≡_, refl, sym, ap, _∙_}
 use Prim.Native.Nat.{ℕ, suc, _+_, _^_, _≤_, _<_}
 use native.Mathlib.Omega.{arith}
@@ -9,6 +9,7 @@ use Rattle.roleset.specs.Promises.{Lowest}
 use Rattle.roleset.proofs.Laws.{without-small}
 use Rattle.roleset.proofs.Taking.{not-zero, Taken, lowest-taken}
 use Rattle.numbers.specs.declared.Answer.the-variants.{Done}
+use Rattle.checking.specs.declared.Checked.{Checked}
 use Rattle.checking.proofs.Looking.{found, seen, seen-most, seen-none, found-none, passed-seen, passed-found, held-seen, held-found}
 use Rattle.checking.proofs.look.Statement.{statement}
 use Rattle.checking.proofs.look.Tie as tie
@@ -35,19 +36,21 @@ taken c = lowest-taken (at c .loop .rest) (c .lowest .result) (at c .loop .inv .
 low : (c : tie.After-lowest Inv-loop μ-loop) → Lowest (at c .loop .rest) (c .lowest .result)
 low c = c .lowest .ensures .1 .0 (not-zero (at c .loop .rest) (at c .loop .inv .0) (c .before .loop-test .taken))
 
-add-looked : tie.Need-add-looked Inv-loop μ-loop
-add-looked c = omega (arith, at c .loop .inv .1, seen-most (start c .args .roles) (start c .args .holders))
+-- what is handed back is right where both of its parts are
+told : (said : Bool) (looked roles holders : ℕ) → said ≡ found roles holders → looked ≡ seen roles holders → _≡_ {A = Checked} (record { answer = Done; yes = said; looked = looked }) (record { answer = Done; yes = found roles holders; looked = seen roles holders })
+told said looked roles holders e f = λ i. record { answer = Done; yes = e i; looked = f i }
 
 -- yes: the lowest that is left holds the grant
 returns : tie.Need-returns Inv-loop μ-loop
 returns c =
     let here = c .before .before in
     let rest = at here .loop .rest in
+    let holders = start here .args .holders in
     let r = here .lowest .result in
-    let held : has (start here .args .holders) r ≡ true = sym (c .before .has .ensures) ∙ c .if1 .taken in
-    let yes : true ≡ found (start here .args .roles) (start here .args .holders) = sym (held-found rest r (start here .args .holders) (taken here .small) (low here) held) ∙ at here .loop .inv .2 in
-    let looked : at here .loop .looked + 1 ≡ seen (start here .args .roles) (start here .args .holders) = omega (arith, held-seen rest r (start here .args .holders) (taken here .small) (low here) held, at here .loop .inv .1) in
-    λ i. record { answer = Done; yes = yes i; looked = looked i }
+    let held : has holders r ≡ true = sym (c .before .has .ensures) ∙ c .if1 .taken in
+    told _ _ _ _
+    (sym (held-found rest r holders (taken here .small) (low here) held) ∙ at here .loop .inv .2)
+    (omega (arith, held-seen rest r holders (taken here .small) (low here) held, at here .loop .inv .1))
 
 -- not this one: it is dropped
 loop-less : tie.Need-loop-less Inv-loop μ-loop
@@ -69,11 +72,14 @@ loop-again c =
 returns-2 : tie.Need-returns-2 Inv-loop μ-loop
 returns-2 c =
     let loop = c .before .loop in
-    let args = c .before .before .args in
+    let holders = c .before .before .args .holders in
     let none : loop .rest ≡ 0 = omega arith in
-    let no : false ≡ found (args .roles) (args .holders) = sym (ap (λ (s : ℕ). found s (args .holders)) none ∙ found-none (args .holders)) ∙ loop .inv .2 in
-    let looked : loop .looked ≡ seen (args .roles) (args .holders) = omega (arith, ap (λ (s : ℕ). seen s (args .holders)) none, seen-none (args .holders), loop .inv .1) in
-    λ i. record { answer = Done; yes = no i; looked = looked i }
+    told _ _ _ _
+    (sym (ap (λ (s : ℕ). found s holders) none ∙ found-none holders) ∙ loop .inv .2)
+    (omega (arith, ap (λ (s : ℕ). seen s holders) none, seen-none holders, loop .inv .1))
+
+add-looked : tie.Need-add-looked Inv-loop μ-loop
+add-looked c = omega (arith, at c .loop .inv .1, seen-most (start c .args .roles) (start c .args .holders))
 
 pub look-spec : {M : Type 1} → statement M
 look-spec =

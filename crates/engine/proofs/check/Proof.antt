@@ -3,6 +3,7 @@ use borrow.Author.Needs.{needs}
 use borrow.Author.Tests.{not-true, not-false}
 use mathlib.Core.Bool.{true}
 use mathlib.Core.Path.{_≡_, sym, _∙_}
+use native.Mathlib.Omega.{arith}
 use Rattle.model.specs.Questions.{ask}
 use Rattle.state.specs.Results.{isDone}
 use Rattle.engine.proofs.Asking.{check-refused, check-short, check-done}
@@ -19,11 +20,11 @@ returns c = check-refused _ _ _ _ (c .before .before .check .ensures .tells) (sy
 
 returns-2 : tie.Need-returns-2
 unfolding ask
-returns-2 c = check-short _ _ (c .before .before .before .check .result) _ (c .before .before .before .check .ensures .tells) (answered (c .before)) (c .if2 .taken)
+returns-2 c = check-short _ _ (c .before .before .before .check .result) _ (c .before .before .before .check .ensures .tells) (answered (c .before)) (omega (arith, c .if2 .taken))
 
 returns-3 : tie.Need-returns-3
 unfolding ask
-returns-3 c = let at = c .before .before in check-done _ _ (at .before .before .check .result) _ (at .before .before .check .ensures .tells) (answered at) (c .before .if2 .left)
+returns-3 c = let at = c .before .before in check-done _ _ (at .before .before .check .result) _ (at .before .before .check .ensures .tells) (answered at) (omega (arith, c .before .if2 .left))
 
 pub check-spec : {M : Type 1} → statement M
 check-spec =
