@@ -1,6 +1,6 @@
 -- The lowest role of a set is looked at, and dropped: what was found and how many are left to look at. Assumes nothing.
 use mathlib.Core.Bool.{Bool, true, false, not, _&&_, and-false, and-true}
-use mathlib.Core.List.{List, [], _∷_}
+use mathlib.Core.List.{List, _∷_}
 use mathlib.Core.Path.{_≡_, sym, ap, _∙_}
 use Prim.Native.Nat.{ℕ, suc, _≤_, _<_}
 use native.Mathlib.Decide.{ℕ-discrete}

@@ -1,26 +1,24 @@
 -- Demand 2 holds. Assumes nothing.
 use mathlib.Core.Bool.{Bool, true, false}
-use mathlib.Core.List.{List, [], _∷_, List·Memᴰ·head, List·Memᴰ·tail, List·Memᴰ·not-nil, Memᴰ·cast}
+use mathlib.Core.List.{List, [], _∷_}
 use mathlib.Core.Logic.{_⊎_, inl, inr, _↔_}
 use mathlib.Core.Path.{_≡_, refl, sym, ap, subst, _∙_}
-use Prim.Native.Nat.{ℕ, _≤_}
+use Prim.Native.Nat.{ℕ}
 use native.Mathlib.Decide.{ℕ-discrete}
 use native.Mathlib.Omega.{arith}
-use lib.Dec.{eqb}
 use lib.ListN.{length}
-use borrow.Author.Tests.{eqb-true}
 use Rattle.roleset.specs.Bounded.{bit}
 use Rattle.roleset.specs.Roles.{has}
 use Rattle.roleset.proofs.BoundedLaws.{clash, never}
 use Rattle.model.specs.Model.{Model}
-use Rattle.model.specs.Sheet.{Refusal, _when_, Told, verdict, settle}
+use Rattle.model.specs.Sheet.{Refusal, Told, settle}
 use Rattle.model.specs.Sound.{Sound}
 use Rattle.model.specs.Step.{step}
 use Rattle.model.specs.Words.{effective, permission}
 use Rattle.model.specs.commands.Sessions.{permitted, looked, check}
-use Rattle.sound.proofs.Sheet.{AllClear, rank, positive, ordered, clear-done, done-clear, verdict-here, verdict-later, verdict-lowest, settle-answer, settle-done, settle-refused, settle-same}
+use Rattle.sound.proofs.Sheet.{positive, ordered, settle-same}
 use Rattle.sound.proofs.Words.{permitted-exact}
-use Rattle.demands.specs.Demand2.{Demand2, Exactly, Obeys, Answers, Applies, FirstToApply, place, refusals, results, effect, checkRefusals, Checked, Granted, LookedUpTo, LookedAtAll}
+use Rattle.demands.specs.Demand2.{Demand2, Exactly, Obeys, Answers, refusals, results, effect, checkRefusals, Checked, Granted, LookedUpTo, LookedAtAll}
 use Rattle.demands.proofs.Commands.{shown}
 use Rattle.demands.proofs.Exact.{exact}
 use Rattle.demands.proofs.Kept.{reachable-sound}

@@ -3,7 +3,7 @@ use mathlib.Core.Bool.{Bool, true, false}
 use mathlib.Core.List.{List, [], _∷_, List·Memᴰ, List·Memᴰ·head, List·Memᴰ·tail, List·Memᴰ·not-nil, List·Memᴰ·cases-cons}
 use mathlib.Core.Logic.{_⊎_, inl, inr, _↔_}
 use mathlib.Core.Path.{_≡_, refl, sym, ap, _∙_}
-use Prim.Native.Nat.{ℕ, suc, _≤_, _<_}
+use Prim.Native.Nat.{ℕ, _≤_}
 use native.Mathlib.Omega.{arith}
 use lib.ListN.{length}
 use Rattle.roleset.specs.Bounded.{members}
@@ -20,7 +20,7 @@ use Rattle.model.proofs.Looking.{up-to-first-most}
 use Rattle.sound.proofs.Words.{effective-exact}
 use Rattle.reviews.proofs.ListLaws.{listed-member, member-listed, members-ascending}
 use Rattle.demands.specs.Authorised.{InOrBelow, Effective}
-use Rattle.demands.specs.Demand2.{Granted, FirstHolder, LookedUpTo, LookedAtAll}
+use Rattle.demands.specs.Demand2.{Granted, LookedUpTo, LookedAtAll}
 use Rattle.demands.specs.Many.{Ascending, empty, single, rises, HowMany}
 use Rattle.demands.proofs.Lists.{member, ascends, first-least, later-ascending, least-first, one-list}
 

@@ -7,7 +7,7 @@ use Rattle.roleset.specs.Bounded.{bit, members}
 use Rattle.roleset.specs.Roles.{has, common, minus}
 use Rattle.model.specs.Lists.{upToFirst}
 use Rattle.model.specs.Model.{Model, empty}
-use Rattle.model.specs.Sheet.{Told, done, refused}
+use Rattle.model.specs.Sheet.{done, refused}
 use Rattle.model.specs.Words.{effective, permission}
 use Rattle.model.specs.commands.Sessions.{permitted, looked}
 use Rattle.model.specs.declared.Command.the-variants.{AddUser, AddRole, Assign, Grant, Inherit, OpenSession}
