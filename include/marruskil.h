@@ -40,7 +40,7 @@ size_t marruskil_obey(marruskil_state *state, const char *line, size_t length, c
 /* May the session do the operation on the object? Yes exactly when some effective role of the session holds the grant.
    Gives the answer number: 0, with `*result` 1 for yes or 0 for no, and `*looked` the number of effective roles looked at, at most 64: in ascending
    order up to and including the first that holds the grant, or all of them where none does; 1 where a number is beyond its range, 2 where the
-   session does not exist. A refusal leaves both as they were, so set `*result` to 0 before. Neither may be NULL. Nothing is copied. */
+   session does not exist. A refusal leaves both as they were, so set both to 0 before. Neither may be NULL. Nothing is copied. */
 uint16_t marruskil_check(const marruskil_state *state, uint64_t session, uint64_t operation, uint64_t object, uint8_t *result, uint16_t *looked);
 
 /* Loads a policy file, any bytes. Gives the answer number: 0, and the policy and sessions are replaced whole; 14 where the bytes are not of the form;

@@ -4,8 +4,8 @@
     tests/pages.py PROGRAM..     the command that answers a script (tests/pages.sh says which)
 
 - docs/COMMANDS.md: its words and how many numbers each takes with crates/words/specs/ScriptWords; what each number is with crates/model/src/lib.rt;
-  the refusals of the commands with crates/demands/specs/Demand2, of the questions with crates/model/specs/Questions; the ranges with
-  crates/numbers/specs/Ranges.
+  the refusals of the commands and of `check` with crates/demands/specs/Demand2, of the other questions with crates/model/specs/Questions; the ranges
+  with crates/numbers/specs/Ranges.
 - docs/ANSWERS.md: the numbers and sentences with crates/numbers/specs/Answers; which words can give each with the refusals above.
 - docs/STORY.md: its lines with examples/story.script; its sentences with the comments above the statements that it names.
 - Every example line of these pages, and every exercise, is run and its answer compared.
@@ -115,7 +115,8 @@ def refusals_of_questions():
     holds("crates/model/specs/Questions: a review has other refusals than 1, 2 and 15", shape in text)
     check = block(read("crates/demands/specs/Demand2.antt"), r"\ncheckRefusals m .*?=", r"\n")
     own = read("crates/unique/specs/OwnCalls.antt")
-    holds("crates/unique/specs/OwnCalls: it does not say when `check`, asked through `ask`, is 15", "pub two-places : " in own and "≡ 15) ↔ " in own)
+    short = r"pub two-places : .*\n.*≡ 15\) ↔ \(.*× \(length \(c \.given [.0-9 ]*\.now\) < 2\)\)\n"
+    holds("crates/unique/specs/OwnCalls: it does not say that `check`, asked through `ask`, is 15 with fewer than two places", re.search(short, own))
     found = {"Check": sorted(map(int, re.findall(r"(\d+) when ", check))) + [15]}
     for name, conditions in re.findall(r"^ask m room \((\w+)[^)]*\) = review m room (.*)$", text, re.M):
         beyond, missing = re.match(r"(never|\([^()]*(?:\([^()]*\)[^()]*)*\)) (never|\([^()]*(?:\([^()]*\)[^()]*)*\)) ", conditions).groups()

@@ -166,7 +166,7 @@ const TABLES: [(usize, &str, &str); 4] = [
 ];
 
 /// The events of other counts, with the row that each belongs to.
-fn other_counts() -> impl Iterator<Item = (&'static str, &'static str)> {
+fn events_of_other_counts() -> impl Iterator<Item = (&'static str, &'static str)> {
     dynamic::events().chain(checks::events())
 }
 
@@ -368,7 +368,7 @@ impl Tally {
         let not_listed =
             found.difference(&wanted).map(|(row, answer)| format!("CAME UP, BUT IS NOT LISTED: {row}: answer {answer}"));
         let events = EVENTS.iter().filter(|event| !self.events.contains_key(*event)).map(|event| format!("NEVER CAME UP: {event}"));
-        let counts = other_counts().filter(|event| !self.other_counts.contains_key(event));
+        let counts = events_of_other_counts().filter(|event| !self.other_counts.contains_key(event));
         let counts = counts.map(|(row, event)| format!("NEVER CAME UP: {row}: {event}"));
         never.chain(not_listed).chain(events).chain(counts).collect()
     }
@@ -392,7 +392,7 @@ impl Tally {
         for event in EVENTS {
             println!("{:>7}  {event}", self.events.get(event).unwrap_or(&0));
         }
-        for (row, event) in other_counts() {
+        for (row, event) in events_of_other_counts() {
             println!("{:>7}  {row}: {event}", self.other_counts.get(&(row, event)).unwrap_or(&0));
         }
         println!();

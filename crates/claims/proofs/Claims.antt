@@ -23,6 +23,7 @@ use Rattle.wordsheet.proofs.WordSheet.{word-sheet}
 use Rattle.edges.proofs.Edges.{edges}
 use Rattle.edges.proofs.FullTables.{full-tables}
 use Rattle.edges.proofs.LongestChain.{longest-chain}
+use Rattle.edges.proofs.MostLooked.{most-looked}
 use Rattle.edges.proofs.LongScripts.{long-scripts}
 use Rattle.benchsheet.proofs.BenchSheet.{bench-sheet}
 use Rattle.misreadings.proofs.Bench.{inherited-grant}
@@ -104,6 +105,7 @@ claims =
       edges = edges;
       full-tables = full-tables;
       longest-chain = longest-chain;
+      most-looked = most-looked;
       long-scripts = long-scripts;
       story = story-holds;
       leaver = leaver-holds;

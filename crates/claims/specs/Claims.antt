@@ -33,6 +33,7 @@ use Rattle.wordsheet.specs.WordSheet.{WordSheet}
 use Rattle.edges.specs.Edges.{Edges}
 use Rattle.edges.specs.FullTables.{FullTables}
 use Rattle.edges.specs.LongestChain.{LongestChain}
+use Rattle.edges.specs.MostLooked.{MostLooked}
 use Rattle.edges.specs.LongScripts.{LongScripts}
 use Rattle.benchsheet.specs.BenchSheet.{Bench}
 use Rattle.misreadings.specs.Readings.{examples, answered, expected, InheritedGrant, WrongRules}
@@ -121,6 +122,7 @@ pub record Claims : Type 0 where
   pub edges : Edges
   pub full-tables : FullTables
   pub longest-chain : LongestChain
+  pub most-looked : MostLooked
   pub long-scripts : LongScripts
   pub story : Story
   pub leaver : Leaver

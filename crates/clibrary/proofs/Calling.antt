@@ -101,13 +101,13 @@ module _ (m : Model) (s op obj : ℕ) where
 
 -- ---- a result where the caller says
 
-pub checked-done : {m : Model} {told : Told} {x : Checked} (before seen : ℕ) → Checks m told x → isDone (x .answer) ≡ true → numberOf (x .answer) ≡ 0 → ChecksAt told before (bit (x .yes)) seen (x .looked) 0
+pub checked-done : {m : Model} {told : Told} {x : Checked} (before lookedBefore : ℕ) → Checks m told x → isDone (x .answer) ≡ true → numberOf (x .answer) ≡ 0 → ChecksAt told before (bit (x .yes)) lookedBefore (x .looked) 0
 unfolding toldChecked
-checked-done before seen p e z = rw (← p .tells) (record { answered = sym z; result = rw e; looked = rw e })
+checked-done before lookedBefore p e z = rw (← p .tells) (record { answered = sym z; result = rw e; looked = rw e })
 
-pub checked-refused : {m : Model} {told : Told} {x : Checked} (before seen : ℕ) → Checks m told x → isDone (x .answer) ≡ false → ChecksAt told before before seen seen (numberOf (x .answer))
+pub checked-refused : {m : Model} {told : Told} {x : Checked} (before lookedBefore : ℕ) → Checks m told x → isDone (x .answer) ≡ false → ChecksAt told before before lookedBefore lookedBefore (numberOf (x .answer))
 unfolding toldChecked
-checked-refused before seen p e = rw (← p .tells) (record { answered = refl; result = rw e; looked = rw e })
+checked-refused before lookedBefore p e = rw (← p .tells) (record { answered = refl; result = rw e; looked = rw e })
 
 pub saved-done : {m : Model} {out after : List ℕ} {a n : ℕ} (before : ℕ) → Saves m out after a n → a ≡ 0 → SavesAt m out after before n 0
 saved-done before (inl p) z = absurd (omega (arith, p .answered))

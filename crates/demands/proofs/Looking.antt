@@ -3,7 +3,7 @@ use mathlib.Core.Bool.{Bool, true, false}
 use mathlib.Core.List.{List, [], _∷_, List·Memᴰ, List·Memᴰ·head, List·Memᴰ·tail, List·Memᴰ·not-nil, List·Memᴰ·cases-cons}
 use mathlib.Core.Logic.{_⊎_, inl, inr, _↔_}
 use mathlib.Core.Path.{_≡_, refl, sym, ap, _∙_}
-use Prim.Native.Nat.{ℕ, _≤_}
+use Prim.Native.Nat.{ℕ, _^_, _≤_, _<_}
 use native.Mathlib.Omega.{arith}
 use lib.ListN.{length}
 use Rattle.roleset.specs.Bounded.{members}
@@ -11,6 +11,7 @@ use Rattle.roleset.specs.Roles.{has}
 use Rattle.roleset.proofs.BoundedLaws.{clash, never}
 use Rattle.roleset.proofs.Laws.{member-small}
 use Rattle.roleset.proofs.MembersLaws.{members-most}
+use Rattle.hierarchy.proofs.WalkLaws.{reach-small}
 use Rattle.model.specs.Lists.{upToFirst}
 use Rattle.model.specs.Model.{Model}
 use Rattle.model.specs.Sound.{Sound}
@@ -67,50 +68,38 @@ module _ (f : ℕ → Bool) where
               rest j q (inl s) g = clash (f j) q (ap f s ∙ p)
               rest j q (inr s) g = g s q
 
-  -- in the list up to the first stand those that are not above it
-  up-to-members : (l : List ℕ) → Ascending l → (r : ℕ) → First l r → (k : ℕ) → List·Memᴰ k (upToFirst f l) ↔ (List·Memᴰ k l × (k ≤ r))
+  -- in the list up to the first stand those that are above none that passes
+  up-to-members : (l : List ℕ) → Ascending l → (k : ℕ) → List·Memᴰ k (upToFirst f l) ↔ (List·Memᴰ k l × ((r : ℕ) → List·Memᴰ r l → f r ≡ true → k ≤ r))
   unfolding upToFirst
-  up-to-members [] order r x k = absurd (List·Memᴰ·not-nil (x .member))
-  up-to-members (a ∷ l) order r x k = go (f a) refl (up-to-members l (later-ascending order) r)
+  up-to-members [] order k = ((λ h. absurd (List·Memᴰ·not-nil h)), λ q. absurd (List·Memᴰ·not-nil (q .0)))
+  up-to-members (a ∷ l) order k = go (f a) refl (up-to-members l (later-ascending order) k)
     where
-      go : (b : Bool) → f a ≡ b → (First l r → (j : ℕ) → List·Memᴰ j (upToFirst f l) ↔ (List·Memᴰ j l × (j ≤ r))) → List·Memᴰ k (a ∷ elim b as (λ _. List ℕ) [ true ↦ [] | false ↦ upToFirst f l ]) ↔ (List·Memᴰ k (a ∷ l) × (k ≤ r))
-      go true p ih = ((λ h. here (List·Memᴰ·cases-cons h)), λ q. back (q .1) (List·Memᴰ·cases-cons (q .0)))
+      lowest : (r : ℕ) → List·Memᴰ r (a ∷ l) → a ≤ r
+      lowest r h = least-first order h
+
+      go : (b : Bool) → f a ≡ b → List·Memᴰ k (upToFirst f l) ↔ (List·Memᴰ k l × ((r : ℕ) → List·Memᴰ r l → f r ≡ true → k ≤ r)) → List·Memᴰ k (a ∷ elim b as (λ _. List ℕ) [ true ↦ [] | false ↦ upToFirst f l ]) ↔ (List·Memᴰ k (a ∷ l) × ((r : ℕ) → List·Memᴰ r (a ∷ l) → f r ≡ true → k ≤ r))
+      go true p ih = ((λ h. here (List·Memᴰ·cases-cons h)), λ q. back (q .1 a (List·Memᴰ·head refl) p) (List·Memᴰ·cases-cons (q .0)))
         where
-          low : a ≤ r
-          low = least-first order (x .member)
-
-          high : r ≤ a
-          high = x .first a (List·Memᴰ·head refl) p
-
-          here : (k ≡ a) ⊎ List·Memᴰ k [] → List·Memᴰ k (a ∷ l) × (k ≤ r)
-          here (inl e) = (List·Memᴰ·head e, omega (arith, low))
+          here : (k ≡ a) ⊎ List·Memᴰ k [] → List·Memᴰ k (a ∷ l) × ((r : ℕ) → List·Memᴰ r (a ∷ l) → f r ≡ true → k ≤ r)
+          here (inl e) = (List·Memᴰ·head e, λ r h q. omega (arith, e, lowest r h))
           here (inr h) = absurd (List·Memᴰ·not-nil h)
 
-          back : k ≤ r → (k ≡ a) ⊎ List·Memᴰ k l → List·Memᴰ k (a ∷ [])
+          back : k ≤ a → (k ≡ a) ⊎ List·Memᴰ k l → List·Memᴰ k (a ∷ [])
           back h (inl e) = List·Memᴰ·head e
-          back h (inr i) = absurd (let z = first-least order k i in omega (arith, high))
+          back h (inr i) = absurd (let z = first-least order k i in omega arith)
       go false p ih = ((λ h. here (List·Memᴰ·cases-cons h)), λ q. back (q .1) (List·Memᴰ·cases-cons (q .0)))
         where
-          stands : (r ≡ a) ⊎ List·Memᴰ r l → List·Memᴰ r l
-          stands (inl e) = clash (f r) (x .passes) (ap f e ∙ p)
-          stands (inr i) = i
+          later : ((r : ℕ) → List·Memᴰ r l → f r ≡ true → k ≤ r) → (r : ℕ) → f r ≡ true → (r ≡ a) ⊎ List·Memᴰ r l → k ≤ r
+          later g r q (inl e) = clash (f r) q (ap f e ∙ p)
+          later g r q (inr i) = g r i q
 
-          deeper : First l r
-          deeper = record { member = stands (List·Memᴰ·cases-cons (x .member)); passes = x .passes; first = λ j i. x .first j (List·Memᴰ·tail i) }
+          here : (k ≡ a) ⊎ List·Memᴰ k (upToFirst f l) → List·Memᴰ k (a ∷ l) × ((r : ℕ) → List·Memᴰ r (a ∷ l) → f r ≡ true → k ≤ r)
+          here (inl e) = (List·Memᴰ·head e, λ r h q. omega (arith, e, lowest r h))
+          here (inr h) = let q = ih .0 h in (List·Memᴰ·tail (q .0), λ r i e. later (q .1) r e (List·Memᴰ·cases-cons i))
 
-          here : (k ≡ a) ⊎ List·Memᴰ k (upToFirst f l) → List·Memᴰ k (a ∷ l) × (k ≤ r)
-          here (inl e) = (List·Memᴰ·head e, let z = least-first order (x .member) in omega arith)
-          here (inr h) = let q = ih deeper k .0 h in (List·Memᴰ·tail (q .0), q .1)
-
-          back : k ≤ r → (k ≡ a) ⊎ List·Memᴰ k l → List·Memᴰ k (a ∷ upToFirst f l)
-          back h (inl e) = List·Memᴰ·head e
-          back h (inr i) = List·Memᴰ·tail (ih deeper k .1 (i, h))
-
-  -- where none passes it is the whole
-  up-to-all : (l : List ℕ) → ((k : ℕ) → List·Memᴰ k l → f k ≡ false) → upToFirst f l ≡ l
-  unfolding upToFirst
-  up-to-all [] h = refl
-  up-to-all (a ∷ l) h = rw (h a (List·Memᴰ·head refl), up-to-all l (λ k i. h k (List·Memᴰ·tail i)))
+          back : ((r : ℕ) → List·Memᴰ r (a ∷ l) → f r ≡ true → k ≤ r) → (k ≡ a) ⊎ List·Memᴰ k l → List·Memᴰ k (a ∷ upToFirst f l)
+          back g (inl e) = List·Memᴰ·head e
+          back g (inr i) = List·Memᴰ·tail (ih .1 (i, λ r h. g r (List·Memᴰ·tail h)))
 
   -- only that of the empty list is empty
   up-to-empty : (l : List ℕ) → length (upToFirst f l) ≡ 0 → (k : ℕ) → List·Memᴰ k l → ⊥
@@ -127,6 +116,46 @@ module _ (f : ℕ → Bool) where
 pub how-many-one : {P Q : ℕ → Type 0} {n k : ℕ} → ((j : ℕ) → P j → Q j) → ((j : ℕ) → Q j → P j) → HowMany P n → HowMany Q k → n ≡ k
 how-many-one to back x y = sym (x .long) ∙ ap length (one-list (x .list) (y .list) (x .ascending) (y .ascending) (λ j h. y .members j .1 (to j (x .members j .0 h))) (λ j h. x .members j .1 (back j (y .members j .0 h)))) ∙ y .long
 
+-- ---- the roles of a set, stated as P, up to the first that is among the holders
+
+module _ (set holders : ℕ) (small : set < 2 ^ 64) {P : ℕ → Type 0} (stated : (q : ℕ) → (has set q ≡ true) ↔ P q) where
+  all : List ℕ
+  all = members 64 (has set)
+
+  ascending : Ascending all
+  unfolding all
+  ascending = ascends all .0 (members-ascending 64 (has set))
+
+  listed : (q : ℕ) → List·Memᴰ q all ↔ P q
+  unfolding all
+  listed q = ((λ h. stated q .0 (listed-member 64 (has set) q (member all q .1 h) .1)), λ a. member all q .0 (let h = stated q .1 a in member-listed 64 (has set) q (member-small set q small h) h))
+
+  abbrev number : ℕ
+  number = length (upToFirst (has holders) (members 64 (has set)))
+
+  -- as many as are above no holder
+  pub how-far : HowMany (λ k. P k × ((r : ℕ) → P r → has holders r ≡ true → k ≤ r)) number
+  unfolding all
+  how-far = record { list = upToFirst (has holders) all; ascending = up-to-ascending (has holders) ascending; members = each; long = refl }
+    where
+      each : (k : ℕ) → List·Memᴰ k (upToFirst (has holders) all) ↔ (P k × ((r : ℕ) → P r → has holders r ≡ true → k ≤ r))
+      each k = (
+        (λ h. let q = up-to-members (has holders) all ascending k .0 h in (listed k .0 (q .0), λ r p e. q .1 r (listed r .1 p) e)),
+        λ q. up-to-members (has holders) all ascending k .1 (listed k .1 (q .0), λ r h e. q .1 r (listed r .0 h) e),
+      )
+
+  pub at-most-64 : number ≤ 64
+  at-most-64 = omega (arith, up-to-first-most (has holders) (members 64 (has set)), members-most 64 (has set))
+
+  -- where one is a holder there is a first
+  pub first-holder : (k : ℕ) → P k → has holders k ≡ true → (r : ℕ) × P r × (has holders r ≡ true) × ((j : ℕ) → P j → has holders j ≡ true → r ≤ j)
+  first-holder k p e = let x = find (has holders) all ascending k (listed k .1 p) e in (x .0, listed (x .0) .0 (x .1 .member), x .1 .passes, λ j q h. x .1 .first j (listed j .1 q) h)
+
+  -- none is looked at exactly where there is none
+  pub none-there : (number ≡ 0) ↔ ((k : ℕ) → P k → ⊥)
+  unfolding all
+  none-there = ((λ e k p. up-to-empty (has holders) all e k (listed k .1 p)), λ h. up-to-nothing (has holders) all (λ k i. h k (listed k .0 i)))
+
 -- ---- the effective roles of a session
 
 module _ (m : Model) (s : Sound m) (k : ℕ) where
@@ -137,50 +166,52 @@ module _ (m : Model) (s : Sound m) (k : ℕ) where
   pub effective-met : (q : ℕ) → Effective m k q → has (effective m k) q ≡ true
   effective-met q a = effective-exact m s k q .1 (a .exists, a .through)
 
-  all : List ℕ
-  all = members 64 (has (effective m k))
+  effective-stated : (q : ℕ) → (has (effective m k) q ≡ true) ↔ Effective m k q
+  effective-stated q = (effective-to q, effective-met q)
 
-  all-ascending : Ascending all
-  unfolding all
-  all-ascending = ascends (members 64 (has (effective m k))) .0 (members-ascending 64 (has (effective m k)))
+  effective-small : effective m k < 2 ^ 64
+  effective-small = reach-small (m .juniors) (m .sessions k .active)
 
-  all-members : (q : ℕ) → List·Memᴰ q all ↔ Effective m k q
-  unfolding all
-  all-members q = (
-    (λ h. effective-to q (listed-member 64 (has (effective m k)) q (member all q .1 h) .1)),
-    λ a. member all q .0 (member-listed 64 (has (effective m k)) q (member-small (m .roles) q (s .shape .roles) (a .exists)) (effective-met q a)),
-  )
-
-  -- ---- how many of them are looked at for a permission
-
+  -- how many of them are looked at for a permission
   module _ (p : ℕ) where
-    f : ℕ → Bool
-    f = has (m .holders p)
-
     pub looked-most : looked m k p ≤ 64
     unfolding looked
-    looked-most = omega (arith, up-to-first-most (has (m .holders p)) (members 64 (has (effective m k))), members-most 64 (has (effective m k)))
+    looked-most = at-most-64 (effective m k) (m .holders p) effective-small effective-stated
+
+    seen : HowMany (λ j. Effective m k j × ((r : ℕ) → Effective m k r → has (m .holders p) r ≡ true → j ≤ r)) (looked m k p)
+    unfolding looked
+    seen = how-far (effective m k) (m .holders p) effective-small effective-stated
 
     -- on yes
     pub looked-up-to : Granted m k p → LookedUpTo m k p (looked m k p)
-    unfolding looked all f
     looked-up-to g =
-        let x = find f all all-ascending (g .role) (all-members (g .role) .1 (g .effective)) (g .holds) in
+        let x = first-holder (effective m k) (m .holders p) effective-small effective-stated (g .role) (g .effective) (g .holds) in
         record {
           role = x .0;
-          holder = record { effective = all-members (x .0) .0 (x .1 .member); holds = x .1 .passes; lowest = λ j e h. x .1 .first j (all-members j .1 e) h };
+          holder = record { effective = x .1; holds = x .2; lowest = x .3 };
           number = record {
-            list = upToFirst f all;
-            ascending = up-to-ascending f all-ascending;
-            members = λ j. ((λ h. let q = up-to-members f all all-ascending (x .0) (x .1) j .0 h in (all-members j .0 (q .0), omega (arith, q .1))), λ q. up-to-members f all all-ascending (x .0) (x .1) j .1 (all-members j .1 (q .0), omega (arith, q .1)));
-            long = refl;
+            list = seen .list;
+            ascending = seen .ascending;
+            members = λ j. (
+              (λ h. let q = seen .members j .0 h in let low = q .1 (x .0) (x .1) (x .2) in (q .0, omega (arith, low))),
+              λ q. seen .members j .1 (q .0, λ r e h. let low = x .3 r e h in omega (arith, low, q .1)),
+            );
+            long = seen .long;
           };
         }
 
     -- on no
     pub looked-at-all : (Granted m k p → ⊥) → LookedAtAll m k p (looked m k p)
-    unfolding looked all f
-    looked-at-all none = record { none = none; number = record { list = all; ascending = all-ascending; members = all-members; long = sym (ap length (up-to-all f all (λ j h. never (f j) (λ e. none (record { role = j; effective = all-members j .0 h; holds = e }))))) } }
+    looked-at-all none =
+        record {
+          none = none;
+          number = record {
+            list = seen .list;
+            ascending = seen .ascending;
+            members = λ j. ((λ h. seen .members j .0 h .0), λ q. seen .members j .1 (q, λ r e h. absurd (none (record { role = r; effective = e; holds = h }))));
+            long = seen .long;
+          };
+        }
 
     -- the number is the only one so stated
     pub one-up-to : {n : ℕ} → LookedUpTo m k p n → looked m k p ≡ n
@@ -195,11 +226,10 @@ module _ (m : Model) (s : Sound m) (k : ℕ) where
 
     -- none is looked at exactly where none is active
     pub looked-none : (looked m k p ≡ 0) ↔ ((r : ℕ) → has (m .sessions k .active) r ≡ false)
-    unfolding looked all f
-    looked-none = (
-      (λ e r. never (has (m .sessions k .active) r) (λ h. up-to-empty f all e r (all-members r .1 (record { exists = s .shape .sessions k .active .exist r h; through = inl h })))),
-      λ h. up-to-nothing f all (λ j i. idle h (all-members j .0 i .through)),
-    )
+    unfolding looked
+    looked-none =
+        let none = none-there (effective m k) (m .holders p) effective-small effective-stated in
+        ((λ e r. never (has (m .sessions k .active) r) (λ h. none .0 e r (record { exists = s .shape .sessions k .active .exist r h; through = inl h }))), λ h. none .1 (λ j e. idle h (e .through)))
       where
         idle : ((r : ℕ) → has (m .sessions k .active) r ≡ false) → {j : ℕ} → InOrBelow m (m .sessions k .active) j → ⊥
         idle h {j} (inl e) = clash (has (m .sessions k .active) j) e (h j)

@@ -20,11 +20,11 @@ use Rattle.demands.specs.Reachable.{Reachable, start, after}
 use Rattle.edges.specs.LongestChain.{LongestChain}
 
 -- the policy after n commands, from the k-th on
-after-all : (ℕ → Command) → ℕ → ℕ → Model → Model
+unfoldable pub after-all : (ℕ → Command) → ℕ → ℕ → Model → Model
 after-all c k zero m = m
 after-all c k (suc n) m = after-all c (suc k) n (step m (c k) [] .after)
 
-reached-all : (c : ℕ → Command) (k n : ℕ) (m : Model) → Reachable m → Reachable (after-all c k n m)
+pub reached-all : (c : ℕ → Command) (k n : ℕ) (m : Model) → Reachable m → Reachable (after-all c k n m)
 unfolding after-all
 reached-all c k zero m p = p
 reached-all c k (suc n) m p = reached-all c (suc k) n (step m (c k) [] .after) (after p (c k) [])
@@ -39,7 +39,7 @@ unfolding linked
 linked-chain lines zero s e = alone
 linked-chain lines (suc n) s e = down (and-left (line lines s (suc s)) (linked lines n (suc s)) e) (linked-chain lines n (suc s) (and-right (line lines s (suc s)) (linked lines n (suc s)) e))
 
-all-roles : Model
+unfoldable pub all-roles : Model
 all-roles = after-all (λ k. AddRole (record { number = k })) 0 64 empty
 
 chained : Model

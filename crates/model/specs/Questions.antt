@@ -1,5 +1,5 @@
 -- The questions: who is in each list, and how each is refused. "Reviews give ascending lists with no repeats." Assumes nothing.
-use mathlib.Core.Bool.{Bool, true, false, not, _||_}
+use mathlib.Core.Bool.{Bool, false, not, _||_}
 use mathlib.Core.List.{List, [], _∷_}
 use Prim.Native.Nat.{ℕ, _%_}
 use lib.Dec.{leb, ltb}
@@ -73,23 +73,6 @@ unfoldable pub setCount : Kind → Model → ℕ → List ℕ
 setCount kind m name = (setsOf kind m name .card % 65536) ∷ []
 
 -- ---- each question, with its refusals: 1, 2, 15
-
--- every question but `check` is a review
-unfoldable pub isReview : Question → Bool
-isReview (Check s op obj) = false
-isReview (AssignedUsers r) = true
-isReview (AssignedRoles u) = true
-isReview (AuthUsers r) = true
-isReview (AuthRoles u) = true
-isReview (RolePerms r) = true
-isReview (UserPerms u) = true
-isReview (SessionRoles s) = true
-isReview (SessionPerms s) = true
-isReview (RoleOps r obj) = true
-isReview (UserOps u obj) = true
-isReview (Sets kind) = true
-isReview (SetRoles kind name) = true
-isReview (SetCount kind name) = true
 
 -- A review: refused with 1 where a number is beyond its range, with 2 where what it names does not exist, with 15 where "the
 -- lent output buffer is shorter than the whole result"; else it gives the list.

@@ -6,3 +6,4 @@ mod Writing
 mod Settling
 mod Filling
 mod Walking
+pub mod WhichReview

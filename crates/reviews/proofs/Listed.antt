@@ -15,13 +15,14 @@ use Rattle.model.specs.Sheet.{Refusal, verdict, settle}
 use Rattle.model.specs.Lists.{rising, ascending, listed}
 use Rattle.model.specs.Sound.{Shape, SetShape}
 use Rattle.model.specs.Words.{reached, authorised, effective, permission}
-use Rattle.model.specs.Questions.{holds, authorisedBy, assignedUsers, assignedRoles, authUsers, authRoles, rolePerms, userPerms, sessionRoles, sessionPerms, roleOps, userOps, setNames, setRoles, setCount, isReview, ask}
+use Rattle.model.specs.Questions.{holds, authorisedBy, assignedUsers, assignedRoles, authUsers, authRoles, rolePerms, userPerms, sessionRoles, sessionPerms, roleOps, userOps, setNames, setRoles, setCount, ask}
 use Rattle.model.specs.commands.Sets.{setsOf}
 use Rattle.model.specs.declared.Kind.{Kind}
 use Rattle.model.specs.declared.Kind.the-variants.{Static, Dynamic}
 use Rattle.model.specs.declared.Question.{Question}
 use Rattle.model.specs.declared.Question.the-variants.{Check, AssignedUsers, AssignedRoles, AuthUsers, AuthRoles, RolePerms, UserPerms, SessionRoles, SessionPerms, RoleOps, UserOps, Sets, SetRoles, SetCount}
 use Rattle.reviews.proofs.ListLaws.{members-listed, members-ascending}
+use Rattle.reviews.proofs.WhichReview.{isReview}
 
 -- ---- who is listed, exactly
 

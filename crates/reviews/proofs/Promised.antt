@@ -1,7 +1,7 @@
 -- What a promise leaves open: nothing, whatever the buffer. Assumes nothing.
 use mathlib.Core.Bool.{Bool, true, false}
 use mathlib.Core.List.{List, [], _∷_}
-use mathlib.Core.Path.{_≡_, refl, sym, ap₂, _∙_}
+use mathlib.Core.Path.{_≡_, refl, sym, ap, ap₂, _∙_}
 use Prim.Native.Nat.{ℕ, _≤_}
 use native.Mathlib.Omega.{arith}
 use lib.Dec.{eqb}
@@ -9,15 +9,17 @@ use lib.ListN.{length}
 use borrow.Author.Tests.{le-ltb, eqb-true}
 use Rattle.roleset.proofs.BoundedLaws.{clash}
 use Rattle.numbers.proofs.Answers.{number-one-to-one}
+use Rattle.numbers.specs.declared.Session.{Session}
 use Rattle.model.specs.Model.{Model}
 use Rattle.model.specs.Sheet.{Told, Refusal, verdict, settle}
-use Rattle.model.specs.Questions.{assignedUsers, assignedRoles, authUsers, authRoles, rolePerms, userPerms, sessionRoles, sessionPerms, roleOps, userOps, setNames, setRoles, setCount, review, isReview, ask}
+use Rattle.model.specs.Questions.{assignedUsers, assignedRoles, authUsers, authRoles, rolePerms, userPerms, sessionRoles, sessionPerms, roleOps, userOps, setNames, setRoles, setCount, review, ask}
 use Rattle.model.specs.commands.Sessions.{check}
 use Rattle.model.specs.declared.Question.{Question}
 use Rattle.model.specs.declared.Question.the-variants.{Check, AssignedUsers, AssignedRoles, AuthUsers, AuthRoles, RolePerms, UserPerms, SessionRoles, SessionPerms, RoleOps, UserOps, Sets, SetRoles, SetCount}
 use Rattle.reviews.specs.declared.Review.{Review}
 use Rattle.reviews.specs.Reviewing.{Reviewed, fitted, refusals}
 use Rattle.reviews.proofs.Settling.{done-room}
+use Rattle.reviews.proofs.WhichReview.{isReview}
 
 -- ---- the room
 
@@ -41,9 +43,9 @@ two-fit rs m room a n h = go (eqb (verdict rs) 0) refl
     go false e = rw (e, settle) (omega arith)
 
 -- No question gives more results than the buffer has places, where it has two for `check`.
-pub results-fit : (m : Model) (room : ℕ) (q : Question) → (isReview q ≡ false → 2 ≤ room) → length (ask m room q .results) ≤ room
-unfolding ask check isReview
-results-fit m room (Check s op obj) h = two-fit _ m room _ _ (h refl)
+pub results-fit : (m : Model) (room : ℕ) (q : Question) → ((s : Session) (op obj : ℕ) → q ≡ Check s op obj → 2 ≤ room) → length (ask m room q .results) ≤ room
+unfolding ask check
+results-fit m room (Check s op obj) h = two-fit _ m room _ _ (h s op obj refl)
 results-fit m room (AssignedUsers r) h = review-fits m room _ _ (assignedUsers m (r .number))
 results-fit m room (AssignedRoles u) h = review-fits m room _ _ (assignedRoles m (u .number))
 results-fit m room (AuthUsers r) h = review-fits m room _ _ (authUsers m (r .number))
@@ -59,10 +61,11 @@ results-fit m room (SetRoles kind name) h = review-fits m room _ _ (setRoles kin
 results-fit m room (SetCount kind name) h = review-fits m room _ _ (setCount kind m (name .number))
 
 pub reviews-fit : (m : Model) (room : ℕ) (q : Question) → isReview q ≡ true → length (ask m room q .results) ≤ room
-reviews-fit m room q e = results-fit m room q (λ f. clash (isReview q) e f)
+unfolding isReview
+reviews-fit m room q e = results-fit m room q (λ s op obj f. clash (isReview q) e (ap isReview f))
 
 -- A review is told as the paper has it in any buffer, and `check` in one with two places or more.
-pub asked-with-room : (m : Model) (room : ℕ) (q : Question) → (isReview q ≡ false → 2 ≤ room) → fitted room (ask m room q) ≡ ask m room q
+pub asked-with-room : (m : Model) (room : ℕ) (q : Question) → ((s : Session) (op obj : ℕ) → q ≡ Check s op obj → 2 ≤ room) → fitted room (ask m room q) ≡ ask m room q
 unfolding fitted
 asked-with-room m room q h = rw (le-ltb room (length (ask m room q .results)) (results-fit m room q h), fitted)
 

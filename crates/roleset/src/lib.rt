@@ -63,7 +63,7 @@ pub fn is_empty(s: u64) -> bool
     s == 0
 }
 
-// How many roles are in s: each role from 0 to 63 is looked at once, and one is added for each that is in s. Every count of roles goes through this function.
+// How many roles are in s: each role from 0 to 63 is looked at once, and one is added for each that is in s. Every count of a role set goes through this function, but for `check`, which counts as it looks.
 pub fn count(s: u64) -> u16
     ensures { λ n. ⌜ (n ≡ count s) × (n ≤ 64) ⌝ }
 {

@@ -33,7 +33,7 @@ use Rattle.script.specs.declared.Turned.{Turned}
 
 few-done : (m : Model) (x : Meant) (list : List ℕ) → length (doing m x list .results) ≤ 4096
 few-done m (Do c) list = omega (arith, few-results m c list)
-few-done m (Ask q) list = results-fit m 4096 q (λ e. omega arith)
+few-done m (Ask q) list = results-fit m 4096 q (λ s op obj e. omega arith)
 few-done m Nothing list = omega arith
 
 few-obeyed : (m : Model) (p : Parsed) → length (obeyed m p .results) ≤ 4096

@@ -41,5 +41,5 @@ pub record Program : Type 0 where
   pub line-by-line : (script : List ℕ) → length script ≤ 32768 → runScript script ≡ runLines empty 0 0 (partsOf lineFeed script)
   -- "An empty script prints `total 0 0` alone."
   pub nothing : runScript [] ≡ lineOf "total 0 0"
-  -- the paper's example prints what the paper says
+  -- the paper's example prints what the paper says, with the second result of `check` (request 10)
   pub paper : runScript (scriptOf example) ≡ printedFor example "total 14 2"

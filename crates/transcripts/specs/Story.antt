@@ -45,7 +45,7 @@ story =
     "session 2 4" ⇒ "0 0" ∷
     -- it may release, through the two roles in between
     "check 0 1 9" ⇒ "0 1 1" ∷
-    -- it may not record
+    -- it may not record: none of its four roles holds that
     "check 0 0 9" ⇒ "0 0 4" ∷
     -- the role is taken away while the session is open
     "deassign 2 4" ⇒ "0" ∷

@@ -12,7 +12,7 @@ use lib.Seq.{sets, length-sets, getD-append-add, getD-drop, getD-set-same, getD-
 use borrow.Author.Tests.{ltb-false}
 use Rattle.numbers.specs.Answers.{numberOf}
 use Rattle.model.specs.Model.{Model}
-use Rattle.model.specs.Questions.{isReview, ask}
+use Rattle.model.specs.Questions.{ask}
 use Rattle.model.specs.Sheet.{Told}
 use Rattle.model.specs.declared.Question.{Question}
 use Rattle.model.specs.declared.Question.the-variants as questions
@@ -21,6 +21,7 @@ use Rattle.state.specs.View.{view}
 use Rattle.reviews.specs.Reviewing.{Reviewed, fitted}
 use Rattle.reviews.specs.declared.Review.{Review}
 use Rattle.reviews.proofs.Promised.{reviews-fit}
+use Rattle.reviews.proofs.WhichReview.{isReview}
 use Rattle.policyform.specs.Encode.{encode}
 use Rattle.policyform.specs.Promises.{Saves}
 use Rattle.text.specs.Putting.{Put}

@@ -308,22 +308,22 @@ obeyed-at (inl x) = ((λ h. absurd (omega (arith, h, x .short))), (λ h. (x .no-
 obeyed-at (inr x) = ((λ h. (x .long, x .stored, x .state)), (λ h. absurd (omega (arith, h, x .fits))))
 
 -- what `check` stores where the caller says is its results
-module _ {m : Model} {s op obj before after seen n answer : ℕ} {t : Told} (x : Checked m s op obj t) (p : ChecksAt t before after seen n answer) where
-  stored : (b : Bool) → eqb answer 0 ≡ b → t .results ≡ bothGiven b after n
+module _ {m : Model} {s op obj before after lookedBefore lookedAfter answer : ℕ} {t : Told} (x : Checked m s op obj t) (p : ChecksAt t before after lookedBefore lookedAfter answer) where
+  stored : (b : Bool) → eqb answer 0 ≡ b → t .results ≡ bothGiven b after lookedAfter
   stored true e = let q = x .answers (sym (p .answered) ∙ eqb-true answer 0 e) in both (q .0) (q .1)
     where
-      two : (a k : ℕ) → t .results ≡ a ∷ k ∷ [] → t .results ≡ after ∷ n ∷ []
-      two a k q = q ∙ (λ i. sym (p .result ∙ ap (λ (l : List ℕ). placed l before) q) i ∷ sym (p .looked ∙ ap (λ (l : List ℕ). placed (drop 1 l) seen) q) i ∷ [])
+      two : (a k : ℕ) → t .results ≡ a ∷ k ∷ [] → t .results ≡ after ∷ lookedAfter ∷ []
+      two a k q = q ∙ (λ i. sym (p .result ∙ ap (λ (l : List ℕ). placed l before) q) i ∷ sym (p .looked ∙ ap (λ (l : List ℕ). placed (drop 1 l) lookedBefore) q) i ∷ [])
 
-      both : (k : ℕ) → (t .results ≡ 1 ∷ k ∷ []) ⊎ (t .results ≡ 0 ∷ k ∷ []) → t .results ≡ after ∷ n ∷ []
+      both : (k : ℕ) → (t .results ≡ 1 ∷ k ∷ []) ⊎ (t .results ≡ 0 ∷ k ∷ []) → t .results ≡ after ∷ lookedAfter ∷ []
       both k (inl q) = two 1 k q
       both k (inr q) = two 0 k q
   stored false e = x .silent (λ z. eqb-false answer 0 e (p .answered ∙ z))
 
-  checked-at : Checked m s op obj (record { answer = answer; results = bothGiven (eqb answer 0) after n; after = m }) × ((answer ≡ 0 → ⊥) → (after ≡ before) × (n ≡ seen))
+  checked-at : Checked m s op obj (record { answer = answer; results = bothGiven (eqb answer 0) after lookedAfter; after = m }) × ((answer ≡ 0 → ⊥) → (after ≡ before) × (lookedAfter ≡ lookedBefore))
   checked-at = (
     subst (Checked m s op obj) (λ i. record { answer = sym (p .answered) i; results = stored (eqb answer 0) refl i; after = x .unchanged i }) x,
-    λ z. let none = x .silent (λ e. z (p .answered ∙ e)) in (p .result ∙ ap (λ (l : List ℕ). placed l before) none, p .looked ∙ ap (λ (l : List ℕ). placed (drop 1 l) seen) none),
+    λ z. let none = x .silent (λ e. z (p .answered ∙ e)) in (p .result ∙ ap (λ (l : List ℕ). placed l before) none, p .looked ∙ ap (λ (l : List ℕ). placed (drop 1 l) lookedBefore) none),
   )
 
 -- the length of a save is stored where it is done

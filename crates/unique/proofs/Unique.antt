@@ -152,6 +152,7 @@ results-one true false m n e sm sn = absurd (omega (arith, ap length e))
 results-one false true m n e sm sn = absurd (omega (arith, ap length e))
 results-one false false m n e sm sn = (refl, sm refl ∙ sym (sn refl))
 
+-- The same of two that are given together.
 both-one : (b d : Bool) (m n k j : ℕ) → bothGiven b m k ≡ bothGiven d n j → (b ≡ false → (m ≡ 0) × (k ≡ 0)) → (d ≡ false → (n ≡ 0) × (j ≡ 0)) → (m ≡ n) × (k ≡ j)
 unfolding first second
 both-one true true m n k j e sm sn = (ap first e, ap second e)
@@ -270,7 +271,7 @@ obeys-one sl sr (inl p) (inr q) = absurd (omega (arith, p .short, q .fits))
 obeys-one sl sr (inr p) (inl q) = absurd (omega (arith, p .fits, q .short))
 obeys-one sl sr (inr p) (inr q) = (p .long ∙ sym (q .long), states sl sr (p .state) (q .state), p .stored ∙ sym (q .stored))
 
-pub checks-at-one : {told : Told} {before after after′ seen n n′ x y : ℕ} → calls.ChecksAt told before after seen n x → calls.ChecksAt told before after′ seen n′ y → (x ≡ y) × (_≡_ {A = ℕ × ℕ} (after, n) (after′, n′))
+pub checks-at-one : {told : Told} {before after after′ lookedBefore n n′ x y : ℕ} → calls.ChecksAt told before after lookedBefore n x → calls.ChecksAt told before after′ lookedBefore n′ y → (x ≡ y) × (_≡_ {A = ℕ × ℕ} (after, n) (after′, n′))
 checks-at-one p q = (p .answered ∙ sym (q .answered), λ i. ((p .result ∙ sym (q .result)) i, (p .looked ∙ sym (q .looked)) i))
 
 pub loaded-one : {m : Model} {bytes : List ℕ} {x y : ℕ} {l r : List ℕ} → State l → State r → Loads m bytes (calls.loaded x l) → Loads m bytes (calls.loaded y r) → (x ≡ y) × (l ≡ r)

@@ -3,12 +3,13 @@ use mathlib.Core.Bool.{true}
 use mathlib.Core.List.{List}
 use mathlib.Core.Logic.{_↔_}
 use mathlib.Core.Path.{_≡_}
-use Prim.Native.Nat.{ℕ}
+use Prim.Native.Nat.{ℕ, _≤_}
 use Rattle.roleset.specs.Roles.{has}
 use Rattle.hierarchy.specs.Lines.{Small, Under}
 use Rattle.model.specs.Words.{reached}
-use Rattle.model.specs.commands.Sessions.{permitted}
+use Rattle.model.specs.commands.Sessions.{permitted, looked}
 use Rattle.state.specs.View.{view}
+use Rattle.demands.specs.Many.{HowMany}
 use Rattle.unique.specs.Unique.{State}
 
 pub record AnyState : Type 0 where
@@ -18,3 +19,6 @@ pub record AnyState : Type 0 where
   pub reaches : (l : List ℕ) → State l → (from r : ℕ) → (has (reached (view l) from) r ≡ true) ↔ Under (view l .juniors) from r
   -- and the session s is permitted p exactly when one of its active roles, or a role that one inherits, holds it.
   pub permits : (l : List ℕ) → State l → (s p : ℕ) → (permitted (view l) s p ≡ true) ↔ ((r : ℕ) × Under (view l .juniors) (view l .sessions s .active) r × (has (view l .holders p) r ≡ true))
+  -- To see that, a check looks at those of them that are above none that holds it: as many as `looked`, and 64 at most.
+  pub looks : (l : List ℕ) → State l → (s p : ℕ) → HowMany (λ k. Under (view l .juniors) (view l .sessions s .active) k × ((r : ℕ) → Under (view l .juniors) (view l .sessions s .active) r → has (view l .holders p) r ≡ true → k ≤ r)) (looked (view l) s p)
+  pub at-most : (l : List ℕ) → State l → (s p : ℕ) → looked (view l) s p ≤ 64

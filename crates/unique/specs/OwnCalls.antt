@@ -5,7 +5,7 @@
 --
 -- Of a call c, `c .given` is what the function was given, in the order of its parameters: .0 is the first, .1 .0 the second, .1 .1 .0 the third. `c .exits`
 -- is the same after the call, `c .result` what it handed back, and `.now` the numbers of what was lent.
-use mathlib.Core.Bool.{true, false, not}
+use mathlib.Core.Bool.{true, not}
 use mathlib.Core.List.{List, [], _∷_}
 use mathlib.Core.Logic.{_⊎_, _↔_}
 use mathlib.Core.Path.{_≡_}
@@ -125,7 +125,7 @@ InPlaces places m asked told = ((length (asked .results) ≤ places) × (told �
 
 -- A question has its room: a review asks for it itself, and `check` has two results.
 abbrev pub HasRoom : Question → ℕ → Type 0
-HasRoom q places = model.isReview q ≡ false → 2 ≤ places
+HasRoom q places = (s : Session) (op obj : ℕ) → q ≡ questions.Check s op obj → 2 ≤ places
 
 -- What the question whose session s is answers, and the owner that it hands back.
 abbrev pub OwnerTold : Model → ℕ → ℕ → ℕ → Type 0

@@ -1,4 +1,4 @@
--- `check` answers by itself; what is left is whether its result has a place. Assumes nothing.
+-- `check` answers by itself; what is left is whether its two results have their places. Assumes nothing.
 use borrow.Author.Needs.{needs}
 use borrow.Author.Tests.{not-true, not-false}
 use mathlib.Core.Bool.{true}

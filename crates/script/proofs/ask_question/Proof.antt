@@ -16,10 +16,10 @@ use Rattle.script.proofs.ask_question.Tie as tie
 
 -- the question is asked with room for every result
 reviewed : (c : tie.After-ask) → Reviewed (ask (view (c .before .before .before .args .state .now)) 4096 (c .before .before .before .args .q)) (replicate 4096 0) (c .ask .last .1 .1 .0) (c .ask .result)
-reviewed c = rw (asked-with-room (view (c .before .before .before .args .state .now)) 4096 (c .before .before .before .args .q) (λ e. omega arith)) at (rw (length-replicate {A = ℕ} 4096 0) at (c .ask .ensures))
+reviewed c = rw (asked-with-room (view (c .before .before .before .args .state .now)) 4096 (c .before .before .before .args .q) (λ s op obj e. omega arith)) at (rw (length-replicate {A = ℕ} 4096 0) at (c .ask .ensures))
 
 few : (c : tie.After-ask) → length (ask (view (c .before .before .before .args .state .now)) 4096 (c .before .before .before .args .q) .results) ≤ 4096
-few c = results-fit (view (c .before .before .before .args .state .now)) 4096 (c .before .before .before .args .q) (λ e. omega arith)
+few c = results-fit (view (c .before .before .before .args .state .now)) 4096 (c .before .before .before .args .q) (λ s op obj e. omega arith)
 
 front : (c : tie.After-ask) → take (c .ask .result .count) (c .ask .last .1 .1 .0) ≡ ask (view (c .before .before .before .args .state .now)) 4096 (c .before .before .before .args .q) .results
 front c = ap₂ (λ (n : ℕ) (l : List ℕ). take n l) (reviewed c .count) (reviewed c .buffer) ∙ take-append-seam _ _
