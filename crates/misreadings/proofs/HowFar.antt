@@ -6,12 +6,12 @@ use Prim.Native.Nat.{ℕ}
 use native.Mathlib.Omega.{arith}
 use lib.Dec.{eqb}
 use lib.ListN.{length}
-use Rattle.roleset.specs.Bounded.{bit, some, every, tally, members}
+use Rattle.roleset.specs.Bounded.{some, every, tally, members}
 use Rattle.roleset.specs.Roles.{has, pack, those, with, union, common, minus, subset, isEmpty, count}
 use Rattle.hierarchy.specs.Walks.{juniorsOf, walk, reach}
 use Rattle.model.specs.Lists.{rising, someFrom, listed, setOf, upToFirst}
 use Rattle.model.specs.Model.{Model, empty, put}
-use Rattle.model.specs.Sheet.{Told, Refusal, _when_, done, refused, verdict, settle}
+use Rattle.model.specs.Sheet.{Told, Refusal, _when_, verdict, settle}
 use Rattle.model.specs.Step.{step}
 use Rattle.model.specs.Words.{permission, breaks, breaksSome, staticBroken, dynamicBroken, sessionsOpen}
 use Rattle.model.specs.commands.Users.{user, role}
