@@ -6,10 +6,10 @@ use Prim.Native.Nat.{ℕ, ◌<◌}
 use lib.ListN.{set}
 use Rattle.roleset.specs.Roles.{without}
 use Rattle.hierarchy.specs.Lines.{table_of}
-use Rattle.model.specs.Model.{Model, put, withAssignments, withSessions}
+use Rattle.model.specs.Model.{Model, put, with_assignments, with_sessions}
 use Rattle.model.specs.Words.{shed}
 use Rattle.model.specs.commands.Assigning.{deassigned}
-use Rattle.state.specs.Stores.{in_range, withActive, Table}
+use Rattle.state.specs.Stores.{in_range, with_active, Table}
 use Rattle.state.specs.View.{part, view}
 use Rattle.state.proofs.Stored.{placed-as}
 use Rattle.sweeps.specs.Sweeps.{ShedsAll}
@@ -17,14 +17,14 @@ use Rattle.sweeps.proofs.Changing.{as-part, table-put}
 use Rattle.sweeps.proofs.Shedding.{sheds-same, shed-stored, view-past}
 
 -- the roles stored for a user, and the count, are these
-pub assigned-stored : (m after : Model) (u roles new standing count : ℕ) → roles ≡ new → standing ≡ count → u < 256 → after ≡ in_range 256 u m (withAssignments m (put m.assigned u roles) standing) → after ≡ withAssignments m (put m.assigned u new) count
-assigned-stored m after u = placed-as 256 u m after (λ x n. withAssignments m (put m.assigned u x) n)
+pub assigned-stored : (m after : Model) (u roles new standing count : ℕ) → roles ≡ new → standing ≡ count → u < 256 → after ≡ in_range 256 u m (with_assignments m (put m.assigned u roles) standing) → after ≡ with_assignments m (put m.assigned u new) count
+assigned-stored m after u = placed-as 256 u m after (λ x n. with_assignments m (put m.assigned u x) n)
 
 -- the sweep goes over the lines as they are and the assignments as they will be
 module _ (l juniors assigned : List ℕ) (u r new : ℕ) (kept : List ℕ) (h : u < 256) (is : new ≡ without ((view l).assigned u) r) (lines : Table 64 (view l).juniors juniors) (holds : Table 256 (view l).assigned assigned) (sheds : ShedsAll (table_of juniors) (part (set assigned u new) 0 256) (view l).sessions kept) where
   swept : ShedsAll (view l).juniors (put (view l).assigned u (without ((view l).assigned u) r)) (view l).sessions kept
   swept = sheds-same kept lines.each (as-part (set assigned u new) (table-put assigned u new h holds) ∙ ap (put (view l).assigned u) is) refl sheds
 
-  pub deassigned-shed : (between after : Model) → between ≡ deassigned (view l) u r → after ≡ withSessions between (withActive between.sessions (part kept 0 64)) → after ≡ shed (deassigned (view l) u r)
+  pub deassigned_shed : (between after : Model) → between ≡ deassigned (view l) u r → after ≡ with_sessions between (with_active between.sessions (part kept 0 64)) → after ≡ shed (deassigned (view l) u r)
   unfolding deassigned
-  deassigned-shed = shed-stored (deassigned (view l) u r) kept swept (view-past l)
+  deassigned_shed = shed-stored (deassigned (view l) u r) kept swept (view-past l)

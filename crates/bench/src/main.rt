@@ -1,8 +1,9 @@
 // The bench: reads a script from standard input and prints what the script prints. Where it cannot read all of it or print all of it, it says so on
 // standard error. What is handed to the output is proved; that the C library reads and writes what it is asked to is assumed.
+#![tactic(auto)]
 ghost use Rattle.std.specs.Prelude.{true, ◌≡◌, ◌+◌, ◌^◌, ◌<◌, ◌≤◌, length};
 ghost use Rattle.streams.specs.Writing.{Next};
-ghost use Rattle.script.specs.Script.{runScript};
+ghost use Rattle.script.specs.Script.{run_script};
 
 use libc::{STDERR_FILENO, STDIN_FILENO, STDOUT_FILENO};
 use program::LONGEST;
@@ -17,7 +18,7 @@ struct Written {
 
 // Writes the next bytes of what the script prints, of which `count` were written, and counts them. Nothing else writes or counts.
 fn write_next(script: &[u8], count: &mut usize, bytes: &[u8]) -> bool
-    requires next { Next (runScript script.now) count.old bytes.now }
+    requires next { Next (run_script script.now) count.old bytes.now }
     requires bytes_bound { count.old + length bytes.now < 2 ^ 64 }
     ensures { result ≡ true → count.new ≡ count.old + length bytes.now }
 {
@@ -31,7 +32,7 @@ fn write_next(script: &[u8], count: &mut usize, bytes: &[u8]) -> bool
 // Prints what the script prints, from its first byte to its last one.
 fn print_all(script: &[u8]) -> Written
     requires { length script.now ≤ 32769 }
-    ensures { result.all ≡ true → result.count ≡ length (runScript script.now) }
+    ensures { result.all ≡ true → result.count ≡ length (run_script script.now) }
 {
     let mut state = [0u64; PLACES];
     let mut buf = [0u8; 32768];

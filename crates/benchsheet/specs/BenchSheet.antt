@@ -3,12 +3,12 @@
 use Rattle.std.specs.Prelude.{List, [], ◌∷◌, ◌++◌, ◌≡◌, ℕ, ◌≤◌, length, drop}
 use Rattle.model.specs.Model.{Model, empty}
 use Rattle.policyform.specs.Promises.{Saves}
-use Rattle.transcripts.specs.Rows.{Row, ◌⇒◌, afterRows, Answered}
-use Rattle.benchsheet.specs.Lines.{atTheBench}
+use Rattle.transcripts.specs.Rows.{Row, ◌⇒◌, after_rows, Answered}
+use Rattle.benchsheet.specs.Lines.{at_the_bench}
 
 -- "the first ten lines" of the example, and what they print
-abbrev pub firstTenLines : List Row
-firstTenLines =
+abbrev pub first_ten_lines : List Row
+first_ten_lines =
     "user 7" ⇒ "0" ∷
     "role 0" ⇒ "0" ∷
     "role 1" ⇒ "0" ∷
@@ -50,16 +50,16 @@ EachAnswered m [] = Unit
 EachAnswered m (P k rows ∷ rest) = Answered m rows × EachAnswered m rest
 
 -- "the empty policy saved" is "sixteen zero bytes"
-abbrev pub sixteenZeroBytes : List ℕ
-sixteenZeroBytes = 0 ∷ 0 ∷ 0 ∷ 0 ∷ 0 ∷ 0 ∷ 0 ∷ 0 ∷ 0 ∷ 0 ∷ 0 ∷ 0 ∷ 0 ∷ 0 ∷ 0 ∷ 0 ∷ []
+abbrev pub sixteen_zero_bytes : List ℕ
+sixteen_zero_bytes = 0 ∷ 0 ∷ 0 ∷ 0 ∷ 0 ∷ 0 ∷ 0 ∷ 0 ∷ 0 ∷ 0 ∷ 0 ∷ 0 ∷ 0 ∷ 0 ∷ 0 ∷ 0 ∷ []
 
 pub record Bench : Type 0 where
   -- The first ten lines print what the example says.
-  pub example : Answered empty firstTenLines
+  pub example : Answered empty first_ten_lines
   -- P1 to P11, "each from the policy after the first ten lines above"
-  pub rows : EachAnswered (afterRows empty firstTenLines) sheet
+  pub rows : EachAnswered (after_rows empty first_ten_lines) sheet
   -- P12, "from the empty one": where the lent buffer has room for them, what saving promises is the answer 0 with the length 16, the sixteen zero
   -- bytes in front, and past them the buffer as it was.
-  pub saved : (out after : List ℕ) (answer size : ℕ) → 16 ≤ length out → Saves empty out after answer size → (answer ≡ 0) × (size ≡ 16) × (after ≡ sixteenZeroBytes ++ drop 16 out)
+  pub saved : (out after : List ℕ) (answer size : ℕ) → 16 ≤ length out → Saves empty out after answer size → (answer ≡ 0) × (size ≡ 16) × (after ≡ sixteen_zero_bytes ++ drop 16 out)
   -- The policy after the first ten lines is the one that other statements look into.
-  pub bench : afterRows empty firstTenLines ≡ atTheBench
+  pub bench : after_rows empty first_ten_lines ≡ at_the_bench

@@ -47,8 +47,8 @@ abbrev pub set : ℕ → SetName
 set n = record { number = n }
 
 -- the first ten lines of the paper's example, as commands
-abbrev pub firstTen : List Line
-firstTen =
+abbrev pub first_ten : List Line
+first_ten =
     command (AddUser (u 7)) []
     ∷ command (AddRole (r 0)) []
     ∷ command (AddRole (r 1)) []
@@ -61,5 +61,5 @@ firstTen =
     ∷ command (OpenSession (u 7)) (2 ∷ [])
     ∷ []
 
-unfoldable pub atTheBench : Model
-atTheBench = afterwards empty firstTen
+unfoldable pub at_the_bench : Model
+at_the_bench = afterwards empty first_ten

@@ -5,22 +5,22 @@ use Rattle.roleset.specs.Bounded.{bit}
 use Rattle.numbers.specs.Answers.{number_of}
 use Rattle.model.specs.Model.{Model}
 use Rattle.model.specs.Sheet.{Told}
-use Rattle.state.specs.Results.{isDone, given, bothGiven}
+use Rattle.state.specs.Results.{is_done, given, both_given}
 use Rattle.checking.specs.declared.Checked.{Checked}
 use Rattle.checking.specs.declared.Owned.{Owned}
 
 -- what `check` tells over m: 1 for yes or 0 for no, and how many roles it looked at; nothing changes
-unfoldable pub toldChecked : Model → Checked → Told
-toldChecked m x = record { answer = number_of x.answer; results = bothGiven (isDone x.answer) (bit x.yes) x.looked; after = m }
+unfoldable pub told_checked : Model → Checked → Told
+told_checked m x = record { answer = number_of x.answer; results = both_given (is_done x.answer) (bit x.yes) x.looked; after = m }
 
 pub record Checks (m : Model) (told : Told) (x : Checked) : Type 0 where
-  pub tells : toldChecked m x ≡ told
-  pub silent : isDone x.answer ≡ false → (x.yes ≡ false) × (x.looked ≡ 0)
+  pub tells : told_checked m x ≡ told
+  pub silent : is_done x.answer ≡ false → (x.yes ≡ false) × (x.looked ≡ 0)
 
 -- what the question of an owner tells over m: the owner's number, and nothing changes
-unfoldable pub toldOwned : Model → Owned → Told
-toldOwned m x = record { answer = number_of x.answer; results = given (isDone x.answer) x.owner; after = m }
+unfoldable pub told_owned : Model → Owned → Told
+told_owned m x = record { answer = number_of x.answer; results = given (is_done x.answer) x.owner; after = m }
 
 pub record Owns (m : Model) (told : Told) (x : Owned) : Type 0 where
-  pub tells : toldOwned m x ≡ told
-  pub silent : isDone x.answer ≡ false → x.owner ≡ 0
+  pub tells : told_owned m x ≡ told
+  pub silent : is_done x.answer ≡ false → x.owner ≡ 0

@@ -1,9 +1,10 @@
 // The question `check`, and whose a session is.
+#![tactic(auto)]
 ghost use Rattle.std.specs.Prelude.{not, ◌≡◌, length};
 ghost use Rattle.roleset.specs.Bounded.{members};
 ghost use Rattle.roleset.specs.Roles.{has, common, is_empty};
 ghost use Rattle.numbers.specs.declared.Answer.TheVariants.{Done};
-ghost use Rattle.model.specs.Lists.{upToFirst};
+ghost use Rattle.model.specs.Lists.{up_to_first};
 ghost use Rattle.model.specs.commands.Sessions.{check, owner};
 ghost use Rattle.state.specs.View.{view};
 ghost use Rattle.checking.specs.Answering.{Checks, Owns};
@@ -54,7 +55,7 @@ pub fn owner(state: &[u64; PLACES], x: Session) -> Owned
 
 // Looks at the roles in ascending order, up to and including the first that is among the holders: is there one, and how many were looked at? It takes the lowest and drops it, as long as there is one.
 fn look(roles: u64, holders: u64) -> Checked
-    ensures { result ≡ record { answer = Done; yes = not (is_empty (common roles holders)); looked = length (upToFirst (has holders) (members 64 (has roles))) } }
+    ensures { result ≡ record { answer = Done; yes = not (is_empty (common roles holders)); looked = length (up_to_first (has holders) (members 64 (has roles))) } }
 {
     let mut rest = roles;
     let mut looked = 0;

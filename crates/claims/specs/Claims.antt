@@ -84,7 +84,7 @@ pub record OneOutcome : Type 0 where
 -- The answer sheet: "a definition provides this paper's number .. for each case".
 pub record AnswerSheet : Type 0 where
   -- two answers with one number are one answer,
-  pub one-to-one : (a b : Answer) → number_of a ≡ number_of b → a ≡ b
+  pub one_to_one : (a b : Answer) → number_of a ≡ number_of b → a ≡ b
   -- every number is one of 0 to 16,
   pub below : (a : Answer) → number_of a < 17
   -- an answer's number finds it,
@@ -94,52 +94,52 @@ pub record AnswerSheet : Type 0 where
 
 pub record Claims : Type 0 where
   -- ---- the three demands, over the model
-  pub answer-sheet : AnswerSheet
+  pub answer_sheet : AnswerSheet
   pub demand1 : Demand1
   pub demand2 : Demand2
   pub conditions : Conditions
   pub effects : Effects
   pub questions : QuestionsDemand
   pub demand3 : Demand3
-  pub shorter-sheet : ShorterSheet
-  pub two-moves : TwoMoves
-  pub effective-roles : (m : Model) (list : List ℕ) (s x : ℕ) → EffectiveRoles m list s x
+  pub shorter_sheet : ShorterSheet
+  pub two_moves : TwoMoves
+  pub effective_roles : (m : Model) (list : List ℕ) (s x : ℕ) → EffectiveRoles m list s x
   -- ---- the policy file
   pub faithful : Faithful
-  pub file-form : FileForm
+  pub file_form : FileForm
   pub loading : Loading
   pub saving : SavesAsThePaperSays
-  pub policy-bytes : PolicyBytes
+  pub policy_bytes : PolicyBytes
   -- ---- the script
-  pub line-forms : LineForms
-  pub script-lines : ScriptLines
-  pub never-short : NeverShort
+  pub line_forms : LineForms
+  pub script_lines : ScriptLines
+  pub never_short : NeverShort
   pub program : Program
   pub desk : Desk
-  pub word-sheet : WordSheet
+  pub word_sheet : WordSheet
   pub edges : Edges
-  pub full-tables : FullTables
-  pub longest-chain : LongestChain
-  pub most-looked : MostLooked
-  pub long-scripts : LongScripts
+  pub full_tables : FullTables
+  pub longest_chain : LongestChain
+  pub most_looked : MostLooked
+  pub long_scripts : LongScripts
   pub story : Story
   pub leaver : Leaver
   pub student : Student
   -- ---- the bench sheet, and what is shut out
-  pub bench-sheet : Bench
+  pub bench_sheet : Bench
   pub readings : answered examples ≡ expected examples
-  pub inherited-grant : InheritedGrant
-  pub wrong-rules : WrongRules
+  pub inherited_grant : InheritedGrant
+  pub wrong_rules : WrongRules
   pub shut_out : ShutOut
-  pub reviewers-shut-out : ReviewersShutOut
-  pub deleting-shut-out : DeletingShutOut
-  pub dynamic-shut-out : DynamicShutOut
-  pub how-far : HowFar
+  pub reviewers_shut_out : ReviewersShutOut
+  pub deleting_shut_out : DeletingShutOut
+  pub dynamic_shut_out : DynamicShutOut
+  pub how_far : HowFar
   -- ---- the code's own calls, its own states, its buffers, and every number of its state
-  pub own-calls : OwnCalls
-  pub longest-answer : LongestAnswer
+  pub own_calls : OwnCalls
+  pub longest_answer : LongestAnswer
   pub owned : Owned
   pub buffers : Buffers
   pub frame : Frame
-  pub any-state : AnyState
-  pub one-outcome : OneOutcome
+  pub any_state : AnyState
+  pub one_outcome : OneOutcome

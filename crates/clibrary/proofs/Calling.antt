@@ -18,10 +18,10 @@ use Rattle.model.specs.Sheet.{Told, verdict, settle, refused}
 use Rattle.model.specs.Step.{step}
 use Rattle.model.proofs.Asking.{asked-same}
 use Rattle.model.proofs.Results.{few-results}
-use Rattle.model.specs.commands.Naming.{sessionBeyond, permissionBeyond}
+use Rattle.model.specs.commands.Naming.{session_beyond, permission_beyond}
 use Rattle.model.specs.commands.Sessions.{check}
-use Rattle.state.specs.Results.{isDone}
-use Rattle.checking.specs.Answering.{Checks, toldChecked}
+use Rattle.state.specs.Results.{is_done}
+use Rattle.checking.specs.Answering.{Checks, told_checked}
 use Rattle.checking.specs.declared.Checked.{Checked}
 use Rattle.policyform.specs.Promises.{Saves}
 use Rattle.text.specs.Putting.{Put}
@@ -32,27 +32,27 @@ use Rattle.reading.specs.Form.{Parsed, line, noLine, parse}
 use Rattle.meaning.specs.Meaning.{meant}
 use Rattle.meaning.specs.declared.Meant.{Meant}
 use Rattle.meaning.specs.declared.Meant.TheVariants.{Do, Ask, Nothing}
-use Rattle.script.specs.Script.{obey, obeyed, doing, answerText, lineFeed}
+use Rattle.script.specs.Script.{obey, obeyed, doing, answer_text, line_feed}
 use Rattle.script.proofs.Turning.{answer-short, obey-few}
-use Rattle.clibrary.specs.Calls.{answerLine, ChecksAt, SavesAt, LongestAnswer}
+use Rattle.clibrary.specs.Calls.{answer_line, ChecksAt, SavesAt, LongestAnswer}
 
 -- ---- an answer line
 
 -- how long an answer line is, by its results
-by-results : (answer : ℕ) (results : List ℕ) → length (answerText answer results) ≤ 6 + 6 * length results
-unfolding answerText
-by-results answer results = omega (arith, length-append (decimal answer) (numbered results ++ (lineFeed ∷ [])), length-append (numbered results) (lineFeed ∷ []), decimal-short answer, numbered-short results)
+by-results : (answer : ℕ) (results : List ℕ) → length (answer_text answer results) ≤ 6 + 6 * length results
+unfolding answer_text
+by-results answer results = omega (arith, length-append (decimal answer) (numbered results ++ (line_feed ∷ [])), length-append (numbered results) (line_feed ∷ []), decimal-short answer, numbered-short results)
 
-long-done : (m : Model) (x : Meant) (list : List ℕ) → 12 < length (answerLine (doing m x list)) → (doing m x list).after ≡ m
+long-done : (m : Model) (x : Meant) (list : List ℕ) → 12 < length (answer_line (doing m x list)) → (doing m x list).after ≡ m
 long-done m (Do c) list h = absurd (omega (arith, h, by-results (step m c list).answer (step m c list).results, few-results m c list))
 long-done m (Ask q) list h = asked-same m 4096 q
 long-done m Nothing list h = refl
 
-long-obeyed : (m : Model) (p : Parsed) → 12 < length (answerLine (obeyed m p)) → (obeyed m p).after ≡ m
+long-obeyed : (m : Model) (p : Parsed) → 12 < length (answer_line (obeyed m p)) → (obeyed m p).after ≡ m
 long-obeyed m (line k ns) h = long-done m (meant k (get_or ns 0 0) (get_or ns 1 0) (get_or ns 2 0)) (drop (word_of k).numbers ns) h
 long-obeyed m noLine h = refl
 
-long-answer : (m : Model) (text : List ℕ) → 12 < length (answerLine (obey m text)) → (obey m text).after ≡ m
+long-answer : (m : Model) (text : List ℕ) → 12 < length (answer_line (obey m text)) → (obey m text).after ≡ m
 unfolding obey
 long-answer m text h = long-obeyed m (parse text) h
 
@@ -68,7 +68,7 @@ put_whole p h = omega (arith, p.ends)
 abbrev sixteen : ℕ → ℕ
 sixteen n = min n 65535
 
-beyond-refused : (m : Model) (s op obj : ℕ) → (sessionBeyond s || permissionBeyond op obj) ≡ true → check m s op obj ≡ refused 1 m
+beyond-refused : (m : Model) (s op obj : ℕ) → (session_beyond s || permission_beyond op obj) ≡ true → check m s op obj ≡ refused 1 m
 unfolding check settle verdict
 beyond-refused m s op obj e = rw e
 
@@ -79,34 +79,34 @@ large n k h big = (le-leb k n (omega arith), le-leb k (sixteen n) (omega arith))
 fits : (n : ℕ) → n ≤ 65535 → sixteen n ≡ n
 fits n h = omega arith
 
-by-operation : (s op obj : ℕ) → leb 16 op ≡ true → (sessionBeyond s || permissionBeyond op obj) ≡ true
-by-operation s op obj h = or_right (sessionBeyond s) (permissionBeyond op obj) (or_left (leb 16 op) (leb 256 obj) h)
+by-operation : (s op obj : ℕ) → leb 16 op ≡ true → (session_beyond s || permission_beyond op obj) ≡ true
+by-operation s op obj h = or_right (session_beyond s) (permission_beyond op obj) (or_left (leb 16 op) (leb 256 obj) h)
 
-by-object : (s op obj : ℕ) → leb 256 obj ≡ true → (sessionBeyond s || permissionBeyond op obj) ≡ true
-by-object s op obj h = or_right (sessionBeyond s) (permissionBeyond op obj) (or_right (leb 16 op) (leb 256 obj) h)
+by-object : (s op obj : ℕ) → leb 256 obj ≡ true → (session_beyond s || permission_beyond op obj) ≡ true
+by-object s op obj h = or_right (session_beyond s) (permission_beyond op obj) (or_right (leb 16 op) (leb 256 obj) h)
 
 -- `check` tells the same of a number and of its sixteen bits
 module _ (m : Model) (s op obj : ℕ) where
-  both : (sessionBeyond s || permissionBeyond op obj) ≡ true → (sessionBeyond (sixteen s) || permissionBeyond (sixteen op) (sixteen obj)) ≡ true → check m (sixteen s) (sixteen op) (sixteen obj) ≡ check m s op obj
+  both : (session_beyond s || permission_beyond op obj) ≡ true → (session_beyond (sixteen s) || permission_beyond (sixteen op) (sixteen obj)) ≡ true → check m (sixteen s) (sixteen op) (sixteen obj) ≡ check m s op obj
   both e f = beyond-refused m (sixteen s) (sixteen op) (sixteen obj) f ∙ sym (beyond-refused m s op obj e)
 
   by_size : Dec (s ≤ 65535) → Dec (op ≤ 65535) → Dec (obj ≤ 65535) → check m (sixteen s) (sixteen op) (sixteen obj) ≡ check m s op obj
-  by_size (no h) o b = let l = large s 64 (omega arith) h in both (or_left (sessionBeyond s) (permissionBeyond op obj) l.0) (or_left (sessionBeyond (sixteen s)) (permissionBeyond (sixteen op) (sixteen obj)) l.1)
+  by_size (no h) o b = let l = large s 64 (omega arith) h in both (or_left (session_beyond s) (permission_beyond op obj) l.0) (or_left (session_beyond (sixteen s)) (permission_beyond (sixteen op) (sixteen obj)) l.1)
   by_size (yes h) (no o) b = let l = large op 16 (omega arith) o in both (by-operation s op obj l.0) (by-operation (sixteen s) (sixteen op) (sixteen obj) l.1)
   by_size (yes h) (yes o) (no b) = let l = large obj 256 (omega arith) b in both (by-object s op obj l.0) (by-object (sixteen s) (sixteen op) (sixteen obj) l.1)
   by_size (yes h) (yes o) (yes b) = rw (fits s h, fits op o, fits obj b)
 
-  pub check-sixteen : check m (sixteen s) (sixteen op) (sixteen obj) ≡ check m s op obj
-  check-sixteen = by_size (dec_le s 65535) (dec_le op 65535) (dec_le obj 65535)
+  pub check_sixteen : check m (sixteen s) (sixteen op) (sixteen obj) ≡ check m s op obj
+  check_sixteen = by_size (dec_le s 65535) (dec_le op 65535) (dec_le obj 65535)
 
 -- ---- a result where the caller says
 
-pub checked-done : {m : Model} {told : Told} {x : Checked} (before lookedBefore : ℕ) → Checks m told x → isDone x.answer ≡ true → number_of x.answer ≡ 0 → ChecksAt told before (bit x.yes) lookedBefore x.looked 0
-unfolding toldChecked
+pub checked-done : {m : Model} {told : Told} {x : Checked} (before lookedBefore : ℕ) → Checks m told x → is_done x.answer ≡ true → number_of x.answer ≡ 0 → ChecksAt told before (bit x.yes) lookedBefore x.looked 0
+unfolding told_checked
 checked-done before lookedBefore p e z = rw (← p.tells) (record { answered = sym z; result = rw e; looked = rw e })
 
-pub checked_refused : {m : Model} {told : Told} {x : Checked} (before lookedBefore : ℕ) → Checks m told x → isDone x.answer ≡ false → ChecksAt told before before lookedBefore lookedBefore (number_of x.answer)
-unfolding toldChecked
+pub checked_refused : {m : Model} {told : Told} {x : Checked} (before lookedBefore : ℕ) → Checks m told x → is_done x.answer ≡ false → ChecksAt told before before lookedBefore lookedBefore (number_of x.answer)
+unfolding told_checked
 checked_refused before lookedBefore p e = rw (← p.tells) (record { answered = refl; result = rw e; looked = rw e })
 
 pub saved-done : {m : Model} {out after : List ℕ} {a n : ℕ} (before : ℕ) → Saves m out after a n → a ≡ 0 → SavesAt m out after before n 0

@@ -4,26 +4,26 @@ use Rattle.std.proofs.lemmas.List.Edits.{sets}
 use Rattle.model.specs.Model.{Model}
 use Rattle.model.specs.Sheet.{Told}
 use Rattle.policyform.specs.Promises.{SaveRefused, SaveDone}
-use Rattle.script.specs.Script.{answerText, obey}
+use Rattle.script.specs.Script.{answer_text, obey}
 use Rattle.state.specs.View.{view}
 
 -- the answer line of what a line of the script tells: "the answer number and then the results, one space between", and LF
-abbrev pub answerLine : Told → List ℕ
-answerLine told = answerText told.answer told.results
+abbrev pub answer_line : Told → List ℕ
+answer_line told = answer_text told.answer told.results
 
 -- The answer line does not fit: "the lent output buffer is shorter than the whole result". Nothing is obeyed, nothing is written, and the length
 -- is 0, which no answer line has. `out` is the lent buffer, and l the state after the call.
 pub record NotObeyed (before : Model) (told : Told) (out after : List ℕ) (size : ℕ) (l : List ℕ) : Type 0 where
-  pub short : length out < length (answerLine told)
+  pub short : length out < length (answer_line told)
   pub no_length : size ≡ 0
   pub untouched : after ≡ out
   pub unchanged : view l ≡ before
 
 -- The answer line fits: it stands at the front of the buffer, bytes past it are as they were, and the policy and sessions are what the line tells.
 pub record Obeyed (told : Told) (out after : List ℕ) (size : ℕ) (l : List ℕ) : Type 0 where
-  pub fits : length (answerLine told) ≤ length out
-  pub long : size ≡ length (answerLine told)
-  pub stored : after ≡ sets out 0 (answerLine told)
+  pub fits : length (answer_line told) ≤ length out
+  pub long : size ≡ length (answer_line told)
+  pub stored : after ≡ sets out 0 (answer_line told)
   pub state : view l ≡ told.after
 
 -- One line of the script, obeyed in a buffer of any length.
@@ -32,9 +32,9 @@ Obeys before told out after size l = NotObeyed before told out after size l ⊎ 
 
 -- "Its buffers hold the longest result": with a room of 24,582 bytes every line is obeyed, whatever the policy and the sessions are.
 pub record LongestAnswer : Type 0 where
-  pub holds : (m : Model) (text : List ℕ) → length (answerLine (obey m text)) ≤ 24582
+  pub holds : (m : Model) (text : List ℕ) → length (answer_line (obey m text)) ≤ 24582
   -- a command's answer line has 12 bytes at most: a line with a longer one changes nothing
-  pub commands : (m : Model) (text : List ℕ) → 12 < length (answerLine (obey m text)) → (obey m text).after ≡ m
+  pub commands : (m : Model) (text : List ℕ) → 12 < length (answer_line (obey m text)) → (obey m text).after ≡ m
 
 -- the place of a result: it holds the first of the results, and is as it was where there is none
 abbrev pub placed : List ℕ → ℕ → ℕ

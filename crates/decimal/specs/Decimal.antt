@@ -25,9 +25,9 @@ numbered (n ∷ rest) = (space ∷ decimal n) ++ numbered rest
 abbrev pub taken : ℕ → ℕ → ℕ
 taken v b = (10 * v + b % 16) % 65536
 
-unfoldable pub takenFrom : ℕ → List ℕ → ℕ
-takenFrom v [] = v
-takenFrom v (b ∷ rest) = takenFrom (taken v b) rest
+unfoldable pub taken_from : ℕ → List ℕ → ℕ
+taken_from v [] = v
+taken_from v (b ∷ rest) = taken_from (taken v b) rest
 
 abbrev pub value : List ℕ → ℕ
-value text = takenFrom 0 text
+value text = taken_from 0 text

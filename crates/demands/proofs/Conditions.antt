@@ -13,17 +13,17 @@ use Rattle.roleset.specs.Roles.{has, with, none, count, subset}
 use Rattle.roleset.proofs.BoundedLaws.{clash, or_cases, or_left, or_right, and_left, and_right, and_both, some-elim, some-intro}
 use Rattle.roleset.proofs.Laws.{has-none}
 use Rattle.hierarchy.specs.Lines.{line}
-use Rattle.model.specs.Lists.{someFrom, listed, setOf}
+use Rattle.model.specs.Lists.{some_from, listed, set_of}
 use Rattle.model.specs.Model.{Model, RoleSet, Session, put}
 use Rattle.model.specs.Sheet.{Told}
 use Rattle.model.specs.Sound.{Existing, SetShape, Shape, Sound}
 use Rattle.model.specs.Step.{step}
-use Rattle.model.specs.Words.{counted, dynamicBroken}
+use Rattle.model.specs.Words.{counted, dynamic_broken}
 use Rattle.model.specs.commands.Assigning.{assigned, granted}
-use Rattle.model.specs.commands.Users.{in_set, withoutUser}
+use Rattle.model.specs.commands.Users.{in_set, without_user}
 use Rattle.model.specs.commands.Inheriting.{lined}
-use Rattle.model.specs.commands.Sets.{setsOf, withSets, aSet}
-use Rattle.model.specs.commands.Sessions.{lowestFree, sessionSet, opened, openFor, activeSet}
+use Rattle.model.specs.commands.Sets.{sets_of, with_sets, a_set}
+use Rattle.model.specs.commands.Sessions.{lowest_free, session_set, opened, open_for, active_set}
 use Rattle.model.specs.declared.Command.{Command}
 use Rattle.model.specs.declared.Command.TheVariants.{AddUser, AddRole, NoUser, NoRole, Assign, Deassign, Grant, Revoke, Inherit, Disinherit, MakeSet, DropSet, AddMember, DropMember, SetCardinality, OpenSession, Activate, DropActive, EndSession, EndAll}
 use Rattle.model.specs.declared.Kind.{Kind}
@@ -38,13 +38,13 @@ use Rattle.sound.proofs.Members.{or_no}
 use Rattle.sound.proofs.Put.{put_all}
 use Rattle.sound.proofs.Sessions.{lowest-free, lowest-within}
 use Rattle.sound.proofs.Sets.{shape_of, there-shape, larger-shape, listed-existing}
-use Rattle.sound.proofs.Shedding.{inSet-exact}
+use Rattle.sound.proofs.Shedding.{in_set-exact}
 use Rattle.sound.proofs.Sheet.{AllClear, clear-done, settle-done}
 use Rattle.sound.proofs.Words.{InOrBelow, listed-within}
 use Rattle.demands.specs.Authorised.{Authorised, Effective}
 use Rattle.demands.specs.Broken.{StaticBroken, DynamicBroken}
 use Rattle.demands.specs.Conditions.{Conditions, OfLists, OfPolicy, NoneBefore}
-use Rattle.demands.specs.Demand2.{Applies, place, refusals, results, effect, wouldBreak, OpenOf, hasOpen}
+use Rattle.demands.specs.Demand2.{Applies, place, refusals, results, effect, would_break, OpenOf, has_open}
 use Rattle.demands.specs.Demand3.{Rules}
 use Rattle.demands.specs.Many.{AsMany}
 use Rattle.demands.proofs.Broken.{authorises, counts, broken-exact, static-exact, dynamic-exact}
@@ -59,24 +59,24 @@ use Rattle.demands.proofs.Many.{many-map}
 
 -- ---- lists
 
-beyond : (list : List ℕ) → (someFrom 64 list ≡ true) ↔ ((r : ℕ) × Memᴰ r list × (64 ≤ r))
-unfolding someFrom
+beyond : (list : List ℕ) → (some_from 64 list ≡ true) ↔ ((r : ℕ) × Memᴰ r list × (64 ≤ r))
+unfolding some_from
 beyond list = (to list, λ f. back list f.0 f.1 f.2)
   where
-    to : (l : List ℕ) → someFrom 64 l ≡ true → (r : ℕ) × Memᴰ r l × (64 ≤ r)
+    to : (l : List ℕ) → some_from 64 l ≡ true → (r : ℕ) × Memᴰ r l × (64 ≤ r)
     to [] e = clash false e refl
-    to (a ∷ rest) e = go (or_cases (leb 64 a) (someFrom 64 rest) e) (to rest)
+    to (a ∷ rest) e = go (or_cases (leb 64 a) (some_from 64 rest) e) (to rest)
       where
-        go : (leb 64 a ≡ true) ⊎ (someFrom 64 rest ≡ true) → (someFrom 64 rest ≡ true → (r : ℕ) × Memᴰ r rest × (64 ≤ r)) → (r : ℕ) × Memᴰ r (a ∷ rest) × (64 ≤ r)
+        go : (leb 64 a ≡ true) ⊎ (some_from 64 rest ≡ true) → (some_from 64 rest ≡ true → (r : ℕ) × Memᴰ r rest × (64 ≤ r)) → (r : ℕ) × Memᴰ r (a ∷ rest) × (64 ≤ r)
         go (inl p) ih = (a, Memᴰ.head refl, leb-true 64 a p)
         go (inr p) ih = let f = ih p in (f.0, Memᴰ.tail f.1, f.2)
 
-    back : (l : List ℕ) (r : ℕ) → Memᴰ r l → 64 ≤ r → someFrom 64 l ≡ true
+    back : (l : List ℕ) (r : ℕ) → Memᴰ r l → 64 ≤ r → some_from 64 l ≡ true
     back [] r x h = absurd (Memᴰ.not-nil x)
-    back (a ∷ rest) r (Memᴰ.head e) h = or_left (leb 64 a) (someFrom 64 rest) (le-leb 64 a (omega arith))
-    back (a ∷ rest) r (Memᴰ.tail x) h = or_right (leb 64 a) (someFrom 64 rest) (back rest r x h)
+    back (a ∷ rest) r (Memᴰ.head e) h = or_left (leb 64 a) (some_from 64 rest) (le-leb 64 a (omega arith))
+    back (a ∷ rest) r (Memᴰ.tail x) h = or_right (leb 64 a) (some_from 64 rest) (back rest r x h)
 
-within : (list : List ℕ) → someFrom 64 list ≡ false → (roles : ℕ) → (subset (setOf list) roles ≡ true) ↔ ((r : ℕ) → Memᴰ r list → has roles r ≡ true)
+within : (list : List ℕ) → some_from 64 list ≡ false → (roles : ℕ) → (subset (set_of list) roles ≡ true) ↔ ((r : ℕ) → Memᴰ r list → has roles r ≡ true)
 within list e roles =
     let w = listed-within list e roles in
     ((λ h r x. w.0 h r ((member list r).1 x)), (λ f. w.1 (λ r h. f r ((member list r).0 h))))
@@ -85,30 +85,30 @@ within list e roles =
 
 module _ (m : Model) (s : Sound m) where
   -- A command of which no refusal applies leaves a sound policy.
-  effect-sound : (c : Command) (list : List ℕ) → AllClear (refusals m c list) → Sound (effect m c list)
+  effect_sound : (c : Command) (list : List ℕ) → AllClear (refusals m c list) → Sound (effect m c list)
   effect-sound c list clear = subst Sound (ap (λ (t : Told). t.after) ((shown m c list).listed s ∙ settle-done (refusals m c list) m (results m c list) (effect m c list) (clear-done (refusals m c list) clear))) ((shown m c list).kept s)
 
   -- A rule that every sound policy keeps is kept by a command that lists only numbers before the rule's.
-  kept-done : (n : ℕ) (Rule : Model → Type 0) → ((x : Model) → Sound x → Rule x → ⊥) → (c : Command) (list : List ℕ) → earlier (place n) (refusals m c list) ≡ true → asked n (refusals m c list) ≡ false → NoneBefore (refusals m c list) n → (asked n (refusals m c list) ≡ true) ↔ Rule (effect m c list)
+  kept_done : (n : ℕ) (Rule : Model → Type 0) → ((x : Model) → Sound x → Rule x → ⊥) → (c : Command) (list : List ℕ) → earlier (place n) (refusals m c list) ≡ true → asked n (refusals m c list) ≡ false → NoneBefore (refusals m c list) n → (asked n (refusals m c list) ≡ true) ↔ Rule (effect m c list)
   kept-done n Rule keeps c list before off none = ((λ h. clash (asked n (refusals m c list)) h off), (λ b. absurd (keeps (effect m c list) (effect-sound c list (all-clear n (refusals m c list) before none)) b)))
 
   -- The same lines are no more lines.
-  as-lined : (after : Model) → after.juniors ≡ m.juniors → (a j : ℕ) → line after.juniors a j ≡ true → line m.juniors a j ≡ true
+  as_lined : (after : Model) → after.juniors ≡ m.juniors → (a j : ℕ) → line after.juniors a j ≡ true → line m.juniors a j ≡ true
   as-lined after lines a j h = sym (ap (λ (x : ℕ → ℕ). line x a j) lines) ∙ h
 
   -- What assigns no more, and leaves the lines and the static sets alone, keeps the static rule,
-  static-fewer : (after : Model) → after.ssd ≡ m.ssd → ((u r : ℕ) → has (after.assigned u) r ≡ true → has (m.assigned u) r ≡ true) → after.juniors ≡ m.juniors → after.roles ≡ m.roles → StaticBroken after → ⊥
+  static_fewer : (after : Model) → after.ssd ≡ m.ssd → ((u r : ℕ) → has (after.assigned u) r ≡ true → has (m.assigned u) r ≡ true) → after.juniors ≡ m.juniors → after.roles ≡ m.roles → StaticBroken after → ⊥
   static-fewer after sets fewer lines roles b = (rules m s).static (record { who = b.who; name = b.name; there = sym (ap (λ (x : ℕ → RoleSet). (x b.name).there) sets) ∙ b.there; many = subst (λ (x : ℕ → RoleSet). AsMany (x b.name).card (λ r. (has (x b.name).roles r ≡ true) × Authorised m b.who r)) sets (many-map (λ r h. (h.0, as_before r h.1)) b.many) })
     where
       as_before : (r : ℕ) → Authorised after b.who r → Authorised m b.who r
       as_before r a = record { exists = sym (ap (λ (x : ℕ). has x r) roles) ∙ a.exists; through = in-or-below-fewer m after (as-lined after lines) (after.assigned b.who) (m.assigned b.who) (fewer b.who) r a.through }
 
   -- so does what leaves the users' authorisations alone,
-  static-same : (after : Model) → after.ssd ≡ m.ssd → after.assigned ≡ m.assigned → after.juniors ≡ m.juniors → after.roles ≡ m.roles → StaticBroken after → ⊥
+  static_same : (after : Model) → after.ssd ≡ m.ssd → after.assigned ≡ m.assigned → after.juniors ≡ m.juniors → after.roles ≡ m.roles → StaticBroken after → ⊥
   static-same after sets table = static-fewer after sets (λ u r h. sym (ap (λ (x : ℕ → ℕ). has (x u) r) table) ∙ h)
 
   -- and what leaves the sessions, the lines, the roles and the dynamic sets alone keeps the dynamic rule.
-  dynamic-same : (after : Model) → after.dsd ≡ m.dsd → after.sessions ≡ m.sessions → after.juniors ≡ m.juniors → after.roles ≡ m.roles → DynamicBroken after → ⊥
+  dynamic_same : (after : Model) → after.dsd ≡ m.dsd → after.sessions ≡ m.sessions → after.juniors ≡ m.juniors → after.roles ≡ m.roles → DynamicBroken after → ⊥
   dynamic-same after sets sessions lines roles b = (rules m s).dynamic (record { who = b.who; name = b.name; there = sym (ap (λ (x : ℕ → RoleSet). (x b.name).there) sets) ∙ b.there; many = subst (λ (x : ℕ → RoleSet). AsMany (x b.name).card (λ r. (has (x b.name).roles r ≡ true) × Effective m b.who r)) sets (many-map (λ r h. (h.0, as_before r h.1)) b.many) })
     where
       as_before : (r : ℕ) → Effective after b.who r → Effective m b.who r
@@ -124,30 +124,30 @@ module _ (m : Model) (s : Sound m) where
   BrokenOf Static x = StaticBroken x
   BrokenOf Dynamic x = DynamicBroken x
 
-  set-exact : (kind : Kind) (name : ℕ) (new : RoleSet) → SetShape m name new → (wouldBreak kind (withSets kind m (put (setsOf kind m) name new)) ≡ true) ↔ BrokenOf kind (withSets kind m (put (setsOf kind m) name new))
-  set-exact kind name new x = go kind (put_all (λ n set. SetShape m n set) (setsOf kind m) name new x (λ n d. shape_of kind m s.shape n))
+  set_exact : (kind : Kind) (name : ℕ) (new : RoleSet) → SetShape m name new → (would_break kind (with_sets kind m (put (sets_of kind m) name new)) ≡ true) ↔ BrokenOf kind (with_sets kind m (put (sets_of kind m) name new))
+  set-exact kind name new x = go kind (put_all (λ n set. SetShape m n set) (sets_of kind m) name new x (λ n d. shape_of kind m s.shape n))
     where
-      go : (k : Kind) → ((n : ℕ) → SetShape m n (put (setsOf k m) name new n)) → (wouldBreak k (withSets k m (put (setsOf k m) name new)) ≡ true) ↔ BrokenOf k (withSets k m (put (setsOf k m) name new))
-      go Static shaped = static-exact (withSets Static m (put m.ssd name new)) (sets-shape m s.shape Static (put m.ssd name new) shaped)
-      go Dynamic shaped = dynamic-exact (withSets Dynamic m (put m.dsd name new)) (sets-shape m s.shape Dynamic (put m.dsd name new) shaped)
+      go : (k : Kind) → ((n : ℕ) → SetShape m n (put (sets_of k m) name new n)) → (would_break k (with_sets k m (put (sets_of k m) name new)) ≡ true) ↔ BrokenOf k (with_sets k m (put (sets_of k m) name new))
+      go Static shaped = static-exact (with_sets Static m (put m.ssd name new)) (sets-shape m s.shape Static (put m.ssd name new) shaped)
+      go Dynamic shaped = dynamic-exact (with_sets Dynamic m (put m.dsd name new)) (sets-shape m s.shape Dynamic (put m.dsd name new) shaped)
 
-  made-shape : (name n : ℕ) (list : List ℕ) → (leb 16 name || someFrom 64 list) ≡ false → not (subset (setOf list) m.roles) ≡ false → (ltb n 2 || ltb (count (setOf list)) n) ≡ false → SetShape m name (aSet n (setOf list))
-  made-shape name n list c1 c2 c7 = there-shape m name n (setOf list) (leb-false 16 name (or_no (leb 16 name) (someFrom 64 list) c1).0) c7 (listed-existing m list (not-false (subset (setOf list) m.roles) c2))
+  made_shape : (name n : ℕ) (list : List ℕ) → (leb 16 name || some_from 64 list) ≡ false → not (subset (set_of list) m.roles) ≡ false → (ltb n 2 || ltb (count (set_of list)) n) ≡ false → SetShape m name (a_set n (set_of list))
+  made-shape name n list c1 c2 c7 = there-shape m name n (set_of list) (leb-false 16 name (or_no (leb 16 name) (some_from 64 list) c1).0) c7 (listed-existing m list (not-false (subset (set_of list) m.roles) c2))
 
-  grown-shape : (kind : Kind) (name r : ℕ) → (not (setsOf kind m name).there || not (has m.roles r)) ≡ false → SetShape m name (aSet (setsOf kind m name).card (with (setsOf kind m name).roles r))
+  grown_shape : (kind : Kind) (name r : ℕ) → (not (sets_of kind m name).there || not (has m.roles r)) ≡ false → SetShape m name (a_set (sets_of kind m name).card (with (sets_of kind m name).roles r))
   grown-shape kind name r c2 =
-      let there = or_no (not (setsOf kind m name).there) (not (has m.roles r)) c2 in
-      larger-shape m name (setsOf kind m name) r (shape_of kind m s.shape name) (not-false (setsOf kind m name).there there.0) (not-false (has m.roles r) there.1)
+      let there = or_no (not (sets_of kind m name).there) (not (has m.roles r)) c2 in
+      larger-shape m name (sets_of kind m name) r (shape_of kind m s.shape name) (not-false (sets_of kind m name).there there.0) (not-false (has m.roles r) there.1)
 
-  sized-shape : (kind : Kind) (name n : ℕ) → not (setsOf kind m name).there ≡ false → (ltb n 2 || ltb (count (setsOf kind m name).roles) n) ≡ false → SetShape m name (aSet n (setsOf kind m name).roles)
+  sized_shape : (kind : Kind) (name n : ℕ) → not (sets_of kind m name).there ≡ false → (ltb n 2 || ltb (count (sets_of kind m name).roles) n) ≡ false → SetShape m name (a_set n (sets_of kind m name).roles)
   sized-shape kind name n c2 c7 =
       let x = shape_of kind m s.shape name in
-      there-shape m name n (setsOf kind m name).roles (x.named (not-false (setsOf kind m name).there c2)) c7 x.members
+      there-shape m name n (sets_of kind m name).roles (x.named (not-false (sets_of kind m name).there c2)) c7 x.members
 
   -- ---- one session changed
 
-  session-exact : (n k : ℕ) (new : Session) → 64 ≤ n → k < n → Existing m new.active → (some n (dynamicBroken (sessionSet m k new)) ≡ true) ↔ DynamicBroken (sessionSet m k new)
-  unfolding dynamicBroken
+  session_exact : (n k : ℕ) (new : Session) → 64 ≤ n → k < n → Existing m new.active → (some n (dynamic_broken (session_set m k new)) ≡ true) ↔ DynamicBroken (session_set m k new)
+  unfolding dynamic_broken
   session-exact n k new most l existing =
       broken-exact n m.dsd (counted after) (Effective after)
       (counted-small after)
@@ -157,44 +157,44 @@ module _ (m : Model) (s : Sound m) where
       (λ name t. let two = (s.shape.dsd name).at_least t in omega arith)
     where
       after : Model
-      after = sessionSet m k new
+      after = session_set m k new
 
       exist : (i : ℕ) → Existing m (put m.sessions k new i).active
       exist = put_all (λ i x. Existing m x.active) m.sessions k new existing (λ i d. (s.shape.sessions i).active)
 
   -- ---- every command
 
-  assign-exact : (u r : ℕ) → (leb 256 u || leb 64 r) ≡ false → (not (m.users u) || not (has m.roles r)) ≡ false → (wouldBreak Static (assigned m u r) ≡ true) ↔ StaticBroken (assigned m u r)
+  assign_exact : (u r : ℕ) → (leb 256 u || leb 64 r) ≡ false → (not (m.users u) || not (has m.roles r)) ≡ false → (would_break Static (assigned m u r) ≡ true) ↔ StaticBroken (assigned m u r)
   unfolding assigned
   assign-exact u r c1 c2 =
       let there = or_no (not (m.users u)) (not (has m.roles r)) c2 in
       let new : ℕ → ℕ = put m.assigned u (with (m.assigned u) r) in
       static-exact (assigned m u r)
-      (assigned-shape m s.shape new (m.assignmentCount + 1)
+      (assigned-shape m s.shape new (m.assignment_count + 1)
       (put_all (λ k set. (j : ℕ) → has set j ≡ true → m.users k ≡ true) m.assigned u (with (m.assigned u) r) (λ j e. not-false (m.users u) there.0) (λ k d j e. s.shape.assignees k j e))
       (existing-at m m.assigned u r s.shape.assigned (not-false (has m.roles r) there.1)))
 
-  lined-shape : (a b : ℕ) → (not (has m.roles a) || not (has m.roles b)) ≡ false → Shape (lined m a b)
+  lined_shape : (a b : ℕ) → (not (has m.roles a) || not (has m.roles b)) ≡ false → Shape (lined m a b)
   unfolding lined
   lined-shape a b c2 =
       let there = or_no (not (has m.roles a)) (not (has m.roles b)) c2 in
       let new : ℕ → ℕ = put m.juniors a (with (m.juniors a) b) in
-      lines-shape m s.shape new (m.lineCount + 1)
+      lines-shape m s.shape new (m.line_count + 1)
       (put_all (λ k set. (j : ℕ) → has set j ≡ true → has m.roles k ≡ true) m.juniors a (with (m.juniors a) b) (λ j e. not-false (has m.roles a) there.0) (λ k d j e. s.shape.seniors k j e))
       (existing-at m m.juniors a b s.shape.juniors (not-false (has m.roles b) there.1))
 
   -- `nouser` takes assignments away
-  fewer-assigned : (u v r : ℕ) → has (put m.assigned u none v) r ≡ true → has (m.assigned v) r ≡ true
+  fewer_assigned : (u v r : ℕ) → has (put m.assigned u none v) r ≡ true → has (m.assigned v) r ≡ true
   fewer-assigned u = put_all (λ v set. (r : ℕ) → has set r ≡ true → has (m.assigned v) r ≡ true) m.assigned u none (λ r e. clash (has 0 r) e (has-none r)) (λ v d r e. e)
 
   static_keeps : (x : Model) → Sound x → StaticBroken x → ⊥
   static_keeps x sx = (rules x sx).static
 
-  dynamic-keeps : (x : Model) → Sound x → DynamicBroken x → ⊥
+  dynamic_keeps : (x : Model) → Sound x → DynamicBroken x → ⊥
   dynamic-keeps x sx = (rules x sx).dynamic
 
-  static-asked : (c : Command) (list : List ℕ) → NoneBefore (refusals m c list) 10 → (asked 10 (refusals m c list) ≡ true) ↔ StaticBroken (effect m c list)
-  unfolding refusals effect withoutUser granted opened activeSet
+  static_asked : (c : Command) (list : List ℕ) → NoneBefore (refusals m c list) 10 → (asked 10 (refusals m c list) ≡ true) ↔ StaticBroken (effect m c list)
+  unfolding refusals effect without_user granted opened active_set
   static-asked (AddUser u) list none = kept-done 10 StaticBroken static_keeps (AddUser u) list refl refl none
   static-asked (AddRole r) list none = kept-done 10 StaticBroken static_keeps (AddRole r) list refl refl none
   static-asked (NoUser u) list none = off refl (static-fewer (effect m (NoUser u) list) refl (fewer-assigned u.number) refl refl)
@@ -205,13 +205,13 @@ module _ (m : Model) (s : Sound m) where
   static-asked (Revoke op obj r) list none = kept-done 10 StaticBroken static_keeps (Revoke op obj r) list refl refl none
   static-asked (Inherit a b) list none = static-exact (lined m a.number b.number) (lined-shape a.number b.number (not_yet 10 2 _ none (omega arith)))
   static-asked (Disinherit a b) list none = kept-done 10 StaticBroken static_keeps (Disinherit a b) list refl refl none
-  static-asked (MakeSet Static name n) list none = set-exact Static name.number (aSet n (setOf list)) (made-shape name.number n list (not_yet 10 1 _ none (omega arith)) (not_yet 10 2 _ none (omega arith)) (not_yet 10 7 _ none (omega arith)))
+  static-asked (MakeSet Static name n) list none = set-exact Static name.number (a_set n (set_of list)) (made-shape name.number n list (not_yet 10 1 _ none (omega arith)) (not_yet 10 2 _ none (omega arith)) (not_yet 10 7 _ none (omega arith)))
   static-asked (MakeSet Dynamic name n) list none = off refl (static-same (effect m (MakeSet Dynamic name n) list) refl refl refl refl)
   static-asked (DropSet kind name) list none = kept-done 10 StaticBroken static_keeps (DropSet kind name) list refl refl none
-  static-asked (AddMember Static name r) list none = set-exact Static name.number (aSet (m.ssd name.number).card (with (m.ssd name.number).roles r.number)) (grown-shape Static name.number r.number (not_yet 10 2 _ none (omega arith)))
+  static-asked (AddMember Static name r) list none = set-exact Static name.number (a_set (m.ssd name.number).card (with (m.ssd name.number).roles r.number)) (grown-shape Static name.number r.number (not_yet 10 2 _ none (omega arith)))
   static-asked (AddMember Dynamic name r) list none = off refl (static-same (effect m (AddMember Dynamic name r) list) refl refl refl refl)
   static-asked (DropMember kind name r) list none = kept-done 10 StaticBroken static_keeps (DropMember kind name r) list refl refl none
-  static-asked (SetCardinality Static name n) list none = set-exact Static name.number (aSet n (m.ssd name.number).roles) (sized-shape Static name.number n (not_yet 10 2 _ none (omega arith)) (not_yet 10 7 _ none (omega arith)))
+  static-asked (SetCardinality Static name n) list none = set-exact Static name.number (a_set n (m.ssd name.number).roles) (sized-shape Static name.number n (not_yet 10 2 _ none (omega arith)) (not_yet 10 7 _ none (omega arith)))
   static-asked (SetCardinality Dynamic name n) list none = off refl (static-same (effect m (SetCardinality Dynamic name n) list) refl refl refl refl)
   static-asked (OpenSession u) list none = off refl (static-same (effect m (OpenSession u) list) refl refl refl refl)
   static-asked (Activate u k r) list none = off refl (static-same (effect m (Activate u k r) list) refl refl refl refl)
@@ -219,8 +219,8 @@ module _ (m : Model) (s : Sound m) where
   static-asked (EndSession u k) list none = kept-done 10 StaticBroken static_keeps (EndSession u k) list refl refl none
   static-asked (EndAll u) list none = kept-done 10 StaticBroken static_keeps (EndAll u) list refl refl none
 
-  dynamic-asked : (c : Command) (list : List ℕ) → NoneBefore (refusals m c list) 11 → (asked 11 (refusals m c list) ≡ true) ↔ DynamicBroken (effect m c list)
-  unfolding refusals effect withoutUser granted assigned lined opened activeSet setOf
+  dynamic_asked : (c : Command) (list : List ℕ) → NoneBefore (refusals m c list) 11 → (asked 11 (refusals m c list) ≡ true) ↔ DynamicBroken (effect m c list)
+  unfolding refusals effect without_user granted assigned lined opened active_set set_of
   dynamic-asked (AddUser u) list none = kept-done 11 DynamicBroken dynamic-keeps (AddUser u) list refl refl none
   dynamic-asked (AddRole r) list none = kept-done 11 DynamicBroken dynamic-keeps (AddRole r) list refl refl none
   dynamic-asked (NoUser u) list none = off refl (dynamic-same (effect m (NoUser u) list) refl refl refl refl)
@@ -232,14 +232,14 @@ module _ (m : Model) (s : Sound m) where
   dynamic-asked (Inherit a b) list none = dynamic-exact (lined m a.number b.number) (lined-shape a.number b.number (not_yet 11 2 _ none (omega arith)))
   dynamic-asked (Disinherit a b) list none = kept-done 11 DynamicBroken dynamic-keeps (Disinherit a b) list refl refl none
   dynamic-asked (MakeSet Static name n) list none = kept-done 11 DynamicBroken dynamic-keeps (MakeSet Static name n) list refl refl none
-  dynamic-asked (MakeSet Dynamic name n) list none = set-exact Dynamic name.number (aSet n (setOf list)) (made-shape name.number n list (not_yet 11 1 _ none (omega arith)) (not_yet 11 2 _ none (omega arith)) (not_yet 11 7 _ none (omega arith)))
+  dynamic-asked (MakeSet Dynamic name n) list none = set-exact Dynamic name.number (a_set n (set_of list)) (made-shape name.number n list (not_yet 11 1 _ none (omega arith)) (not_yet 11 2 _ none (omega arith)) (not_yet 11 7 _ none (omega arith)))
   dynamic-asked (DropSet kind name) list none = kept-done 11 DynamicBroken dynamic-keeps (DropSet kind name) list refl refl none
   dynamic-asked (AddMember Static name r) list none = kept-done 11 DynamicBroken dynamic-keeps (AddMember Static name r) list refl refl none
-  dynamic-asked (AddMember Dynamic name r) list none = set-exact Dynamic name.number (aSet (m.dsd name.number).card (with (m.dsd name.number).roles r.number)) (grown-shape Dynamic name.number r.number (not_yet 11 2 _ none (omega arith)))
+  dynamic-asked (AddMember Dynamic name r) list none = set-exact Dynamic name.number (a_set (m.dsd name.number).card (with (m.dsd name.number).roles r.number)) (grown-shape Dynamic name.number r.number (not_yet 11 2 _ none (omega arith)))
   dynamic-asked (DropMember kind name r) list none = kept-done 11 DynamicBroken dynamic-keeps (DropMember kind name r) list refl refl none
   dynamic-asked (SetCardinality Static name n) list none = kept-done 11 DynamicBroken dynamic-keeps (SetCardinality Static name n) list refl refl none
-  dynamic-asked (SetCardinality Dynamic name n) list none = set-exact Dynamic name.number (aSet n (m.dsd name.number).roles) (sized-shape Dynamic name.number n (not_yet 11 2 _ none (omega arith)) (not_yet 11 7 _ none (omega arith)))
-  dynamic-asked (OpenSession u) list none = session-exact 65 (lowestFree m) (openFor u.number (setOf list)) (omega arith) (omega (arith, lowest-within m)) (listed-existing m list (not-false (subset (setOf list) m.roles) (or_no (not (m.users u.number)) (not (subset (setOf list) m.roles)) (not_yet 11 2 (refusals m (OpenSession u) list) none (omega arith))).1))
+  dynamic-asked (SetCardinality Dynamic name n) list none = set-exact Dynamic name.number (a_set n (m.dsd name.number).roles) (sized-shape Dynamic name.number n (not_yet 11 2 _ none (omega arith)) (not_yet 11 7 _ none (omega arith)))
+  dynamic-asked (OpenSession u) list none = session-exact 65 (lowest_free m) (open_for u.number (set_of list)) (omega arith) (omega (arith, lowest-within m)) (listed-existing m list (not-false (subset (set_of list) m.roles) (or_no (not (m.users u.number)) (not (subset (set_of list) m.roles)) (not_yet 11 2 (refusals m (OpenSession u) list) none (omega arith))).1))
   dynamic-asked (Activate u k r) list none =
       let there = or_no (not (m.users u.number)) (not (m.sessions k.number).live || not (has m.roles r.number)) (not_yet 11 2 (refusals m (Activate u k r) list) none (omega arith)) in
       let both = or_no (not (m.sessions k.number).live) (not (has m.roles r.number)) there.1 in
@@ -269,7 +269,7 @@ module _ (m : Model) (s : Sound m) where
         dynamic = λ c list none. in_words c list (dynamic-asked c list none);
       }
     where
-      opens-exact : (u : ℕ) → (hasOpen m u ≡ true) ↔ ((k : ℕ) × OpenOf m u k)
+      opens_exact : (u : ℕ) → (has_open m u ≡ true) ↔ ((k : ℕ) × OpenOf m u k)
       opens-exact u =
           let live : ℕ → Bool = λ k. (m.sessions k).live in
           let own : ℕ → Bool = λ k. eqb (m.sessions k).owner u in (
@@ -277,10 +277,10 @@ module _ (m : Model) (s : Sound m) where
             (λ f. some-intro 64 (λ k. live k && own k) f.0 ((s.shape.sessions f.0).numbered f.1.0) (and_both (live f.0) (own f.0) f.1.0 (eq-eqb (m.sessions f.0).owner u f.1.1))),
           )
 
-      stands : (kind : Kind) (r : ℕ) → (in_set (setsOf kind m) r ≡ true) ↔ ((name : ℕ) × ((setsOf kind m name).there ≡ true) × (has (setsOf kind m name).roles r ≡ true))
+      stands : (kind : Kind) (r : ℕ) → (in_set (sets_of kind m) r ≡ true) ↔ ((name : ℕ) × ((sets_of kind m name).there ≡ true) × (has (sets_of kind m name).roles r ≡ true))
       stands kind r =
-          let x = inSet-exact m (setsOf kind m) (shape_of kind m s.shape) r in
-          ((λ e. let f = x.0 e in (f.0, member-there m f.0 (setsOf kind m f.0) r (shape_of kind m s.shape f.0) f.1, f.1)), (λ f. x.1 (f.0, f.2)))
+          let x = in_set-exact m (sets_of kind m) (shape_of kind m s.shape) r in
+          ((λ e. let f = x.0 e in (f.0, member-there m f.0 (sets_of kind m f.0) r (shape_of kind m s.shape f.0) f.1, f.1)), (λ f. x.1 (f.0, f.2)))
 
 -- what the refusals of demand 2 compute is what the paper's words say
 pub conditions : Conditions

@@ -10,10 +10,10 @@ use borrow.Author.Tests.{eqb-false, eq-eqb, ne_eqb, not-true, not-false}
 use Rattle.roleset.specs.Bounded.{bit, some, tally, total}
 use Rattle.roleset.specs.Roles.{has, without, count, is_empty}
 use Rattle.roleset.proofs.BoundedLaws.{clash, and_left, and_right, and_both, not_yes, some-elim, some-false, some-tally, tally-change, total-le}
-use Rattle.roleset.proofs.Laws.{member-small, count-without, count-mono, count_none, isEmpty-true, is_empty_false}
+use Rattle.roleset.proofs.Laws.{member-small, count-without, count-mono, count_none, is_empty-true, is_empty_false}
 use Rattle.model.specs.Model.{Model, put, standing}
 use Rattle.model.specs.Sound.{Shape}
-use Rattle.model.specs.Words.{assignments, grants, linesStanding, sessionsOpen}
+use Rattle.model.specs.Words.{assignments, grants, lines_standing, sessions_open}
 use Rattle.model.proofs.Puts.{put_same, put_other}
 use Rattle.sound.proofs.Carried.{role-small, lines-small}
 use Rattle.sound.proofs.Counting.{one-changed}
@@ -55,7 +55,7 @@ module _ (k : ℕ) where
   passes f i j p ne = (p.0, and_both (f j) _ p.1 (not_yes (eqb j i) (ne_eqb j i ne)))
 
   -- As many as n pass the test exactly where it is counted n times or more.
-  pub many-passing : (n : ℕ) (f : ℕ → Bool) → ((i : ℕ) → f i ≡ true → i < k) → (n ≤ tally k f) ↔ AsMany n (λ i. f i ≡ true)
+  pub many_passing : (n : ℕ) (f : ℕ → Bool) → ((i : ℕ) → f i ≡ true → i < k) → (n ≤ tally k f) ↔ AsMany n (λ i. f i ≡ true)
   many-passing n f small = (
     (λ h. many-map (λ i p. p.1) (counted-many (tally k) Passing except one_passes one_less passed passes n f h)),
     (λ x. many-counted (tally k) Passing except one_passes one_less passed passes n f (many-map (λ i e. (small i e, e)) x)),
@@ -76,7 +76,7 @@ module _ (k : ℕ) where
   abbrev taken : (ℕ → ℕ) → ℕ × ℕ → ℕ → ℕ
   taken table p = put table p.0 (without (table p.0) p.1)
 
-  one-pair : (table : ℕ → ℕ) → 0 < standing k table → (p : ℕ × ℕ) × Pair table p
+  one_pair : (table : ℕ → ℕ) → 0 < standing k table → (p : ℕ × ℕ) × Pair table p
   unfolding standing
   one-pair table h = go (some k (λ i. not (is_empty (table i)))) refl
     where
@@ -88,16 +88,16 @@ module _ (k : ℕ) where
       go false e = absurd (let most = total-le k 0 (λ i. count (table i)) (λ i l. none_in (table i) (not-false (is_empty (table i)) (some-false k (λ j. not (is_empty (table j))) e i l))) in omega arith)
         where
           none_in : (set : ℕ) → is_empty set ≡ true → count set ≤ 0
-          none_in set z = omega (arith, count-mono set 0 (λ r l h. clash (has set r) h (isEmpty-true set z r l)), count_none)
+          none_in set z = omega (arith, count-mono set 0 (λ r l h. clash (has set r) h (is_empty-true set z r l)), count_none)
 
-  pair-less : (table : ℕ → ℕ) (p : ℕ × ℕ) → Pair table p → suc (standing k (taken table p)) ≡ standing k table
+  pair_less : (table : ℕ → ℕ) (p : ℕ × ℕ) → Pair table p → suc (standing k (taken table p)) ≡ standing k table
   pair-less table p h = omega (arith, one-changed k table p.0 (without (table p.0) p.1) h.0, count-without (table p.0) p.1 h.1 h.2)
 
-  pair-was : (table : ℕ → ℕ) (p q : ℕ × ℕ) → Pair (taken table p) q → Pair table q × (q ≡ p → ⊥)
+  pair_was : (table : ℕ → ℕ) (p q : ℕ × ℕ) → Pair (taken table p) q → Pair table q × (q ≡ p → ⊥)
   pair-was table p q h = let was = put_all (λ i set. (r : ℕ) → has set r ≡ true → (has (table i) r ≡ true) × (i ≡ p.0 → r ≡ p.1 → ⊥)) table p.0 (without (table p.0) p.1) (λ r e. let w = without-member (table p.0) p.1 r e in (w.1, λ same. w.2)) (λ i ne r e. (e, λ same. absurd (ne same))) q.0 q.1 h.2 in
       ((h.0, h.1, was.0), λ e. was.1 (ap (λ (x : ℕ × ℕ). x.0) e) (ap (λ (x : ℕ × ℕ). x.1) e))
 
-  pair-stays : (table : ℕ → ℕ) (p q : ℕ × ℕ) → Pair table q → (q ≡ p → ⊥) → Pair (taken table p) q
+  pair_stays : (table : ℕ → ℕ) (p q : ℕ × ℕ) → Pair table q → (q ≡ p → ⊥) → Pair (taken table p) q
   pair-stays table p q h ne = (h.0, h.1, go (ℕ_discrete q.0 p.0))
     where
       go : Dec (q.0 ≡ p.0) → has (taken table p q.0) q.1 ≡ true
@@ -105,7 +105,7 @@ module _ (k : ℕ) where
       go (no e) = ap (λ (set : ℕ). has set q.1) (put_other table p.0 (without (table p.0) p.1) q.0 e) ∙ h.2
 
   -- As many as n pairs stand in the table exactly where it is counted to hold n or more.
-  pub many-standing : (n : ℕ) (table : ℕ → ℕ) → ((i r : ℕ) → has (table i) r ≡ true → (i < k) × (r < 64)) → (n ≤ standing k table) ↔ AsMany n (λ (p : ℕ × ℕ). has (table p.0) p.1 ≡ true)
+  pub many_standing : (n : ℕ) (table : ℕ → ℕ) → ((i r : ℕ) → has (table i) r ≡ true → (i < k) × (r < 64)) → (n ≤ standing k table) ↔ AsMany n (λ (p : ℕ × ℕ). has (table p.0) p.1 ≡ true)
   many-standing n table small = (
     (λ h. many-map (λ p x. x.2) (counted-many (standing k) Pair taken one-pair pair-less pair-was pair-stays n table h)),
     (λ x. many-counted (standing k) Pair taken one-pair pair-less pair-was pair-stays n table (many-map (λ p e. let s = small p.0 p.1 e in (s.0, s.1, e)) x)),
@@ -114,18 +114,18 @@ module _ (k : ℕ) where
 -- ---- how full the tables of a policy are
 
 module _ (m : Model) (x : Shape m) where
-  pub assignments-many : (n : ℕ) → (n ≤ assignments m) ↔ AsMany n (λ (p : ℕ × ℕ). has (m.assigned p.0) p.1 ≡ true)
+  pub assignments_many : (n : ℕ) → (n ≤ assignments m) ↔ AsMany n (λ (p : ℕ × ℕ). has (m.assigned p.0) p.1 ≡ true)
   unfolding assignments
   assignments-many n = many-standing 256 n m.assigned (λ u r e. (x.users u (x.assignees u r e), role-small m x r ((x.assigned u).exist r e)))
 
-  pub grants-many : (n : ℕ) → (n ≤ grants m) ↔ AsMany n (λ (p : ℕ × ℕ). has (m.holders p.0) p.1 ≡ true)
+  pub grants_many : (n : ℕ) → (n ≤ grants m) ↔ AsMany n (λ (p : ℕ × ℕ). has (m.holders p.0) p.1 ≡ true)
   unfolding grants
   grants-many n = many-standing 4096 n m.holders (λ p r e. (x.permissions p r e, role-small m x r ((x.holders p).exist r e)))
 
-  pub lines-many : (n : ℕ) → (n ≤ linesStanding m) ↔ AsMany n (λ (p : ℕ × ℕ). has (m.juniors p.0) p.1 ≡ true)
-  unfolding linesStanding
+  pub lines_many : (n : ℕ) → (n ≤ lines_standing m) ↔ AsMany n (λ (p : ℕ × ℕ). has (m.juniors p.0) p.1 ≡ true)
+  unfolding lines_standing
   lines-many n = many-standing 64 n m.juniors (lines-small m x).within
 
-  pub sessions-many : (n : ℕ) → (n ≤ sessionsOpen m) ↔ AsMany n (λ s. (m.sessions s).live ≡ true)
-  unfolding sessionsOpen
+  pub sessions_many : (n : ℕ) → (n ≤ sessions_open m) ↔ AsMany n (λ s. (m.sessions s).live ≡ true)
+  unfolding sessions_open
   sessions-many n = many-passing 64 n (λ s. (m.sessions s).live) (λ s e. (x.sessions s).numbered e)

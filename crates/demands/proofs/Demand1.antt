@@ -9,7 +9,7 @@ use Rattle.model.specs.Model.{Model}
 use Rattle.model.specs.Sheet.{Told}
 use Rattle.model.proofs.Asking.{asked-same}
 use Rattle.policyform.specs.Promises.{Loads}
-use Rattle.policyform.specs.Rules.{rulesBroken}
+use Rattle.policyform.specs.Rules.{rules_broken}
 use Rattle.demands.specs.Demand1.{Demand1, Harmless}
 use Rattle.demands.proofs.Commands as commands
 use Rattle.demands.proofs.Questions as questions
@@ -17,9 +17,9 @@ use Rattle.demands.proofs.Settled.{numbered, settled-harmless}
 
 -- whatever a load tells is harmless: of the form, it is settled; not of the form, it is 14
 load-harmless : (m : Model) (bytes : List ℕ) (told : Told) → Loads m bytes told → Harmless m told
-unfolding rulesBroken numbered with_number
-load-harmless m bytes told (inl h) = rw h.tells (record { unchanged = λ n. refl; silent = λ n. refl; onSheet = (NotOfForm, refl) })
-load-harmless m bytes told (inr h) = rw h.tells (settled-harmless (rulesBroken h.model) m [] h.model refl)
+unfolding rules_broken numbered with_number
+load-harmless m bytes told (inl h) = rw h.tells (record { unchanged = λ n. refl; silent = λ n. refl; on_sheet = (NotOfForm, refl) })
+load-harmless m bytes told (inr h) = rw h.tells (settled-harmless (rules_broken h.model) m [] h.model refl)
 
 -- after any answer but 0 the policy, the sessions and the results are what they were: all commands and all questions
 pub demand1 : Demand1

@@ -18,7 +18,7 @@ use Rattle.model.specs.Words.{effective, permission}
 use Rattle.model.specs.commands.Sessions.{permitted, looked, check}
 use Rattle.sound.proofs.Sheet.{positive, ordered, settle-same}
 use Rattle.sound.proofs.Words.{permitted-exact}
-use Rattle.demands.specs.Demand2.{Demand2, Exactly, Obeys, Answers, refusals, results, effect, checkRefusals, Checked, Granted, LookedUpTo, LookedAtAll}
+use Rattle.demands.specs.Demand2.{Demand2, Exactly, Obeys, Answers, refusals, results, effect, check_refusals, Checked, Granted, LookedUpTo, LookedAtAll}
 use Rattle.demands.proofs.Commands.{shown}
 use Rattle.demands.proofs.Exact.{exact}
 use Rattle.demands.proofs.Kept.{reachable-sound}
@@ -65,7 +65,7 @@ module _ (m : Model) (s : Sound m) (k op obj : ℕ) where
   abbrev both : List ℕ
   both = bit (permitted m k (permission op obj)) ∷ looked m k (permission op obj) ∷ []
 
-  whole : Exactly m (checkRefusals m k op obj) both m (check m k op obj)
+  whole : Exactly m (check_refusals m k op obj) both m (check m k op obj)
   unfolding check
   whole = exactly _ m _ m (check m k op obj) refl refl refl
 
@@ -83,32 +83,32 @@ module _ (m : Model) (s : Sound m) (k op obj : ℕ) where
     given_both : (check m k op obj).results ≡ both
     given_both = whole.gives z
 
-    said-yes : Granted m k (permission op obj) → (check m k op obj).results ≡ 1 ∷ looked m k (permission op obj) ∷ []
+    said_yes : Granted m k (permission op obj) → (check m k op obj).results ≡ 1 ∷ looked m k (permission op obj) ∷ []
     said-yes g = given_both ∙ ap (λ (b : Bool). bit b ∷ looked m k (permission op obj) ∷ []) (allows g)
 
-    said-no : (Granted m k (permission op obj) → ⊥) → (check m k op obj).results ≡ 0 ∷ looked m k (permission op obj) ∷ []
+    said_no : (Granted m k (permission op obj) → ⊥) → (check m k op obj).results ≡ 0 ∷ looked m k (permission op obj) ∷ []
     said-no none = given_both ∙ ap (λ (b : Bool). bit b ∷ looked m k (permission op obj) ∷ []) (never (permitted m k (permission op obj)) (λ e. none (allowed e)))
 
-    granted-by : (n : ℕ) → (check m k op obj).results ≡ 1 ∷ n ∷ [] → Granted m k (permission op obj)
+    granted_by : (n : ℕ) → (check m k op obj).results ≡ 1 ∷ n ∷ [] → Granted m k (permission op obj)
     granted-by n e = allowed (bit-yes (permitted m k (permission op obj)) _ n (sym given_both ∙ e))
 
     number_by : (a n : ℕ) → (check m k op obj).results ≡ a ∷ n ∷ [] → looked m k (permission op obj) ≡ n
     number_by a n e = same_second _ a _ n (sym given_both ∙ e)
 
-    on-yes : (n : ℕ) → ((check m k op obj).results ≡ 1 ∷ n ∷ []) ↔ LookedUpTo m k (permission op obj) n
+    on_yes : (n : ℕ) → ((check m k op obj).results ≡ 1 ∷ n ∷ []) ↔ LookedUpTo m k (permission op obj) n
     on-yes n = (
       (λ e. subst (LookedUpTo m k (permission op obj)) (number_by 1 n e) (looked-up-to m s k (permission op obj) (granted-by n e))),
       λ x. said-yes (record { role = x.role; effective = x.holder.effective; holds = x.holder.holds }) ∙ ap (λ (j : ℕ). 1 ∷ j ∷ []) (one-up-to m s k (permission op obj) x),
     )
 
-    on-no : (n : ℕ) → ((check m k op obj).results ≡ 0 ∷ n ∷ []) ↔ LookedAtAll m k (permission op obj) n
+    on_no : (n : ℕ) → ((check m k op obj).results ≡ 0 ∷ n ∷ []) ↔ LookedAtAll m k (permission op obj) n
     on-no n = (
       (λ e. subst (LookedAtAll m k (permission op obj)) (number_by 0 n e) (looked-at-all m s k (permission op obj) (denied (bit-no (permitted m k (permission op obj)) _ n (sym given_both ∙ e))))),
       λ x. said-no x.none ∙ ap (λ (j : ℕ). 0 ∷ j ∷ []) (one-at-all m s k (permission op obj) x),
     )
 
   -- results are given only where the answer is 0
-  answered-by : (a n : ℕ) → (check m k op obj).results ≡ a ∷ n ∷ [] → (check m k op obj).answer ≡ 0
+  answered_by : (a n : ℕ) → (check m k op obj).results ≡ a ∷ n ∷ [] → (check m k op obj).answer ≡ 0
   answered-by a n e = go (ℕ_discrete (check m k op obj).answer 0)
     where
       go : Dec ((check m k op obj).answer ≡ 0) → (check m k op obj).answer ≡ 0
@@ -123,10 +123,10 @@ module _ (m : Model) (s : Sound m) (k op obj : ℕ) where
         done = whole.done;
         answers = λ z. (looked m k (permission op obj), subst (λ (l : List ℕ). (l ≡ 1 ∷ looked m k (permission op obj) ∷ []) ⊎ (l ≡ 0 ∷ looked m k (permission op obj) ∷ [])) (sym (given_both z)) (bit-or-not (permitted m k (permission op obj)) (looked m k (permission op obj))));
         exactly = λ z. ((λ x. granted-by z x.0 x.1), λ g. (looked m k (permission op obj), said-yes z g));
-        looked-yes = on-yes;
-        looked-no = on-no;
-        at-most = λ a n e. omega (arith, number_by (answered-by a n e) a n e, looked-most m s k (permission op obj));
-        none-active = λ a n e. subst (λ (j : ℕ). (j ≡ 0) ↔ ((r : ℕ) → has (m.sessions k).active r ≡ false)) (number_by (answered-by a n e) a n e) (looked-none m s k (permission op obj));
+        looked_yes = on-yes;
+        looked_no = on-no;
+        at_most = λ a n e. omega (arith, number_by (answered-by a n e) a n e, looked-most m s k (permission op obj));
+        none_active = λ a n e. subst (λ (j : ℕ). (j ≡ 0) ↔ ((r : ℕ) → has (m.sessions k).active r ≡ false)) (number_by (answered-by a n e) a n e) (looked-none m s k (permission op obj));
         silent = whole.silent;
         unchanged = settle-same _ m _;
       }

@@ -15,8 +15,8 @@ use Rattle.model.specs.Model.{Model}
 use Rattle.model.specs.Sheet.{Told, Refusal, done, verdict, settle}
 use Rattle.model.specs.Sound.{Sound}
 use Rattle.model.specs.Sound as sound
-use Rattle.model.specs.Words.{permission, staticBroken, dynamicBroken}
-use Rattle.model.specs.commands.Sets.{setsOf}
+use Rattle.model.specs.Words.{permission, static_broken, dynamic_broken}
+use Rattle.model.specs.commands.Sets.{sets_of}
 use Rattle.model.specs.commands.Sessions.{check, permitted}
 use Rattle.sound.proofs.Carried.{lines-small, role-small, member-there, closed-idle}
 use Rattle.sound.proofs.Sets.{shape_of}
@@ -57,7 +57,7 @@ below m set a r (inr q) p = inr (q.0, q.1, trans q.2 p)
 
 pub rules : (m : Model) → Sound m → Rules m
 unfolding check
-rules m s = record { circles = s.rules.acyclic.never; active = active; access = access; static = unbroken 256 (staticBroken m) (static-exact m s.shape).1 s.rules.static; dynamic = unbroken 64 (dynamicBroken m) (dynamic-exact m s.shape).1 s.rules.dynamic; chains = λ r c. let x = chain-circle m.juniors (lines-small m s.shape) _ (omega arith) c in s.rules.acyclic.never x.0 x.1 }
+rules m s = record { circles = s.rules.acyclic.never; active = active; access = access; static = unbroken 256 (static_broken m) (static-exact m s.shape).1 s.rules.static; dynamic = unbroken 64 (dynamic_broken m) (dynamic-exact m s.shape).1 s.rules.dynamic; chains = λ r c. let x = chain-circle m.juniors (lines-small m s.shape) _ (omega arith) c in s.rules.acyclic.never x.0 x.1 }
   where
     unbroken : (n : ℕ) (test : ℕ → Bool) {Broken : Type 0} → (Broken → some n test ≡ true) → ((i : ℕ) → test i ≡ false) → Broken → ⊥
     unbroken n test shown never b = clash (some n test) (shown b) (some-none n test (λ i l. never i))
@@ -92,11 +92,11 @@ shaped m s =
       lines = λ a b e. (x.seniors a b e, (x.juniors a).exist b e);
       assignments = λ u r e. (x.assignees u r e, (x.assigned u).exist r e);
       grants = λ p r e. (x.holders p).exist r e;
-      members = λ kind name r e. (member-there m name (setsOf kind m name) r (shape_of kind m x name) e, (shape_of kind m x name).members.exist r e);
+      members = λ kind name r e. (member-there m name (sets_of kind m name) r (shape_of kind m x name) e, (shape_of kind m x name).members.exist r e);
       actives = λ k r e. (is_open k r e, (x.sessions k).active.exist r e);
       owners = λ k e. (x.sessions k).owned e;
       at_least = λ kind name e. (shape_of kind m x name).at_least e;
-      at_most = λ kind name e. (many-in (setsOf kind m name).card (setsOf kind m name).roles (shape_of kind m x name).members.small).0 ((shape_of kind m x name).at_most e);
+      at_most = λ kind name e. (many-in (sets_of kind m name).card (sets_of kind m name).roles (shape_of kind m x name).members.small).0 ((shape_of kind m x name).at_most e);
       absent = λ kind name e. (shape_of kind m x name).absent e;
       closed = λ k e. (x.sessions k).closed e;
     }

@@ -10,13 +10,13 @@ use Rattle.roleset.proofs.Laws.{has-none}
 use Rattle.hierarchy.specs.Lines.{line}
 use Rattle.hierarchy.specs.Walks.{reach}
 use Rattle.hierarchy.proofs.InheritsLaws.{inherits-grows}
-use Rattle.model.specs.Model.{Model, Session, closedSession}
+use Rattle.model.specs.Model.{Model, Session, closed_session}
 use Rattle.model.specs.Step.{step}
 use Rattle.model.specs.Words.{shed}
 use Rattle.model.specs.commands.Assigning.{assign, assigned, deassign, deassigned}
 use Rattle.model.specs.commands.Inheriting.{disinherit, unlined}
-use Rattle.model.specs.commands.Sessions.{drop, sessionSet, activeSet, end}
-use Rattle.model.specs.commands.Users.{norole, withoutRole, endAll, allEnded}
+use Rattle.model.specs.commands.Sessions.{drop, session_set, active_set, end}
+use Rattle.model.specs.commands.Users.{norole, without_role, end_all, all_ended}
 use Rattle.sound.proofs.Members.{without-member, common-member, fewer-at, stripped-fewer}
 use Rattle.sound.proofs.Put.{put_all}
 use Rattle.sound.proofs.Shedding.{shedded-all}
@@ -57,18 +57,18 @@ shed-fewer m after roles lines sessions =
 
 module _ (m : Model) (list : List ℕ) (s x : ℕ) where
   -- a command that is refused, or leaves no more
-  pub effective-roles : EffectiveRoles m list s x
-  unfolding step assign assigned deassign deassigned disinherit unlined norole withoutRole drop activeSet end endAll allEnded
-  effective-roles =
+  pub effective_roles : EffectiveRoles m list s x
+  unfolding step assign assigned deassign deassigned disinherit unlined norole without_role drop active_set end end_all all_ended
+  effective_roles =
       record {
         assign = λ u r. kept (λ after. Effective after s x ↔ Effective m s x) _ m _ _ refl ((λ e. e), (λ e. e)) (λ c. ((λ e. record { exists = e.exists; through = e.through }), (λ e. record { exists = e.exists; through = e.through })));
         deassign = λ u r. effective-fewer m _ (kept (Fewer m) _ m _ _ refl (same m) (λ c. shed-fewer m (deassigned m u.number r.number) (λ k e. e) (λ a j e. e) refl)) s x;
         disinherit = λ a b. effective-fewer m _ (kept (Fewer m) _ m _ _ refl (same m) (λ c. shed-fewer m (unlined m a.number b.number) (λ k e. e) (fewer-at m.juniors a.number b.number) refl)) s x;
-        norole = λ r. effective-fewer m _ (kept (Fewer m) _ m _ _ refl (same m) (λ c. shed-fewer m (withoutRole m r.number) (λ k e. (without-member m.roles r.number k e).1) (stripped-fewer m.juniors r.number) refl)) s x;
+        norole = λ r. effective-fewer m _ (kept (Fewer m) _ m _ _ refl (same m) (λ c. shed-fewer m (without_role m r.number) (λ k e. (without-member m.roles r.number k e).1) (stripped-fewer m.juniors r.number) refl)) s x;
         drop = λ u k r. effective-fewer m _ (kept (Fewer m) _ m _ _ refl (same m) (λ c. session-fewer k.number _ (λ j e. (without-member (m.sessions k.number).active r.number j e).1))) s x;
-        end = λ u k. effective-fewer m _ (kept (Fewer m) _ m _ _ refl (same m) (λ c. session-fewer k.number closedSession (λ j e. clash (has 0 j) e (has-none j)))) s x;
-        end-all = λ u. effective-fewer m _ (kept (Fewer m) _ m _ _ refl (same m) (λ c. record { roles = λ r e. e; lines = λ a j e. e; active = λ k r. ended-all (λ y. has y.active r ≡ true → has (m.sessions k).active r ≡ true) u.number (m.sessions k) (λ e. clash (has 0 r) e (has-none r)) (λ o e. e) })) s x;
+        end = λ u k. effective-fewer m _ (kept (Fewer m) _ m _ _ refl (same m) (λ c. session-fewer k.number closed_session (λ j e. clash (has 0 j) e (has-none j)))) s x;
+        end_all = λ u. effective-fewer m _ (kept (Fewer m) _ m _ _ refl (same m) (λ c. record { roles = λ r e. e; lines = λ a j e. e; active = λ k r. ended-all (λ y. has y.active r ≡ true → has (m.sessions k).active r ≡ true) u.number (m.sessions k) (λ e. clash (has 0 r) e (has-none r)) (λ o e. e) })) s x;
       }
     where
-      session-fewer : (k : ℕ) (new : Session) → ((r : ℕ) → has new.active r ≡ true → has (m.sessions k).active r ≡ true) → Fewer m (sessionSet m k new)
+      session_fewer : (k : ℕ) (new : Session) → ((r : ℕ) → has new.active r ≡ true → has (m.sessions k).active r ≡ true) → Fewer m (session_set m k new)
       session-fewer k new fewer = record { roles = λ r e. e; lines = λ a j e. e; active = put_all (λ i y. (r : ℕ) → has y.active r ≡ true → has (m.sessions i).active r ≡ true) m.sessions k new fewer (λ i d r e. e) }

@@ -13,7 +13,7 @@ use Rattle.roleset.proofs.BoundedLaws.{clash, never}
 use Rattle.roleset.proofs.Laws.{member-small}
 use Rattle.roleset.proofs.MembersLaws.{members-most}
 use Rattle.hierarchy.proofs.WalkLaws.{reach-small}
-use Rattle.model.specs.Lists.{upToFirst}
+use Rattle.model.specs.Lists.{up_to_first}
 use Rattle.model.specs.Model.{Model}
 use Rattle.model.specs.Sound.{Sound}
 use Rattle.model.specs.Words.{effective}
@@ -30,8 +30,8 @@ use Rattle.demands.proofs.Lists.{member, ascends, first-least, later-ascending, 
 
 module _ (f : ℕ → Bool) where
   -- it is ascending where the whole is
-  up-to-ascending : {l : List ℕ} → Ascending l → Ascending (upToFirst f l)
-  unfolding upToFirst
+  up_to_ascending : {l : List ℕ} → Ascending l → Ascending (up_to_first f l)
+  unfolding up_to_first
   up-to-ascending empty = empty
   up-to-ascending (single {a}) = go (f a)
     where
@@ -40,7 +40,7 @@ module _ (f : ℕ → Bool) where
       go false = single
   up-to-ascending (rises {a} {b} {rest} lt order) = go (f a) (up-to-ascending order)
     where
-      go : (t : Bool) → Ascending (upToFirst f (b ∷ rest)) → Ascending (a ∷ elim t as (λ _. List ℕ) [ true ↦ [] | false ↦ upToFirst f (b ∷ rest) ])
+      go : (t : Bool) → Ascending (up_to_first f (b ∷ rest)) → Ascending (a ∷ elim t as (λ _. List ℕ) [ true ↦ [] | false ↦ up_to_first f (b ∷ rest) ])
       go true ih = single
       go false ih = rises lt ih
 
@@ -70,15 +70,15 @@ module _ (f : ℕ → Bool) where
               rest j q (inr s) g = g s q
 
   -- in the list up to the first stand those that are above none that passes
-  up-to-members : (l : List ℕ) → Ascending l → (k : ℕ) → Memᴰ k (upToFirst f l) ↔ (Memᴰ k l × ((r : ℕ) → Memᴰ r l → f r ≡ true → k ≤ r))
-  unfolding upToFirst
+  up_to_members : (l : List ℕ) → Ascending l → (k : ℕ) → Memᴰ k (up_to_first f l) ↔ (Memᴰ k l × ((r : ℕ) → Memᴰ r l → f r ≡ true → k ≤ r))
+  unfolding up_to_first
   up-to-members [] order k = ((λ h. absurd (Memᴰ.not-nil h)), λ q. absurd (Memᴰ.not-nil q.0))
   up-to-members (a ∷ l) order k = go (f a) refl (up-to-members l (later-ascending order) k)
     where
       lowest : (r : ℕ) → Memᴰ r (a ∷ l) → a ≤ r
       lowest r h = least_first order h
 
-      go : (b : Bool) → f a ≡ b → Memᴰ k (upToFirst f l) ↔ (Memᴰ k l × ((r : ℕ) → Memᴰ r l → f r ≡ true → k ≤ r)) → Memᴰ k (a ∷ elim b as (λ _. List ℕ) [ true ↦ [] | false ↦ upToFirst f l ]) ↔ (Memᴰ k (a ∷ l) × ((r : ℕ) → Memᴰ r (a ∷ l) → f r ≡ true → k ≤ r))
+      go : (b : Bool) → f a ≡ b → Memᴰ k (up_to_first f l) ↔ (Memᴰ k l × ((r : ℕ) → Memᴰ r l → f r ≡ true → k ≤ r)) → Memᴰ k (a ∷ elim b as (λ _. List ℕ) [ true ↦ [] | false ↦ up_to_first f l ]) ↔ (Memᴰ k (a ∷ l) × ((r : ℕ) → Memᴰ r (a ∷ l) → f r ≡ true → k ≤ r))
       go true p ih = ((λ h. here (Memᴰ.cases_cons h)), λ q. back (q.1 a (Memᴰ.head refl) p) (Memᴰ.cases_cons q.0))
         where
           here : (k ≡ a) ⊎ Memᴰ k [] → Memᴰ k (a ∷ l) × ((r : ℕ) → Memᴰ r (a ∷ l) → f r ≡ true → k ≤ r)
@@ -94,22 +94,22 @@ module _ (f : ℕ → Bool) where
           later g r q (inl e) = clash (f r) q (ap f e ∙ p)
           later g r q (inr i) = g r i q
 
-          here : (k ≡ a) ⊎ Memᴰ k (upToFirst f l) → Memᴰ k (a ∷ l) × ((r : ℕ) → Memᴰ r (a ∷ l) → f r ≡ true → k ≤ r)
+          here : (k ≡ a) ⊎ Memᴰ k (up_to_first f l) → Memᴰ k (a ∷ l) × ((r : ℕ) → Memᴰ r (a ∷ l) → f r ≡ true → k ≤ r)
           here (inl e) = (Memᴰ.head e, λ r h q. omega (arith, e, lowest r h))
           here (inr h) = let q = ih.0 h in (Memᴰ.tail q.0, λ r i e. later q.1 r e (Memᴰ.cases_cons i))
 
-          back : ((r : ℕ) → Memᴰ r (a ∷ l) → f r ≡ true → k ≤ r) → (k ≡ a) ⊎ Memᴰ k l → Memᴰ k (a ∷ upToFirst f l)
+          back : ((r : ℕ) → Memᴰ r (a ∷ l) → f r ≡ true → k ≤ r) → (k ≡ a) ⊎ Memᴰ k l → Memᴰ k (a ∷ up_to_first f l)
           back g (inl e) = Memᴰ.head e
           back g (inr i) = Memᴰ.tail (ih.1 (i, λ r h. g r (Memᴰ.tail h)))
 
   -- only that of the empty list is empty
-  up-to-empty : (l : List ℕ) → length (upToFirst f l) ≡ 0 → (k : ℕ) → Memᴰ k l → ⊥
-  unfolding upToFirst
+  up_to_empty : (l : List ℕ) → length (up_to_first f l) ≡ 0 → (k : ℕ) → Memᴰ k l → ⊥
+  unfolding up_to_first
   up-to-empty [] e k h = Memᴰ.not-nil h
   up-to-empty (a ∷ l) e k h = absurd (omega (arith, e))
 
-  up-to-nothing : (l : List ℕ) → ((k : ℕ) → Memᴰ k l → ⊥) → length (upToFirst f l) ≡ 0
-  unfolding upToFirst
+  up_to_nothing : (l : List ℕ) → ((k : ℕ) → Memᴰ k l → ⊥) → length (up_to_first f l) ≡ 0
+  unfolding up_to_first
   up-to-nothing [] h = refl
   up-to-nothing (a ∷ l) h = absurd (h a (Memᴰ.head refl))
 
@@ -132,59 +132,59 @@ module _ (set holders : ℕ) (small : set < 2 ^ 64) {P : ℕ → Type 0} (stated
   listed q = ((λ h. (stated q).0 (listed-member 64 (has set) q ((member all q).1 h)).1), λ a. (member all q).0 (let h = (stated q).1 a in member-listed 64 (has set) q (member-small set q small h) h))
 
   abbrev number : ℕ
-  number = length (upToFirst (has holders) (members 64 (has set)))
+  number = length (up_to_first (has holders) (members 64 (has set)))
 
   -- as many as are above no holder
-  pub how-far : HowMany (λ k. P k × ((r : ℕ) → P r → has holders r ≡ true → k ≤ r)) number
+  pub how_far : HowMany (λ k. P k × ((r : ℕ) → P r → has holders r ≡ true → k ≤ r)) number
   unfolding all
-  how-far = record { list = upToFirst (has holders) all; ascending = up-to-ascending (has holders) ascending; members = each; long = refl }
+  how_far = record { list = up_to_first (has holders) all; ascending = up-to-ascending (has holders) ascending; members = each; long = refl }
     where
-      each : (k : ℕ) → Memᴰ k (upToFirst (has holders) all) ↔ (P k × ((r : ℕ) → P r → has holders r ≡ true → k ≤ r))
+      each : (k : ℕ) → Memᴰ k (up_to_first (has holders) all) ↔ (P k × ((r : ℕ) → P r → has holders r ≡ true → k ≤ r))
       each k = (
         (λ h. let q = (up-to-members (has holders) all ascending k).0 h in ((listed k).0 q.0, λ r p e. q.1 r ((listed r).1 p) e)),
         λ q. (up-to-members (has holders) all ascending k).1 ((listed k).1 q.0, λ r h e. q.1 r ((listed r).0 h) e),
       )
 
-  pub at-most-64 : number ≤ 64
-  at-most-64 = omega (arith, up-to-first-most (has holders) (members 64 (has set)), members-most 64 (has set))
+  pub at_most_64 : number ≤ 64
+  at_most_64 = omega (arith, up-to-first-most (has holders) (members 64 (has set)), members-most 64 (has set))
 
   -- where one is a holder there is a first
-  pub first-holder : (k : ℕ) → P k → has holders k ≡ true → (r : ℕ) × P r × (has holders r ≡ true) × ((j : ℕ) → P j → has holders j ≡ true → r ≤ j)
+  pub first_holder : (k : ℕ) → P k → has holders k ≡ true → (r : ℕ) × P r × (has holders r ≡ true) × ((j : ℕ) → P j → has holders j ≡ true → r ≤ j)
   first-holder k p e = let x = find (has holders) all ascending k ((listed k).1 p) e in (x.0, (listed x.0).0 x.1.member, x.1.passes, λ j q h. x.1.first j ((listed j).1 q) h)
 
   -- none is looked at exactly where there is none
-  pub none-there : (number ≡ 0) ↔ ((k : ℕ) → P k → ⊥)
+  pub none_there : (number ≡ 0) ↔ ((k : ℕ) → P k → ⊥)
   unfolding all
-  none-there = ((λ e k p. up-to-empty (has holders) all e k ((listed k).1 p)), λ h. up-to-nothing (has holders) all (λ k i. h k ((listed k).0 i)))
+  none_there = ((λ e k p. up-to-empty (has holders) all e k ((listed k).1 p)), λ h. up-to-nothing (has holders) all (λ k i. h k ((listed k).0 i)))
 
 -- ---- the effective roles of a session
 
 module _ (m : Model) (s : Sound m) (k : ℕ) where
   -- the computed set is the stated one
-  pub effective-to : (q : ℕ) → has (effective m k) q ≡ true → Effective m k q
+  pub effective_to : (q : ℕ) → has (effective m k) q ≡ true → Effective m k q
   effective-to q h = let e = (effective-exact m s k q).0 h in record { exists = e.0; through = e.1 }
 
-  pub effective-met : (q : ℕ) → Effective m k q → has (effective m k) q ≡ true
+  pub effective_met : (q : ℕ) → Effective m k q → has (effective m k) q ≡ true
   effective-met q a = (effective-exact m s k q).1 (a.exists, a.through)
 
-  effective-stated : (q : ℕ) → (has (effective m k) q ≡ true) ↔ Effective m k q
+  effective_stated : (q : ℕ) → (has (effective m k) q ≡ true) ↔ Effective m k q
   effective-stated q = (effective-to q, effective-met q)
 
-  effective-small : effective m k < 2 ^ 64
-  effective-small = reach-small m.juniors (m.sessions k).active
+  effective_small : effective m k < 2 ^ 64
+  effective_small = reach-small m.juniors (m.sessions k).active
 
   -- how many of them are looked at for a permission
   module _ (p : ℕ) where
-    pub looked-most : looked m k p ≤ 64
+    pub looked_most : looked m k p ≤ 64
     unfolding looked
-    looked-most = at-most-64 (effective m k) (m.holders p) effective-small effective-stated
+    looked_most = at-most-64 (effective m k) (m.holders p) effective-small effective-stated
 
     seen : HowMany (λ j. Effective m k j × ((r : ℕ) → Effective m k r → has (m.holders p) r ≡ true → j ≤ r)) (looked m k p)
     unfolding looked
     seen = how-far (effective m k) (m.holders p) effective-small effective-stated
 
     -- on yes
-    pub looked-up-to : Granted m k p → LookedUpTo m k p (looked m k p)
+    pub looked_up_to : Granted m k p → LookedUpTo m k p (looked m k p)
     looked-up-to g =
         let x = first-holder (effective m k) (m.holders p) effective-small effective-stated g.role g.effective g.holds in
         record {
@@ -202,7 +202,7 @@ module _ (m : Model) (s : Sound m) (k : ℕ) where
         }
 
     -- on no
-    pub looked-at-all : (Granted m k p → ⊥) → LookedAtAll m k p (looked m k p)
+    pub looked_at_all : (Granted m k p → ⊥) → LookedAtAll m k p (looked m k p)
     looked-at-all none =
         record {
           none = none;
@@ -215,20 +215,20 @@ module _ (m : Model) (s : Sound m) (k : ℕ) where
         }
 
     -- the number is the only one so stated
-    pub one-up-to : {n : ℕ} → LookedUpTo m k p n → looked m k p ≡ n
+    pub one_up_to : {n : ℕ} → LookedUpTo m k p n → looked m k p ≡ n
     one-up-to x =
         let y = looked-up-to (record { role = x.role; effective = x.holder.effective; holds = x.holder.holds }) in
         let low : y.role ≤ x.role = y.holder.lowest x.role x.holder.effective x.holder.holds in
         let high : x.role ≤ y.role = x.holder.lowest y.role y.holder.effective y.holder.holds in
         how-many-one (λ j q. (q.0, omega arith)) (λ j q. (q.0, omega arith)) y.number x.number
 
-    pub one-at-all : {n : ℕ} → LookedAtAll m k p n → looked m k p ≡ n
+    pub one_at_all : {n : ℕ} → LookedAtAll m k p n → looked m k p ≡ n
     one-at-all x = how-many-one (λ j q. q) (λ j q. q) (looked-at-all x.none).number x.number
 
     -- none is looked at exactly where none is active
-    pub looked-none : (looked m k p ≡ 0) ↔ ((r : ℕ) → has (m.sessions k).active r ≡ false)
+    pub looked_none : (looked m k p ≡ 0) ↔ ((r : ℕ) → has (m.sessions k).active r ≡ false)
     unfolding looked
-    looked-none =
+    looked_none =
         let none = none-there (effective m k) (m.holders p) effective-small effective-stated in
         ((λ e r. never (has (m.sessions k).active r) (λ h. none.0 e r (record { exists = (s.shape.sessions k).active.exist r h; through = inl h }))), λ h. none.1 (λ j e. idle h e.through))
       where

@@ -17,7 +17,7 @@ use Rattle.hierarchy.proofs.InheritsLaws.{ends-small}
 use Rattle.hierarchy.proofs.WalkLaws.{not-empty, reach-sound, reach-complete, under_one, one-under}
 use Rattle.model.specs.Lists.{rising, listed}
 use Rattle.model.specs.Model.{Model}
-use Rattle.model.specs.Questions.{ask, review, holds, assignedUsers, assignedRoles, authUsers, authRoles, rolePerms, userPerms, sessionRoles, sessionPerms, roleOps, userOps, setNames, setRoles}
+use Rattle.model.specs.Questions.{ask, review, holds, assigned_users, assigned_roles, auth_users, auth_roles, role_perms, user_perms, session_roles, session_perms, role_ops, user_ops, set_names, set_roles}
 use Rattle.model.specs.Sheet.{◌when◌}
 use Rattle.model.specs.Sound.{Sound}
 use Rattle.model.specs.Words.{reached, authorised, effective, permission}
@@ -65,7 +65,7 @@ module _ (m : Model) (s : Sound m) where
   lower r q h = under_one r q (reach-sound m.juniors (with none r) q h)
 
   -- and it meets all of these.
-  lower-met : (r q : ℕ) → q < 64 → AtOrAbove m.juniors r q → has (reached m (with none r)) q ≡ true
+  lower_met : (r q : ℕ) → q < 64 → AtOrAbove m.juniors r q → has (reached m (with none r)) q ≡ true
   lower-met r q l a = reach-complete m.juniors (with none r) (lines-small m s.shape) q (one-under r q (small a) a)
     where
       small : AtOrAbove m.juniors r q → r < 64
@@ -73,18 +73,18 @@ module _ (m : Model) (s : Sound m) where
       small (inr i) = (ends-small (lines-small m s.shape) i).0
 
   -- The computed set of the roles that a user is authorised for is the stated one.
-  authorised-to : (u q : ℕ) → has (authorised m u) q ≡ true → Authorised m u q
+  authorised_to : (u q : ℕ) → has (authorised m u) q ≡ true → Authorised m u q
   authorised-to u q h = let e = (authorised-exact m s u q).0 h in record { exists = e.0; through = e.1 }
 
-  authorised-met : (u q : ℕ) → Authorised m u q → has (authorised m u) q ≡ true
+  authorised_met : (u q : ℕ) → Authorised m u q → has (authorised m u) q ≡ true
   authorised-met u q a = (authorised-exact m s u q).1 (a.exists, a.through)
 
   -- The users that are authorised for a role are those that have it among theirs.
-  auth-users : {room : ℕ} {beyond missing : Bool} (r : ℕ) → Listing m room beyond missing (λ u. Authorised m u r) (review m room beyond missing (authUsers m r))
-  unfolding authUsers authRoles
+  auth_users : {room : ℕ} {beyond missing : Bool} (r : ℕ) → Listing m room beyond missing (λ u. Authorised m u r) (review m room beyond missing (auth_users m r))
+  unfolding auth_users auth_roles
   auth-users r =
-      reviewed (authUsers m r) ((ascends (authUsers m r)).0 (members-ascending 256 _))
-      (λ u. ((λ h. authorised-to u r (listed-member 64 (has (authorised m u)) r (sym (auth-agree m s u r) ∙ (member (authUsers m r) u).1 h)).1), (λ a. (member (authUsers m r) u).0 (auth-agree m s u r ∙ member-listed 64 (has (authorised m u)) r (member-small m.roles r s.shape.roles a.exists) (authorised-met u r a)))))
+      reviewed (auth_users m r) ((ascends (auth_users m r)).0 (members-ascending 256 _))
+      (λ u. ((λ h. authorised-to u r (listed-member 64 (has (authorised m u)) r (sym (auth-agree m s u r) ∙ (member (auth_users m r) u).1 h)).1), (λ a. (member (auth_users m r) u).0 (auth-agree m s u r ∙ member-listed 64 (has (authorised m u)) r (member-small m.roles r s.shape.roles a.exists) (authorised-met u r a)))))
 
   -- ---- permissions that some role of a set holds
 
@@ -113,7 +113,7 @@ module _ (m : Model) (s : Sound m) where
 -- ---- every question, a line for each
 
 answered : (m : Model) → Reachable m → Sound m → (room : ℕ) (q : Question) → Answered m room q (ask m room q)
-unfolding ask assignedUsers assignedRoles authRoles rolePerms userPerms sessionRoles sessionPerms roleOps userOps setNames setRoles
+unfolding ask assigned_users assigned_roles auth_roles role_perms user_perms session_roles session_perms role_ops user_ops set_names set_roles
 answered m p s room (Check k op obj) = demand2.access m p k.number op obj
 answered m p s room (AssignedUsers r) = all_listed 256 _ (λ u h. h) (λ u h. (s.shape.users u (s.shape.assignees u r.number h), h))
 answered m p s room (AssignedRoles u) = all_listed 64 _ (λ r h. h) (λ r h. (member-small _ r (s.shape.assigned u.number).small h, h))

@@ -48,19 +48,19 @@ numbered-on n h = go (answer_of n) refl
     go (Is a) e = (a, sym (number-back n a e))
 
 -- and so has every number of the list
-abbrev pub allNumbered : List Refusal → Bool
-allNumbered [] = true
-allNumbered (r ∷ rest) = numbered r.number && allNumbered rest
+abbrev pub all_numbered : List Refusal → Bool
+all_numbered [] = true
+all_numbered (r ∷ rest) = numbered r.number && all_numbered rest
 
-verdict-on : (rs : List Refusal) → allNumbered rs ≡ true → OnSheet (verdict rs)
+verdict-on : (rs : List Refusal) → all_numbered rs ≡ true → OnSheet (verdict rs)
 unfolding verdict
 verdict-on [] e = (Done, refl)
-verdict-on (r ∷ rest) e = go r.holds (verdict-on rest (and_right (numbered r.number) (allNumbered rest) e))
+verdict-on (r ∷ rest) e = go r.holds (verdict-on rest (and_right (numbered r.number) (all_numbered rest) e))
   where
     go : (b : Bool) → OnSheet (verdict rest) → OnSheet (elim b as (λ _. ℕ) [ true ↦ r.number | false ↦ verdict rest ])
-    go true ih = numbered-on r.number (and_left (numbered r.number) (allNumbered rest) e)
+    go true ih = numbered-on r.number (and_left (numbered r.number) (all_numbered rest) e)
     go false ih = ih
 
 -- one law for all: whatever is settled by numbers of the sheet is harmless
-pub settled-harmless : (rs : List Refusal) (m : Model) (results : List ℕ) (after : Model) → allNumbered rs ≡ true → Harmless m (settle rs m results after)
-settled-harmless rs m results after h = record { unchanged = λ n. (refusal-changes-nothing rs m results after n).0; silent = λ n. (refusal-changes-nothing rs m results after n).1; onSheet = subst OnSheet (sym (settle-answer rs m results after)) (verdict-on rs h) }
+pub settled-harmless : (rs : List Refusal) (m : Model) (results : List ℕ) (after : Model) → all_numbered rs ≡ true → Harmless m (settle rs m results after)
+settled-harmless rs m results after h = record { unchanged = λ n. (refusal-changes-nothing rs m results after n).0; silent = λ n. (refusal-changes-nothing rs m results after n).1; on_sheet = subst OnSheet (sym (settle-answer rs m results after)) (verdict-on rs h) }

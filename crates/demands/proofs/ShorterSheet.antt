@@ -20,7 +20,7 @@ use Rattle.sound.proofs.Carried.{lines-small}
 use Rattle.sound.proofs.Sheet.{verdict-here, settle-refused}
 use Rattle.policyform.specs.Form.{Formed, FileOf}
 use Rattle.policyform.specs.Promises.{Loads}
-use Rattle.policyform.specs.Rules.{rulesBroken}
+use Rattle.policyform.specs.Rules.{rules_broken}
 use Rattle.policyform.proofs.Lines.{formed-lines}
 use Rattle.policyread.proofs.Whole.{file-one}
 use Rattle.demands.specs.Demand1.{OnSheet}
@@ -49,20 +49,20 @@ chains m p n r h c =
     s.rules.acyclic.never x.0 x.1
 
 -- the first rule of a policy that may stand in a file is broken where its lines hold such a chain
-circles : (m : Model) → Formed m → (n r : ℕ) → 64 < n → Chain m.juniors n r → verdict (rulesBroken m) ≡ 6
-unfolding rulesBroken
+circles : (m : Model) → Formed m → (n r : ℕ) → 64 < n → Chain m.juniors n r → verdict (rules_broken m) ≡ 6
+unfolding rules_broken
 circles m f n r h c =
     let small = formed-lines m f in
     let x = chain-circle m.juniors small n h c in
     verdict-here _ _ (circular-complete m.juniors small x.0 x.1)
 
 loading : (before m : Model) (bytes : List ℕ) (told : Told) → FileOf m bytes → Loads before bytes told → (n r : ℕ) → 64 < n → Chain m.juniors n r → told ≡ refused 6 before
-loading before m bytes told x (inl y) n r h c = absurd (y.no-file m x)
+loading before m bytes told x (inl y) n r h c = absurd (y.no_file m x)
 loading before m bytes told x (inr y) n r h c =
     let six = circles m x.formed n r h c in
     y.tells
-    ∙ ap (λ (n : Model). settle (rulesBroken n) before [] n) (file-one bytes y.model m y.file x)
-    ∙ settle-refused (rulesBroken m) before [] m (λ e. omega arith)
+    ∙ ap (λ (n : Model). settle (rules_broken n) before [] n) (file-one bytes y.model m y.file x)
+    ∙ settle-refused (rules_broken m) before [] m (λ e. omega arith)
     ∙ ap (λ (n : ℕ). refused n before) six
 
 -- No chain of more than 64 roles is met, and nothing answers that one is.
@@ -73,9 +73,9 @@ shorter-sheet =
       chains = chains;
       loading = loading;
       unused = λ a e. nothing-named _ refl a e;
-      names-none = refl;
+      names_none = refl;
       others = others-on _ _ refl;
-      commands = λ m c list. not_on _ _ refl (demand1.commands m c list).onSheet;
-      questions = λ m room q. not_on _ _ refl (demand1.questions m room q).onSheet;
-      loads = λ m bytes told l. not_on _ _ refl (demand1.loads m bytes told l).onSheet;
+      commands = λ m c list. not_on _ _ refl (demand1.commands m c list).on_sheet;
+      questions = λ m room q. not_on _ _ refl (demand1.questions m room q).on_sheet;
+      loads = λ m bytes told l. not_on _ _ refl (demand1.loads m bytes told l).on_sheet;
     }

@@ -20,7 +20,7 @@ OnSheet n = (a : Answer) × (n ≡ number_of a)
 pub record Harmless (before : Model) (told : Told) : Type 0 where
   pub unchanged : (told.answer ≡ 0 → ⊥) → told.after ≡ before
   pub silent : (told.answer ≡ 0 → ⊥) → told.results ≡ []
-  pub onSheet : OnSheet told.answer
+  pub on_sheet : OnSheet told.answer
 
 -- Every command, on any policy, with any numbers and any list; every question, with any room; every load, of any bytes.
 pub record Demand1 : Type 0 where

@@ -4,17 +4,17 @@ use Rattle.std.specs.Prelude.{Bool, true, false, not, ◌&&◌, ◌||◌, ◌⊎
 use mathlib.Core.List.{List, [], ◌∷◌, Memᴰ}
 use Rattle.roleset.specs.Bounded.{some}
 use Rattle.roleset.specs.Roles.{has, with, without, count, subset}
-use Rattle.model.specs.Lists.{ascending, someFrom, setOf}
-use Rattle.model.specs.Model.{Model, RoleSet, put, withUsers, withRoles}
+use Rattle.model.specs.Lists.{ascending, some_from, set_of}
+use Rattle.model.specs.Model.{Model, RoleSet, put, with_users, with_roles}
 use Rattle.model.specs.Model as model
 use Rattle.model.specs.Sheet.{Refusal, ◌when◌, Told}
 use Rattle.model.specs.Step.{step}
-use Rattle.model.specs.Words.{authorised, staticBroken, dynamicBroken, shed, assignments, grants, linesStanding, sessionsOpen}
-use Rattle.model.specs.commands.Users.{in_set, allEnded, withoutUser, withoutRole}
+use Rattle.model.specs.Words.{authorised, static_broken, dynamic_broken, shed, assignments, grants, lines_standing, sessions_open}
+use Rattle.model.specs.commands.Users.{in_set, all_ended, without_user, without_role}
 use Rattle.model.specs.commands.Assigning.{assigned, deassigned, granted, revoked}
-use Rattle.model.specs.commands.Inheriting.{lined, unlined, wouldCircle}
-use Rattle.model.specs.commands.Sets.{setsOf, withSets, ruleNumber, aSet}
-use Rattle.model.specs.commands.Sessions.{lowestFree, sessionSet, opened, activeSet, check}
+use Rattle.model.specs.commands.Inheriting.{lined, unlined, would_circle}
+use Rattle.model.specs.commands.Sets.{sets_of, with_sets, rule_number, a_set}
+use Rattle.model.specs.commands.Sessions.{lowest_free, session_set, opened, active_set, check}
 use Rattle.model.specs.declared.Command.{Command}
 use Rattle.model.specs.declared.Command.TheVariants.{AddUser, AddRole, NoUser, NoRole, Assign, Deassign, Grant, Revoke, Inherit, Disinherit, MakeSet, DropSet, AddMember, DropMember, SetCardinality, OpenSession, Activate, DropActive, EndSession, EndAll}
 use Rattle.model.specs.declared.Kind.{Kind}
@@ -26,18 +26,18 @@ use Rattle.demands.specs.Reachable.{Reachable}
 -- ---- what each command changes, where it is done
 
 -- The policy in which the set `name` of the kind is this one.
-abbrev pub setMade : Kind → Model → ℕ → RoleSet → Model
-setMade kind m name set = withSets kind m (put (setsOf kind m) name set)
+abbrev pub set_made : Kind → Model → ℕ → RoleSet → Model
+set_made kind m name set = with_sets kind m (put (sets_of kind m) name set)
 
 -- The policy and sessions after the command. (`Effects` says them member by member.)
 unfoldable pub effect : Model → Command → List ℕ → Model
 -- "`user u`, `role r` add"
-effect m (AddUser u) list = withUsers m (put m.users u.number true)
-effect m (AddRole r) list = withRoles m (with m.roles r.number)
+effect m (AddUser u) list = with_users m (put m.users u.number true)
+effect m (AddRole r) list = with_roles m (with m.roles r.number)
 -- `nouser u`: removes the user and its assignments
-effect m (NoUser u) list = withoutUser m u.number
+effect m (NoUser u) list = without_user m u.number
 -- "`norole r`: removes its assignments, grants and direct lines at either end, then sheds"
-effect m (NoRole r) list = shed (withoutRole m r.number)
+effect m (NoRole r) list = shed (without_role m r.number)
 effect m (Assign u r) list = assigned m u.number r.number
 -- "`deassign u r`: .. then sheds"
 effect m (Deassign u r) list = shed (deassigned m u.number r.number)
@@ -48,18 +48,18 @@ effect m (Inherit senior junior) list = lined m senior.number junior.number
 -- "`disinherit senior junior`: .. then sheds"
 effect m (Disinherit senior junior) list = shed (unlined m senior.number junior.number)
 -- "SSD set: roles and a cardinality n"; "DSD set: the same shape"
-effect m (MakeSet kind name n) list = setMade kind m name.number (aSet n (setOf list))
-effect m (DropSet kind name) list = setMade kind m name.number model.absentSet
-effect m (AddMember kind name r) list = setMade kind m name.number (aSet (setsOf kind m name.number).card (with (setsOf kind m name.number).roles r.number))
-effect m (DropMember kind name r) list = setMade kind m name.number (aSet (setsOf kind m name.number).card (without (setsOf kind m name.number).roles r.number))
-effect m (SetCardinality kind name n) list = setMade kind m name.number (aSet n (setsOf kind m name.number).roles)
+effect m (MakeSet kind name n) list = set_made kind m name.number (a_set n (set_of list))
+effect m (DropSet kind name) list = set_made kind m name.number model.absentSet
+effect m (AddMember kind name r) list = set_made kind m name.number (a_set (sets_of kind m name.number).card (with (sets_of kind m name.number).roles r.number))
+effect m (DropMember kind name r) list = set_made kind m name.number (a_set (sets_of kind m name.number).card (without (sets_of kind m name.number).roles r.number))
+effect m (SetCardinality kind name n) list = set_made kind m name.number (a_set n (sets_of kind m name.number).roles)
 -- "the lowest free session number"
-effect m (OpenSession u) list = opened m u.number (setOf list)
-effect m (Activate u s r) list = activeSet m s.number (with (m.sessions s.number).active r.number)
-effect m (DropActive u s r) list = activeSet m s.number (without (m.sessions s.number).active r.number)
-effect m (EndSession u s) list = sessionSet m s.number model.closedSession
+effect m (OpenSession u) list = opened m u.number (set_of list)
+effect m (Activate u s r) list = active_set m s.number (with (m.sessions s.number).active r.number)
+effect m (DropActive u s r) list = active_set m s.number (without (m.sessions s.number).active r.number)
+effect m (EndSession u s) list = session_set m s.number model.closedSession
 -- "`end-all u` ends the user's sessions"
-effect m (EndAll u) list = allEnded m u.number
+effect m (EndAll u) list = all_ended m u.number
 
 -- The results of the command: "`session u r..`: .. the result is the lowest free session number". No other command has a result.
 unfoldable pub results : Model → Command → List ℕ → List ℕ
@@ -78,7 +78,7 @@ results m (DropSet kind name) list = []
 results m (AddMember kind name r) list = []
 results m (DropMember kind name r) list = []
 results m (SetCardinality kind name n) list = []
-results m (OpenSession u) list = lowestFree m ∷ []
+results m (OpenSession u) list = lowest_free m ∷ []
 results m (Activate u s r) list = []
 results m (DropActive u s r) list = []
 results m (EndSession u s) list = []
@@ -88,23 +88,23 @@ results m (EndAll u) list = []
 
 -- 10: "an SSD rule would be broken for some user"; 11: "a DSD rule would be broken in some session". It is asked of the policy and
 -- sessions as they would be after the command.
-abbrev pub wouldBreak : Kind → Model → Bool
-wouldBreak Static after = some 256 (staticBroken after)
-wouldBreak Dynamic after = some 64 (dynamicBroken after)
+abbrev pub would_break : Kind → Model → Bool
+would_break Static after = some 256 (static_broken after)
+would_break Dynamic after = some 64 (dynamic_broken after)
 
 -- 11 of `session`: in some session, the one to be opened among them. It is one of the 64 where there is room. Where all 64 are open it is
 -- counted as the 65th, so that 11 comes before 12 there too: with 64 sessions open, `session 7 0 1` is 11 where 0 and 1, with all that they
 -- inherit, have two roles of a dynamic set of cardinality 2, and else 12.
-abbrev pub wouldBreakOpened : Model → Bool
-wouldBreakOpened after = some 65 (dynamicBroken after)
+abbrev pub would_break_opened : Model → Bool
+would_break_opened after = some 65 (dynamic_broken after)
 
 -- Session s is open, and the user's. (The owner of a closed one is 0, so the owner alone does not tell.)
 abbrev pub OpenOf : Model → ℕ → ℕ → Type 0
 OpenOf m u s = ((m.sessions s).live ≡ true) × ((m.sessions s).owner ≡ u)
 
 -- 16: "the user has open sessions": one of the sessions 0 to 63 is.
-abbrev pub hasOpen : Model → ℕ → Bool
-hasOpen m u = some 64 (λ s. (m.sessions s).live && eqb (m.sessions s).owner u)
+abbrev pub has_open : Model → ℕ → Bool
+has_open m u = some 64 (λ s. (m.sessions s).live && eqb (m.sessions s).owner u)
 
 infixl 90 ◌beyond◌
 -- The number n "is beyond its range", whose last number this is: "Users are 0 to 255, roles 0 to 63, sessions 0 to 63, SSD sets 0 to 15, DSD sets
@@ -118,7 +118,7 @@ unfoldable pub refusals : Model → Command → List ℕ → List Refusal
 refusals m (AddUser u) list = 1 when u.number beyond 255 ∷ 4 when m.users u.number ∷ []
 refusals m (AddRole r) list = 1 when r.number beyond 63 ∷ 4 when has m.roles r.number ∷ []
 -- `nouser u`: 1, 2; "16, the user has open sessions, last in the order for `nouser`"
-refusals m (NoUser u) list = 1 when u.number beyond 255 ∷ 2 when not (m.users u.number) ∷ 16 when hasOpen m u.number ∷ []
+refusals m (NoUser u) list = 1 when u.number beyond 255 ∷ 2 when not (m.users u.number) ∷ 16 when has_open m u.number ∷ []
 -- "`norole r`: .. 1, 2, 8."
 refusals m (NoRole r) list =
     1 when r.number beyond 63
@@ -130,7 +130,7 @@ refusals m (Assign u r) list =
     1 when (u.number beyond 255 || r.number beyond 63)
     ∷ 2 when (not (m.users u.number) || not (has m.roles r.number))
     ∷ 4 when has (m.assigned u.number) r.number
-    ∷ 10 when wouldBreak Static (effect m (Assign u r) list)
+    ∷ 10 when would_break Static (effect m (Assign u r) list)
     ∷ 12 when leb 2048 (assignments m)
     ∷ []
 -- "`deassign u r`: 1, 2, 5, then sheds."
@@ -158,10 +158,10 @@ refusals m (Inherit senior junior) list =
     1 when (senior.number beyond 63 || junior.number beyond 63)
     ∷ 2 when (not (has m.roles senior.number) || not (has m.roles junior.number))
     ∷ 4 when has (m.juniors senior.number) junior.number
-    ∷ 6 when wouldCircle m senior.number junior.number
-    ∷ 10 when wouldBreak Static (effect m (Inherit senior junior) list)
-    ∷ 11 when wouldBreak Dynamic (effect m (Inherit senior junior) list)
-    ∷ 12 when leb 512 (linesStanding m)
+    ∷ 6 when would_circle m senior.number junior.number
+    ∷ 10 when would_break Static (effect m (Inherit senior junior) list)
+    ∷ 11 when would_break Dynamic (effect m (Inherit senior junior) list)
+    ∷ 12 when leb 512 (lines_standing m)
     ∷ []
 -- "`disinherit senior junior`: 1, 2, 5, then sheds."
 refusals m (Disinherit senior junior) list =
@@ -172,43 +172,43 @@ refusals m (Disinherit senior junior) list =
 -- "`ssd name n r..`: 1, 2 (a role), 4, 7, 10." "The five `dsd` commands are alike with 11 for 10." A list "must be strictly ascending, else 14"
 refusals m (MakeSet kind name n) list =
     14 when not (ascending list)
-    ∷ 1 when (name.number beyond 15 || someFrom 64 list)
-    ∷ 2 when not (subset (setOf list) m.roles)
-    ∷ 4 when (setsOf kind m name.number).there
-    ∷ 7 when (ltb n 2 || ltb (count (setOf list)) n)
-    ∷ ruleNumber kind when wouldBreak kind (effect m (MakeSet kind name n) list)
+    ∷ 1 when (name.number beyond 15 || some_from 64 list)
+    ∷ 2 when not (subset (set_of list) m.roles)
+    ∷ 4 when (sets_of kind m name.number).there
+    ∷ 7 when (ltb n 2 || ltb (count (set_of list)) n)
+    ∷ rule_number kind when would_break kind (effect m (MakeSet kind name n) list)
     ∷ []
 -- "`nossd name`: 1, 2."
-refusals m (DropSet kind name) list = 1 when name.number beyond 15 ∷ 2 when not (setsOf kind m name.number).there ∷ []
+refusals m (DropSet kind name) list = 1 when name.number beyond 15 ∷ 2 when not (sets_of kind m name.number).there ∷ []
 -- "`ssd-add name r`: 1, 2, 4, 10."
 refusals m (AddMember kind name r) list =
     1 when (name.number beyond 15 || r.number beyond 63)
-    ∷ 2 when (not (setsOf kind m name.number).there || not (has m.roles r.number))
-    ∷ 4 when has (setsOf kind m name.number).roles r.number
-    ∷ ruleNumber kind when wouldBreak kind (effect m (AddMember kind name r) list)
+    ∷ 2 when (not (sets_of kind m name.number).there || not (has m.roles r.number))
+    ∷ 4 when has (sets_of kind m name.number).roles r.number
+    ∷ rule_number kind when would_break kind (effect m (AddMember kind name r) list)
     ∷ []
 -- "`ssd-drop name r`: 1, 2, 5, 7."
 refusals m (DropMember kind name r) list =
     1 when (name.number beyond 15 || r.number beyond 63)
-    ∷ 2 when (not (setsOf kind m name.number).there || not (has m.roles r.number))
-    ∷ 5 when not (has (setsOf kind m name.number).roles r.number)
-    ∷ 7 when (ltb (setsOf kind m name.number).card 2 || ltb (count (without (setsOf kind m name.number).roles r.number)) (setsOf kind m name.number).card)
+    ∷ 2 when (not (sets_of kind m name.number).there || not (has m.roles r.number))
+    ∷ 5 when not (has (sets_of kind m name.number).roles r.number)
+    ∷ 7 when (ltb (sets_of kind m name.number).card 2 || ltb (count (without (sets_of kind m name.number).roles r.number)) (sets_of kind m name.number).card)
     ∷ []
 -- "`ssd-card name n`: 1, 2, 7, 10."
 refusals m (SetCardinality kind name n) list =
     1 when name.number beyond 15
-    ∷ 2 when not (setsOf kind m name.number).there
-    ∷ 7 when (ltb n 2 || ltb (count (setsOf kind m name.number).roles) n)
-    ∷ ruleNumber kind when wouldBreak kind (effect m (SetCardinality kind name n) list)
+    ∷ 2 when not (sets_of kind m name.number).there
+    ∷ 7 when (ltb n 2 || ltb (count (sets_of kind m name.number).roles) n)
+    ∷ rule_number kind when would_break kind (effect m (SetCardinality kind name n) list)
     ∷ []
 -- "`session u r..`: 1, 2, 9, 11, 12"
 refusals m (OpenSession u) list =
     14 when not (ascending list)
-    ∷ 1 when (u.number beyond 255 || someFrom 64 list)
-    ∷ 2 when (not (m.users u.number) || not (subset (setOf list) m.roles))
-    ∷ 9 when not (subset (setOf list) (authorised m u.number))
-    ∷ 11 when wouldBreakOpened (effect m (OpenSession u) list)
-    ∷ 12 when leb 64 (sessionsOpen m)
+    ∷ 1 when (u.number beyond 255 || some_from 64 list)
+    ∷ 2 when (not (m.users u.number) || not (subset (set_of list) m.roles))
+    ∷ 9 when not (subset (set_of list) (authorised m u.number))
+    ∷ 11 when would_break_opened (effect m (OpenSession u) list)
+    ∷ 12 when leb 64 (sessions_open m)
     ∷ []
 -- "`activate u s r`: 1, 2, 3, 4, 9, 11."
 refusals m (Activate u s r) list =
@@ -217,7 +217,7 @@ refusals m (Activate u s r) list =
     ∷ 3 when not (eqb (m.sessions s.number).owner u.number)
     ∷ 4 when has (m.sessions s.number).active r.number
     ∷ 9 when not (has (authorised m u.number) r.number)
-    ∷ 11 when wouldBreak Dynamic (effect m (Activate u s r) list)
+    ∷ 11 when would_break Dynamic (effect m (Activate u s r) list)
     ∷ []
 -- "`drop u s r`: 1, 2, 3, 5."
 refusals m (DropActive u s r) list =
@@ -294,25 +294,25 @@ pub record LookedAtAll (m : Model) (s p n : ℕ) : Type 0 where
 
 -- "`check s op obj`: refusals 1 and 2, else answer 0 with the result 1 for yes or 0 for no. Yes exactly when some effective role of the session
 -- holds the grant." "`check` now also gives the number of effective roles it looked at" (request 10)
-abbrev pub checkRefusals : Model → ℕ → ℕ → ℕ → List Refusal
-checkRefusals m s op obj = 1 when (s beyond 63 || (op beyond 15 || obj beyond 255)) ∷ 2 when not (m.sessions s).live ∷ []
+abbrev pub check_refusals : Model → ℕ → ℕ → ℕ → List Refusal
+check_refusals m s op obj = 1 when (s beyond 63 || (op beyond 15 || obj beyond 255)) ∷ 2 when not (m.sessions s).live ∷ []
 
 -- What is told of a question for access.
 pub record Checked (m : Model) (s op obj : ℕ) (told : Told) : Type 0 where
   -- A number, not 0, is answered exactly when it is the first of the two refusals that applies.
-  pub refused : (n : ℕ) → (n ≡ 0 → ⊥) → (told.answer ≡ n) ↔ FirstToApply (checkRefusals m s op obj) n
+  pub refused : (n : ℕ) → (n ≡ 0 → ⊥) → (told.answer ≡ n) ↔ FirstToApply (check_refusals m s op obj) n
   -- 0 is answered exactly when neither applies.
-  pub done : (told.answer ≡ 0) ↔ ((n : ℕ) → Applies (checkRefusals m s op obj) n → ⊥)
+  pub done : (told.answer ≡ 0) ↔ ((n : ℕ) → Applies (check_refusals m s op obj) n → ⊥)
   -- Then there are two results, and the first is 1 or 0.
   pub answers : told.answer ≡ 0 → (n : ℕ) × ((told.results ≡ 1 ∷ n ∷ []) ⊎ (told.results ≡ 0 ∷ n ∷ []))
   -- It is 1, yes, exactly when an effective role of the session holds the permission, "written as operation * 256 + object".
   pub exactly : told.answer ≡ 0 → ((n : ℕ) × (told.results ≡ 1 ∷ n ∷ [])) ↔ Granted m s (op * 256 + obj)
   -- The second is the number of the effective roles looked at: on yes of those up to the first that holds it, on no of all of them.
-  pub looked-yes : told.answer ≡ 0 → (n : ℕ) → (told.results ≡ 1 ∷ n ∷ []) ↔ LookedUpTo m s (op * 256 + obj) n
-  pub looked-no : told.answer ≡ 0 → (n : ℕ) → (told.results ≡ 0 ∷ n ∷ []) ↔ LookedAtAll m s (op * 256 + obj) n
+  pub looked_yes : told.answer ≡ 0 → (n : ℕ) → (told.results ≡ 1 ∷ n ∷ []) ↔ LookedUpTo m s (op * 256 + obj) n
+  pub looked_no : told.answer ≡ 0 → (n : ℕ) → (told.results ≡ 0 ∷ n ∷ []) ↔ LookedAtAll m s (op * 256 + obj) n
   -- "The number .. is at most 64. A session with none active gives 0", and no other does.
-  pub at-most : (said n : ℕ) → told.results ≡ said ∷ n ∷ [] → n ≤ 64
-  pub none-active : (said n : ℕ) → told.results ≡ said ∷ n ∷ [] → (n ≡ 0) ↔ ((r : ℕ) → has (m.sessions s).active r ≡ false)
+  pub at_most : (said n : ℕ) → told.results ≡ said ∷ n ∷ [] → n ≤ 64
+  pub none_active : (said n : ℕ) → told.results ≡ said ∷ n ∷ [] → (n ≡ 0) ↔ ((r : ℕ) → has (m.sessions s).active r ≡ false)
   -- A refusal gives no results.
   pub silent : (told.answer ≡ 0 → ⊥) → told.results ≡ []
   -- Nothing is changed, whatever the answer.

@@ -3,9 +3,9 @@
 use Rattle.std.specs.Prelude.{true, false, [], ◌∷◌, ◌≡◌, ℕ, ◌+◌, ◌*◌, ◌≤◌}
 use Rattle.roleset.specs.Roles.{has}
 use Rattle.hierarchy.specs.Lines.{line, Inherits, Chain}
-use Rattle.model.specs.Model.{Model, absentSet, closedSession}
+use Rattle.model.specs.Model.{Model, absent_set, closed_session}
 use Rattle.model.specs.Sheet.{done}
-use Rattle.model.specs.commands.Sets.{setsOf}
+use Rattle.model.specs.commands.Sets.{sets_of}
 use Rattle.model.specs.commands.Sessions.{check}
 use Rattle.model.specs.declared.Kind.{Kind}
 use Rattle.demands.specs.Authorised.{Authorised, Effective}
@@ -45,22 +45,22 @@ pub record Shape (m : Model) : Type 0 where
   pub users : (u : ℕ) → m.users u ≡ true → u ≤ 255
   pub roles : (r : ℕ) → has m.roles r ≡ true → r ≤ 63
   pub sessions : (s : ℕ) → (m.sessions s).live ≡ true → s ≤ 63
-  pub sets : (kind : Kind) (name : ℕ) → (setsOf kind m name).there ≡ true → name ≤ 15
+  pub sets : (kind : Kind) (name : ℕ) → (sets_of kind m name).there ≡ true → name ≤ 15
   pub permissions : (p r : ℕ) → has (m.holders p) r ≡ true → p ≤ 4095
   -- A line joins two roles that exist; an assignment names a user and a role that exist; a grant names a role that exists.
   pub lines : (senior junior : ℕ) → line m.juniors senior junior ≡ true → (has m.roles senior ≡ true) × (has m.roles junior ≡ true)
   pub assignments : (u r : ℕ) → has (m.assigned u) r ≡ true → (m.users u ≡ true) × (has m.roles r ≡ true)
   pub grants : (p r : ℕ) → has (m.holders p) r ≡ true → has m.roles r ≡ true
   -- A member of a set, and an active role, exists, and the set is there, or the session open, for a user that exists.
-  pub members : (kind : Kind) (name r : ℕ) → has (setsOf kind m name).roles r ≡ true → ((setsOf kind m name).there ≡ true) × (has m.roles r ≡ true)
+  pub members : (kind : Kind) (name r : ℕ) → has (sets_of kind m name).roles r ≡ true → ((sets_of kind m name).there ≡ true) × (has m.roles r ≡ true)
   pub actives : (s r : ℕ) → has (m.sessions s).active r ≡ true → ((m.sessions s).live ≡ true) × (has m.roles r ≡ true)
   pub owners : (s : ℕ) → (m.sessions s).live ≡ true → m.users (m.sessions s).owner ≡ true
   -- "SSD set: roles and a cardinality n, 2 <= n <= number of its roles." "DSD set: the same shape."
-  pub at_least : (kind : Kind) (name : ℕ) → (setsOf kind m name).there ≡ true → 2 ≤ (setsOf kind m name).card
-  pub at_most : (kind : Kind) (name : ℕ) → (setsOf kind m name).there ≡ true → AsMany (setsOf kind m name).card (λ r. has (setsOf kind m name).roles r ≡ true)
+  pub at_least : (kind : Kind) (name : ℕ) → (sets_of kind m name).there ≡ true → 2 ≤ (sets_of kind m name).card
+  pub at_most : (kind : Kind) (name : ℕ) → (sets_of kind m name).there ≡ true → AsMany (sets_of kind m name).card (λ r. has (sets_of kind m name).roles r ≡ true)
   -- Of a set that is not there, and of a session that is not open, nothing is kept.
-  pub absent : (kind : Kind) (name : ℕ) → (setsOf kind m name).there ≡ false → setsOf kind m name ≡ absentSet
-  pub closed : (s : ℕ) → (m.sessions s).live ≡ false → m.sessions s ≡ closedSession
+  pub absent : (kind : Kind) (name : ℕ) → (sets_of kind m name).there ≡ false → sets_of kind m name ≡ absent_set
+  pub closed : (s : ℕ) → (m.sessions s).live ≡ false → m.sessions s ≡ closed_session
 
 -- "At most 2,048 assignments, 2,048 grants, 512 direct lines and 64 open sessions stand at once": never one more.
 pub record Limits (m : Model) : Type 0 where

@@ -25,4 +25,4 @@ pub record EffectiveRoles (m : Model) (list : List ℕ) (s x : ℕ) : Type 0 whe
   pub norole : (r : Role) → EffectiveAfter m (NoRole r) list s x → Effective m s x
   pub drop : (u : User) (k : Session) (r : Role) → EffectiveAfter m (DropActive u k r) list s x → Effective m s x
   pub end : (u : User) (k : Session) → EffectiveAfter m (EndSession u k) list s x → Effective m s x
-  pub end-all : (u : User) → EffectiveAfter m (EndAll u) list s x → Effective m s x
+  pub end_all : (u : User) → EffectiveAfter m (EndAll u) list s x → Effective m s x

@@ -4,11 +4,11 @@ use Rattle.std.specs.Prelude.{Bool, true, false, not, ◌&&◌, ◌||◌, List, 
 use Rattle.roleset.specs.Roles.{has}
 use Rattle.hierarchy.specs.Lines.{line}
 use Rattle.model.specs.Lists.{listed}
-use Rattle.model.specs.Model.{Model, closedSession, withUsers, withRoles, withJuniors, withAssigned, withHolders, withSessions}
+use Rattle.model.specs.Model.{Model, closed_session, with_users, with_roles, with_juniors, with_assigned, with_holders, with_sessions}
 use Rattle.model.specs.Step.{step}
 use Rattle.model.specs.Words.{permission}
-use Rattle.model.specs.commands.Sets.{setsOf, withSets}
-use Rattle.model.specs.commands.Sessions.{lowestFree}
+use Rattle.model.specs.commands.Sets.{sets_of, with_sets}
+use Rattle.model.specs.commands.Sessions.{lowest_free}
 use Rattle.model.specs.declared.Command.{Command}
 use Rattle.model.specs.declared.Command.TheVariants.{AddUser, AddRole, NoUser, NoRole, Assign, Deassign, Grant, Revoke, Inherit, Disinherit, MakeSet, DropSet, AddMember, DropMember, SetCardinality, OpenSession, Activate, DropActive, EndSession, EndAll}
 use Rattle.model.specs.declared.Kind.{Kind}
@@ -42,14 +42,14 @@ pub record UserAdded (m after : Model) (u : ℕ) : Type 0 where
   -- The users are those that were, and u.
   pub users : (v : ℕ) → after.users v ≡ (m.users v || eqb v u)
   -- Nothing but the users is changed.
-  pub only : after ≡ withUsers m after.users
+  pub only : after ≡ with_users m after.users
 
 -- "`role r` add"
 pub record RoleAdded (m after : Model) (r : ℕ) : Type 0 where
   -- The roles are those that were, and r.
   pub roles : (q : ℕ) → has after.roles q ≡ (has m.roles q || eqb q r)
   -- Nothing but the roles is changed.
-  pub only : after ≡ withRoles m after.roles
+  pub only : after ≡ with_roles m after.roles
 
 -- `nouser u`: removes the user and its assignments. No session is touched.
 pub record UserGone (m after : Model) (u : ℕ) : Type 0 where
@@ -58,7 +58,7 @@ pub record UserGone (m after : Model) (u : ℕ) : Type 0 where
   -- and so are the assignments, but for those of u.
   pub assigned : (v q : ℕ) → has (after.assigned v) q ≡ (has (m.assigned v) q && not (eqb v u))
   -- Nothing but the users and the assignments is changed.
-  pub only : after ≡ withUsers (withAssigned m after.assigned) after.users
+  pub only : after ≡ with_users (with_assigned m after.assigned) after.users
 
 -- "`norole r`: removes its assignments, grants and direct lines at either end, then sheds .. Roles above and below it are not joined up."
 pub record RoleGone (m after : Model) (r : ℕ) : Type 0 where
@@ -73,51 +73,51 @@ pub record RoleGone (m after : Model) (r : ℕ) : Type 0 where
   -- Then every session sheds.
   pub shedding : Shed m after
   -- The users and the separation sets are as they were.
-  pub only : after ≡ withSessions (withRoles (withHolders (withAssigned (withJuniors m after.juniors) after.assigned) after.holders) after.roles) after.sessions
+  pub only : after ≡ with_sessions (with_roles (with_holders (with_assigned (with_juniors m after.juniors) after.assigned) after.holders) after.roles) after.sessions
 
 -- ---- assignments, grants and lines
 
 -- `assign u r`: the assignment (u, r) is there besides those that were, and nothing else is changed.
 pub record AssignmentAdded (m after : Model) (u r : ℕ) : Type 0 where
   pub assigned : Added m.assigned after.assigned u r
-  pub only : after ≡ withAssigned m after.assigned
+  pub only : after ≡ with_assigned m after.assigned
 
 -- `deassign u r`: the assignment (u, r) is gone and no other; every session sheds, whatever role is named; nothing else is changed.
 pub record AssignmentGone (m after : Model) (u r : ℕ) : Type 0 where
   pub assigned : Removed m.assigned after.assigned u r
   pub shedding : Shed m after
-  pub only : after ≡ withSessions (withAssigned m after.assigned) after.sessions
+  pub only : after ≡ with_sessions (with_assigned m after.assigned) after.sessions
 
 -- `grant op obj r`: the grant is there besides those that were, and nothing else is changed.
 pub record GrantAdded (m after : Model) (p r : ℕ) : Type 0 where
   pub grants : Added m.holders after.holders p r
-  pub only : after ≡ withHolders m after.holders
+  pub only : after ≡ with_holders m after.holders
 
 -- `revoke op obj r`: the grant is gone and no other, and nothing else is changed.
 pub record GrantGone (m after : Model) (p r : ℕ) : Type 0 where
   pub grants : Removed m.holders after.holders p r
-  pub only : after ≡ withHolders m after.holders
+  pub only : after ≡ with_holders m after.holders
 
 -- `inherit senior junior`: this line is recorded besides those that were, and none that a longer chain implies; nothing else is changed.
 pub record LineAdded (m after : Model) (senior junior : ℕ) : Type 0 where
   pub lines : Added m.juniors after.juniors senior junior
-  pub only : after ≡ withJuniors m after.juniors
+  pub only : after ≡ with_juniors m after.juniors
 
 -- `disinherit senior junior`: this line is gone and no other, since "only recorded lines are kept and deleted"; every session sheds.
 pub record LineGone (m after : Model) (senior junior : ℕ) : Type 0 where
   pub lines : Removed m.juniors after.juniors senior junior
   pub shedding : Shed m after
-  pub only : after ≡ withSessions (withJuniors m after.juniors) after.sessions
+  pub only : after ≡ with_sessions (with_juniors m after.juniors) after.sessions
 
 -- ---- separation sets, of either kind
 
 -- The set `name` is there or not, has this cardinality and these roles; every other set is as it was, and nothing else is changed.
 pub record SetBecomes (kind : Kind) (m after : Model) (name : ℕ) (isThere : Bool) (n : ℕ) (member : ℕ → Bool) : Type 0 where
-  pub there : (setsOf kind after name).there ≡ isThere
-  pub card : (setsOf kind after name).card ≡ n
-  pub roles : (q : ℕ) → has (setsOf kind after name).roles q ≡ member q
-  pub others : (k : ℕ) → (k ≡ name → ⊥) → setsOf kind after k ≡ setsOf kind m k
-  pub only : after ≡ withSets kind m (setsOf kind after)
+  pub there : (sets_of kind after name).there ≡ isThere
+  pub card : (sets_of kind after name).card ≡ n
+  pub roles : (q : ℕ) → has (sets_of kind after name).roles q ≡ member q
+  pub others : (k : ℕ) → (k ≡ name → ⊥) → sets_of kind after k ≡ sets_of kind m k
+  pub only : after ≡ with_sets kind m (sets_of kind after)
 
 -- ---- sessions
 
@@ -127,16 +127,16 @@ pub record SessionBecomes (m after : Model) (s : ℕ) (isLive : Bool) (u : ℕ) 
   pub owner : (after.sessions s).owner ≡ u
   pub active : (q : ℕ) → has (after.sessions s).active q ≡ activeRole q
   pub others : (k : ℕ) → (k ≡ s → ⊥) → after.sessions k ≡ m.sessions k
-  pub only : after ≡ withSessions m after.sessions
+  pub only : after ≡ with_sessions m after.sessions
 
 -- "`end-all u` ends the user's sessions"
 pub record AllEnded (m after : Model) (u : ℕ) : Type 0 where
   -- Every open session of u is closed,
-  pub ended : (s : ℕ) → OpenOf m u s → after.sessions s ≡ closedSession
+  pub ended : (s : ℕ) → OpenOf m u s → after.sessions s ≡ closed_session
   -- and every other session is as it was.
   pub others : (s : ℕ) → (OpenOf m u s → ⊥) → after.sessions s ≡ m.sessions s
   -- Nothing but the sessions is changed.
-  pub only : after ≡ withSessions m after.sessions
+  pub only : after ≡ with_sessions m after.sessions
 
 -- ---- every command
 
@@ -157,13 +157,13 @@ Changed m (MakeSet kind name n) list after = SetBecomes kind m after name.number
 -- `nossd name`: not there
 Changed m (DropSet kind name) list after = SetBecomes kind m after name.number false 0 (λ q. false)
 -- `ssd-add name r`: with the role r besides, of the same cardinality
-Changed m (AddMember kind name r) list after = SetBecomes kind m after name.number true (setsOf kind m name.number).card (λ q. has (setsOf kind m name.number).roles q || eqb q r.number)
+Changed m (AddMember kind name r) list after = SetBecomes kind m after name.number true (sets_of kind m name.number).card (λ q. has (sets_of kind m name.number).roles q || eqb q r.number)
 -- `ssd-drop name r`: without the role r, of the same cardinality
-Changed m (DropMember kind name r) list after = SetBecomes kind m after name.number true (setsOf kind m name.number).card (λ q. has (setsOf kind m name.number).roles q && not (eqb q r.number))
+Changed m (DropMember kind name r) list after = SetBecomes kind m after name.number true (sets_of kind m name.number).card (λ q. has (sets_of kind m name.number).roles q && not (eqb q r.number))
 -- `ssd-card name n`: with the same roles
-Changed m (SetCardinality kind name n) list after = SetBecomes kind m after name.number true n (has (setsOf kind m name.number).roles)
+Changed m (SetCardinality kind name n) list after = SetBecomes kind m after name.number true n (has (sets_of kind m name.number).roles)
 -- `session u r..`: the lowest free one is open for u, with the listed roles active
-Changed m (OpenSession u) list after = SessionBecomes m after (lowestFree m) true u.number (listed list)
+Changed m (OpenSession u) list after = SessionBecomes m after (lowest_free m) true u.number (listed list)
 -- `activate u s r`, `drop u s r`: open for the same user, with the role r besides, or without it
 Changed m (Activate u s r) list after = SessionBecomes m after s.number true u.number (λ q. has (m.sessions s.number).active q || eqb q r.number)
 Changed m (DropActive u s r) list after = SessionBecomes m after s.number true u.number (λ q. has (m.sessions s.number).active q && not (eqb q r.number))

@@ -23,7 +23,7 @@ pub record ShorterSheet : Type 0 where
   pub loading : (before m : Model) (bytes : List ℕ) (told : Told) → FileOf m bytes → Loads before bytes told → (n r : ℕ) → 64 < n → Chain m.juniors n r → told ≡ refused 6 before
   -- "the number stays unused": it is no answer's number, and going back from it there is no answer.
   pub unused : (a : Answer) → number_of a ≡ 13 → ⊥
-  pub names-none : answer_of 13 ≡ Nothing
+  pub names_none : answer_of 13 ≡ Nothing
   -- "and all else stays": every other number of 0 to 15 is an answer's.
   pub others : (n : ℕ) → n < 16 → (n ≡ 13 → ⊥) → OnSheet n
   -- No command, no question and no load answers it, on any policy.

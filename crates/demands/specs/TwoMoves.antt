@@ -4,7 +4,7 @@ use Rattle.std.specs.Prelude.{true, false, not, ◌&&◌, List, [], ◌∷◌, �
 use Rattle.roleset.specs.Roles.{has, none, count}
 use Rattle.numbers.specs.declared.User.{User}
 use Rattle.numbers.specs.declared.Session.{Session}
-use Rattle.model.specs.Model.{Model, closedSession, put, withUsers, withAssigned, withAssignments, withSessions}
+use Rattle.model.specs.Model.{Model, closed_session, put, with_users, with_assigned, with_assignments, with_sessions}
 use Rattle.model.specs.Sheet.{◌when◌, Told, settle, done, refused}
 use Rattle.model.specs.Step.{step}
 use Rattle.model.specs.commands.Sessions.{check}
@@ -16,18 +16,18 @@ use Rattle.demands.specs.Reachable.{Reachable}
 -- ---- `nouser` before there were two moves
 
 -- The policy and sessions after it: "ends the user's sessions, removes assignments".
-abbrev pub goneInOneMove : Model → ℕ → Model
-goneInOneMove m u =
-    withUsers
-    (withAssignments
-    (withSessions m (λ s. elim ((m.sessions s).live && eqb (m.sessions s).owner u) [ true ↦ closedSession | false ↦ m.sessions s ]))
+abbrev pub gone_in_one_move : Model → ℕ → Model
+gone_in_one_move m u =
+    with_users
+    (with_assignments
+    (with_sessions m (λ s. elim ((m.sessions s).live && eqb (m.sessions s).owner u) [ true ↦ closed_session | false ↦ m.sessions s ]))
     (put m.assigned u none)
-    (m.assignmentCount - count (m.assigned u)))
+    (m.assignment_count - count (m.assigned u)))
     (put m.users u false)
 
 -- What it told: ".. 1, 2."
-abbrev pub inOneMove : Model → ℕ → Told
-inOneMove m u = settle (1 when u beyond 255 ∷ 2 when not (m.users u) ∷ []) m [] (goneInOneMove m u)
+abbrev pub in_one_move : Model → ℕ → Told
+in_one_move m u = settle (1 when u beyond 255 ∷ 2 when not (m.users u) ∷ []) m [] (gone_in_one_move m u)
 
 -- What it changed, member by member, where it was done.
 pub record GoneInOneMove (m after : Model) (u : ℕ) : Type 0 where
@@ -36,11 +36,11 @@ pub record GoneInOneMove (m after : Model) (u : ℕ) : Type 0 where
   -- and so are the assignments, but for those of u.
   pub assigned : (v q : ℕ) → has (after.assigned v) q ≡ (has (m.assigned v) q && not (eqb v u))
   -- Every open session of u is closed,
-  pub ended : (s : ℕ) → (m.sessions s).live ≡ true → (m.sessions s).owner ≡ u → after.sessions s ≡ closedSession
+  pub ended : (s : ℕ) → (m.sessions s).live ≡ true → (m.sessions s).owner ≡ u → after.sessions s ≡ closed_session
   -- and every other session is as it was.
   pub others : (s : ℕ) → ((m.sessions s).live ≡ true → (m.sessions s).owner ≡ u → ⊥) → after.sessions s ≡ m.sessions s
   -- Nothing but the users, the assignments and the sessions is changed.
-  pub only : after ≡ withUsers (withAssigned (withSessions m after.sessions) after.assigned) after.users
+  pub only : after ≡ with_users (with_assigned (with_sessions m after.sessions) after.assigned) after.users
 
 -- ---- the two moves
 
@@ -73,9 +73,9 @@ pub record TwoMoves : Type 0 where
   -- ---- two moves are one
 
   -- On any policy and with any number, `end-all u` is answered what `nouser u` was answered alone, and has no results;
-  pub answered : (m : Model) (u : User) → ((first m u).answer ≡ (inOneMove m u.number).answer) × ((first m u).results ≡ [])
+  pub answered : (m : Model) (u : User) → ((first m u).answer ≡ (in_one_move m u.number).answer) × ((first m u).results ≡ [])
   -- and then `nouser u` tells what it told alone: its answer, no results, and the policy and sessions that it left.
-  pub together : (m : Model) (u : User) → second m u ≡ inOneMove m u.number
+  pub together : (m : Model) (u : User) → second m u ≡ in_one_move m u.number
   -- So after a done `end-all u` the second move is done,
   pub follows : (m : Model) (u : User) → (first m u).answer ≡ 0 → (second m u).answer ≡ 0
   -- and of a reachable policy both leave, member by member, what the one move left.
@@ -83,11 +83,11 @@ pub record TwoMoves : Type 0 where
   -- ---- `end-all`, on any policy
 
   -- Done, it closes every open session of the user.
-  pub ended : (m : Model) (u : User) → (first m u).answer ≡ 0 → (s : ℕ) → OpenOf m u.number s → (first m u).after.sessions s ≡ closedSession
+  pub ended : (m : Model) (u : User) → (first m u).answer ≡ 0 → (s : ℕ) → OpenOf m u.number s → (first m u).after.sessions s ≡ closed_session
   -- Every other session is as it was, and every `check` on it is told the same.
   pub others : (m : Model) (u : User) (s : ℕ) → (OpenOf m u.number s → ⊥) → ((first m u).after.sessions s ≡ m.sessions s) × ChecksAlike m (first m u).after s
   -- Nothing but the sessions is changed.
-  pub only : (m : Model) (u : User) → (first m u).after ≡ withSessions m (first m u).after.sessions
+  pub only : (m : Model) (u : User) → (first m u).after ≡ with_sessions m (first m u).after.sessions
   -- "`end-all` with no session open is done and changes nothing", for a user of a reachable policy.
   pub idle : (m : Model) → Reachable m → (u : User) → m.users u.number ≡ true → ((s : ℕ) → OpenOf m u.number s → ⊥) → first m u ≡ done [] m
   -- ---- `nouser`

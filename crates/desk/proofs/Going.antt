@@ -16,7 +16,7 @@ use Rattle.text.specs.Putting.{Put}
 use Rattle.text.proofs.Putting.{put_front, put-length}
 use Rattle.decimal.specs.Decimal.{decimal, numbered}
 use Rattle.decimal.proofs.Laws.{decimal-short, numbered-short}
-use Rattle.script.specs.Script.{answerText, lineFeed}
+use Rattle.script.specs.Script.{answer_text, line_feed}
 use Rattle.policyform.specs.Encode.{encode}
 use Rattle.policyform.specs.Promises.{Loads, Saves}
 use Rattle.policyfile.proofs.Laws.{load-refused}
@@ -44,9 +44,9 @@ pub counts : (n : ℕ) (l : List ℕ) → n ≤ length l → IsPrefixLen n l
 counts n l h = (h, sym (length-take-le n l h))
 
 -- an answer with no results is a short line
-pub number_short : (n : ℕ) → length (answerText n []) ≤ 8
-unfolding answerText
-number_short n = omega (arith, length-append (decimal n) (numbered [] ++ (lineFeed ∷ [])), length-append (numbered []) (lineFeed ∷ []), decimal-short n, numbered-short [])
+pub number_short : (n : ℕ) → length (answer_text n []) ≤ 8
+unfolding answer_text
+number_short n = omega (arith, length-append (decimal n) (numbered [] ++ (line_feed ∷ [])), length-append (numbered []) (line_feed ∷ []), decimal-short n, numbered-short [])
 
 -- What the script leaves is saved as its file.
 pub record Whole (file script after : List ℕ) (n : ℕ) : Type 0 where

@@ -2,7 +2,7 @@
 use Rattle.std.specs.Prelude.{List, [], ◌≡◌, ℕ, length, take, drop}
 use Rattle.model.specs.Model.{Model, empty}
 use Rattle.model.specs.Sheet.{done, refused}
-use Rattle.script.specs.Script.{answerText, run_from, afterScript}
+use Rattle.script.specs.Script.{answer_text, run_from, after_script}
 use Rattle.policyform.specs.Encode.{encode}
 use Rattle.policyform.specs.Promises.{Loads}
 
@@ -26,17 +26,17 @@ pub record Prints (file script : List ℕ) (count : ℕ) : Type 0 where
 pub record Leaves (file script : List ℕ) (after : Model) : Type 0 where
   pub policy : Model
   pub gives : Gives file policy
-  pub left : after ≡ afterScript policy script
+  pub left : after ≡ after_script policy script
 
 -- The bytes are the file of what the script leaves of the policy that the file gives.
 pub record Saved (file script bytes : List ℕ) : Type 0 where
   pub policy : Model
   pub gives : Gives file policy
-  pub is : bytes ≡ encode (afterScript policy script)
+  pub is : bytes ≡ encode (after_script policy script)
 
 -- The file does not load, and the bytes are the number of its answer and LF.
 pub record Refused (file bytes : List ℕ) : Type 0 where
   pub answer : ℕ
   pub refuses : Loads empty file (refused answer empty)
   pub not_done : answer ≡ 0 → ⊥
-  pub is : bytes ≡ answerText answer []
+  pub is : bytes ≡ answer_text answer []

@@ -1,6 +1,7 @@
 // The desk: loads the policy file that its first argument names, runs the script from standard input on it, and prints the answer lines. Where a
 // second argument is given, saves under that name what it ends with. What it prints and saves is proved; that the C library reads and writes what it
 // is asked to is assumed.
+#![tactic(auto)]
 mod saving;
 
 ghost use Rattle.std.specs.Prelude.{true, ◌≡◌, ◌+◌, ◌^◌, ◌<◌, ◌≤◌, length};

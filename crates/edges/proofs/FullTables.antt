@@ -12,7 +12,7 @@ use Rattle.numbers.specs.declared.User.{User}
 use Rattle.model.specs.Model.{Model}
 use Rattle.model.specs.Sheet.{Refusal, verdict, settle}
 use Rattle.model.specs.Step.{step}
-use Rattle.model.specs.Words.{assignments, grants, linesStanding, sessionsOpen}
+use Rattle.model.specs.Words.{assignments, grants, lines_standing, sessions_open}
 use Rattle.model.specs.commands.Assigning.{assign, grant}
 use Rattle.model.specs.commands.Inheriting.{inherit}
 use Rattle.model.specs.commands.Sessions.{session}
@@ -64,19 +64,19 @@ full_at most kept standing rs m results after k p twelve =
 
 assignments-full : (m : Model) → Reachable m → (u : User) (r : Role) → FullAt 2048 (assignments m) (step m (Assign u r) [])
 unfolding step assign applies
-assignments-full m p u r = full_at 2048 m.assignmentCount (assignments m) _ m _ _ (reachable-sound p).counted.assigned refl refl
+assignments-full m p u r = full_at 2048 m.assignment_count (assignments m) _ m _ _ (reachable-sound p).counted.assigned refl refl
 
 grants-full : (m : Model) → Reachable m → (op obj : ℕ) (r : Role) → FullAt 2048 (grants m) (step m (Grant op obj r) [])
 unfolding step grant applies
-grants-full m p op obj r = full_at 2048 m.grantCount (grants m) _ m _ _ (reachable-sound p).counted.granted refl refl
+grants-full m p op obj r = full_at 2048 m.grant_count (grants m) _ m _ _ (reachable-sound p).counted.granted refl refl
 
-lines-full : (m : Model) → Reachable m → (senior junior : Role) → FullAt 512 (linesStanding m) (step m (Inherit senior junior) [])
+lines-full : (m : Model) → Reachable m → (senior junior : Role) → FullAt 512 (lines_standing m) (step m (Inherit senior junior) [])
 unfolding step inherit applies
-lines-full m p senior junior = full_at 512 m.lineCount (linesStanding m) _ m _ _ (reachable-sound p).counted.lined refl refl
+lines-full m p senior junior = full_at 512 m.line_count (lines_standing m) _ m _ _ (reachable-sound p).counted.lined refl refl
 
-sessions-full : (m : Model) → Reachable m → (u : User) (list : List ℕ) → FullAt 64 (sessionsOpen m) (step m (OpenSession u) list)
+sessions-full : (m : Model) → Reachable m → (u : User) (list : List ℕ) → FullAt 64 (sessions_open m) (step m (OpenSession u) list)
 unfolding step session applies
-sessions-full m p u list = full_at 64 (sessionsOpen m) (sessionsOpen m) _ m _ _ refl refl refl
+sessions-full m p u list = full_at 64 (sessions_open m) (sessions_open m) _ m _ _ refl refl refl
 
 pub full-tables : FullTables
 full-tables = record { assignments = assignments-full; grants = grants-full; lines = lines-full; sessions = sessions-full }

@@ -7,11 +7,11 @@ use Rattle.roleset.specs.Bounded.{some}
 use Rattle.roleset.specs.Roles.{has, pack, those, with, union, is_empty}
 use Rattle.roleset.proofs.BoundedLaws.{and_left, and_right}
 use Rattle.hierarchy.specs.Lines.{line, Chain, alone, down}
-use Rattle.hierarchy.specs.Walks.{juniorsOf, walk, reach}
+use Rattle.hierarchy.specs.Walks.{juniors_of, walk, reach}
 use Rattle.model.specs.Model.{Model, empty, put}
 use Rattle.model.specs.Sheet.{verdict, settle}
 use Rattle.model.specs.Step.{step}
-use Rattle.model.specs.Words.{breaks, breaksSome, staticBroken, dynamicBroken}
+use Rattle.model.specs.Words.{breaks, breaks_some, static_broken, dynamic_broken}
 use Rattle.model.specs.commands.Users.{role}
 use Rattle.model.specs.commands.Inheriting.{lined, inherit}
 use Rattle.model.specs.declared.Command.{Command}
@@ -46,7 +46,7 @@ chained : Model
 chained = after-all (λ k. Inherit (record { number = k }) (record { number = suc k })) 0 63 all-roles
 
 in-line : linked chained.juniors 63 0 ≡ true
-unfolding linked chained all-roles after-all some has pack those with union is_empty juniorsOf walk reach empty put verdict settle step breaks breaksSome staticBroken dynamicBroken role lined inherit
+unfolding linked chained all-roles after-all some has pack those with union is_empty juniors_of walk reach empty put verdict settle step breaks breaks_some static_broken dynamic_broken role lined inherit
 in-line = refl
 
 -- A chain of exactly 64 roles can be reached.

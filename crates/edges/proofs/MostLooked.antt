@@ -6,16 +6,16 @@ use Prim.Native.Nat.{ℕ}
 use lib.ListN.{length}
 use Rattle.roleset.specs.Bounded.{bit, some, every, tally, members}
 use Rattle.roleset.specs.Roles.{has, pack, those, with, union, common, subset, is_empty}
-use Rattle.hierarchy.specs.Walks.{juniorsOf, walk, reach}
-use Rattle.model.specs.Lists.{rising, someFrom, listed, setOf, upToFirst}
+use Rattle.hierarchy.specs.Walks.{juniors_of, walk, reach}
+use Rattle.model.specs.Lists.{rising, some_from, listed, set_of, up_to_first}
 use Rattle.model.specs.Model.{Model, empty, put}
 use Rattle.model.specs.Sheet.{verdict, settle, done}
 use Rattle.model.specs.Step.{step}
-use Rattle.model.specs.Words.{permission, breaks, breaksSome, staticBroken, dynamicBroken, sessionsOpen}
+use Rattle.model.specs.Words.{permission, breaks, breaks_some, static_broken, dynamic_broken, sessions_open}
 use Rattle.model.specs.commands.Users.{user, role}
 use Rattle.model.specs.commands.Assigning.{assign, assigned, grant, granted}
-use Rattle.model.specs.commands.Naming.{sessionBeyond, permissionBeyond}
-use Rattle.model.specs.commands.Sessions.{freeFrom, opened, session, permitted, looked, check}
+use Rattle.model.specs.commands.Naming.{session_beyond, permission_beyond}
+use Rattle.model.specs.commands.Sessions.{free_from, opened, session, permitted, looked, check}
 use Rattle.model.specs.declared.Command.TheVariants.{AddUser, Assign, Grant, OpenSession}
 use Rattle.demands.specs.Reachable.{Reachable, start, after}
 use Rattle.edges.specs.MostLooked.{MostLooked}
@@ -43,17 +43,17 @@ pub record Parts : Type 0 where
   pub unheld : all-active.holders 1055 ≡ 0
 
 parts : Parts
-unfolding all-active all-assigned with-user all-roles after-all some every members has pack those with union common subset is_empty juniorsOf walk reach rising someFrom listed setOf empty put verdict settle step breaks breaksSome staticBroken dynamicBroken sessionsOpen tally user role assign assigned grant granted freeFrom opened session
+unfolding all-active all-assigned with-user all-roles after-all some every members has pack those with union common subset is_empty juniors_of walk reach rising some_from listed set_of empty put verdict settle step breaks breaks_some static_broken dynamic_broken sessions_open tally user role assign assigned grant granted free_from opened session
 parts = record { live = refl; active = refl; lines = refl; held = refl; unheld = refl }
 
 -- a check by these parts
-by_parts : (m : Model) (juniors : ℕ → ℕ) (active holders obj : ℕ) → (sessionBeyond 0 || permissionBeyond 4 obj) ≡ false → (m.sessions 0).live ≡ true → m.juniors ≡ juniors → (m.sessions 0).active ≡ active → m.holders (permission 4 obj) ≡ holders → check m 0 4 obj ≡ done (bit (not (is_empty (common (reach juniors active) holders))) ∷ length (upToFirst (has holders) (members 64 (has (reach juniors active)))) ∷ []) m
+by_parts : (m : Model) (juniors : ℕ → ℕ) (active holders obj : ℕ) → (session_beyond 0 || permission_beyond 4 obj) ≡ false → (m.sessions 0).live ≡ true → m.juniors ≡ juniors → (m.sessions 0).active ≡ active → m.holders (permission 4 obj) ≡ holders → check m 0 4 obj ≡ done (bit (not (is_empty (common (reach juniors active) holders))) ∷ length (up_to_first (has holders) (members 64 (has (reach juniors active)))) ∷ []) m
 unfolding check settle verdict permitted looked
 by_parts m juniors active holders obj within live lines e h = rw (within, live, lines, e, h)
 
 -- All 64 can be looked at.
 pub most-looked : MostLooked
-unfolding some members has pack those with union common is_empty juniorsOf walk reach upToFirst empty
+unfolding some members has pack those with union common is_empty juniors_of walk reach up_to_first empty
 most-looked =
     record {
       policy = all-active;

@@ -2,7 +2,7 @@
 use Rattle.std.specs.Prelude.{List, [], ◌∷◌, ◌++◌, ◌≡◌, length}
 use Prim.Native.String.{String}
 use Rattle.words.specs.Bytes.{bytes}
-use Rattle.script.specs.Script.{runScript}
+use Rattle.script.specs.Script.{run_script}
 use Rattle.transcripts.specs.Rows.{Row, ◌⇒◌, line_of, Prints}
 
 -- "Users are 0 to 255, roles 0 to 63, sessions 0 to 63 .. Operations 0 to 15 and objects 0 to 255": beyond that a number is answered 1, in every
@@ -247,15 +247,15 @@ bytes512 = "session 0 1000 10000 10001 10002 10003 10004 10005 10006 10007 10008
 abbrev pub bytes513 : String
 bytes513 = "session 10 1000 10000 10001 10002 10003 10004 10005 10006 10007 10008 10009 10010 10011 10012 10013 10014 10015 10016 10017 10018 10019 10020 10021 10022 10023 10024 10025 10026 10027 10028 10029 10030 10031 10032 10033 10034 10035 10036 10037 10038 10039 10040 10041 10042 10043 10044 10045 10046 10047 10048 10049 10050 10051 10052 10053 10054 10055 10056 10057 10058 10059 10060 10061 10062 10063 10064 10065 10066 10067 10068 10069 10070 10071 10072 10073 10074 10075 10076 10077 10078 10079 10080 10081 10082"
 
-abbrev pub longLines : List Row
-longLines =
+abbrev pub long_lines : List Row
+long_lines =
     bytes512 ⇒ "1" ∷
     bytes513 ⇒ "14" ∷
     []
 
 -- "At most .. 64 open sessions stand at once. Room freed by a removal is used again."
-abbrev pub openSessions : List Row
-openSessions =
+abbrev pub open_sessions : List Row
+open_sessions =
     "user 7" ⇒ "0" ∷
     "session 7" ⇒ "0 0" ∷
     "session 7" ⇒ "0 1" ∷
@@ -371,9 +371,9 @@ pub record Edges : Type 0 where
   pub sets : Prints sets "total 15 36"
   pub lists : Prints lists "total 9 12"
   pub forms : Prints forms "total 2 26"
-  pub longLines : Prints longLines "total 0 2"
+  pub long_lines : Prints long_lines "total 0 2"
   pub lengths : (length (bytes bytes512) ≡ 512) × (length (bytes bytes513) ≡ 513)
-  pub openSessions : Prints openSessions "total 88 11"
+  pub open_sessions : Prints open_sessions "total 88 11"
   -- "A line ends at LF; the last may lack it, and nothing after the last LF is no line.": the only line, and the second of two, without LF
-  pub onlyLine : runScript (bytes "user 7") ≡ line_of "0" ++ line_of "total 1 0"
-  pub lastLine : runScript (line_of "user 7" ++ bytes "role 3") ≡ line_of "0" ++ (line_of "0" ++ line_of "total 2 0")
+  pub only_line : run_script (bytes "user 7") ≡ line_of "0" ++ line_of "total 1 0"
+  pub last_line : run_script (line_of "user 7" ++ bytes "role 3") ≡ line_of "0" ++ (line_of "0" ++ line_of "total 2 0")

@@ -6,7 +6,7 @@ use Rattle.numbers.specs.declared.User.{User}
 use Rattle.model.specs.Model.{Model}
 use Rattle.model.specs.Sheet.{Told}
 use Rattle.model.specs.Step.{step}
-use Rattle.model.specs.Words.{assignments, grants, linesStanding, sessionsOpen}
+use Rattle.model.specs.Words.{assignments, grants, lines_standing, sessions_open}
 use Rattle.model.specs.declared.Command.TheVariants.{Assign, Grant, Inherit, OpenSession}
 use Rattle.demands.specs.Reachable.{Reachable}
 
@@ -21,5 +21,5 @@ pub record FullAt (most standing : ℕ) (told : Told) : Type 0 where
 pub record FullTables : Type 0 where
   pub assignments : (m : Model) → Reachable m → (u : User) (r : Role) → FullAt 2048 (assignments m) (step m (Assign u r) [])
   pub grants : (m : Model) → Reachable m → (op obj : ℕ) (r : Role) → FullAt 2048 (grants m) (step m (Grant op obj r) [])
-  pub lines : (m : Model) → Reachable m → (senior junior : Role) → FullAt 512 (linesStanding m) (step m (Inherit senior junior) [])
-  pub sessions : (m : Model) → Reachable m → (u : User) (list : List ℕ) → FullAt 64 (sessionsOpen m) (step m (OpenSession u) list)
+  pub lines : (m : Model) → Reachable m → (senior junior : Role) → FullAt 512 (lines_standing m) (step m (Inherit senior junior) [])
+  pub sessions : (m : Model) → Reachable m → (u : User) (list : List ℕ) → FullAt 64 (sessions_open m) (step m (OpenSession u) list)

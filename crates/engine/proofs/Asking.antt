@@ -12,8 +12,8 @@ use Rattle.numbers.specs.declared.Answer.TheVariants.{BufferShort}
 use Rattle.model.specs.Model.{Model}
 use Rattle.model.specs.Sheet.{Told}
 use Rattle.model.specs.declared.Question.{Question}
-use Rattle.state.specs.Results.{isDone}
-use Rattle.checking.specs.Answering.{toldChecked}
+use Rattle.state.specs.Results.{is_done}
+use Rattle.checking.specs.Answering.{told_checked}
 use Rattle.checking.specs.declared.Checked.{Checked}
 use Rattle.reviews.specs.declared.Review.{Review}
 use Rattle.reviews.specs.Reviewing.{Reviewed, Asked, fitted, AskedAny}
@@ -35,17 +35,17 @@ asked-arm m before after x e same told = rw e (fits-already _ before after x sam
 
 -- ---- `check`: refused; done with no room for its two results; done with room
 
-module _ (m : Model) (told : Told) (c : Checked) (before : List ℕ) (tells : toldChecked m c ≡ told) where
-  pub check-refused : isDone c.answer ≡ false → Reviewed (fitted (length before) told) before before (record { answer = c.answer; count = 0 })
-  unfolding toldChecked
+module _ (m : Model) (told : Told) (c : Checked) (before : List ℕ) (tells : told_checked m c ≡ told) where
+  pub check_refused : is_done c.answer ≡ false → Reviewed (fitted (length before) told) before before (record { answer = c.answer; count = 0 })
+  unfolding told_checked
   check-refused e = rw (← tells, e) (fits-already _ before before _ refl (record { answer = refl; count = refl; buffer = refl }))
 
-  pub check-short : isDone c.answer ≡ true → length before < 2 → Reviewed (fitted (length before) told) before before (record { answer = BufferShort; count = 0 })
-  unfolding fitted toldChecked
+  pub check_short : is_done c.answer ≡ true → length before < 2 → Reviewed (fitted (length before) told) before before (record { answer = BufferShort; count = 0 })
+  unfolding fitted told_checked
   check-short e h = rw (← tells, e, lt-ltb (length before) 2 h, fitted) (record { answer = refl; count = refl; buffer = refl })
 
-  pub check_done : isDone c.answer ≡ true → 2 ≤ length before → Reviewed (fitted (length before) told) before (set (set before 0 (bit c.yes)) 1 c.looked) (record { answer = c.answer; count = 2 })
-  unfolding toldChecked
+  pub check_done : is_done c.answer ≡ true → 2 ≤ length before → Reviewed (fitted (length before) told) before (set (set before 0 (bit c.yes)) 1 c.looked) (record { answer = c.answer; count = 2 })
+  unfolding told_checked
   check_done e h = rw (← tells, e) (fits-already _ before _ _ (length-set (set before 0 (bit c.yes)) 1 c.looked ∙ length-set before 0 (bit c.yes)) (record { answer = refl; count = refl; buffer = first before h }))
     where
       first : (l : List ℕ) → 2 ≤ length l → set (set l 0 (bit c.yes)) 1 c.looked ≡ bit c.yes ∷ c.looked ∷ drop 2 l

@@ -6,8 +6,8 @@ use Prim.Native.Nat.{ℕ}
 use Rattle.numbers.specs.declared.Answer.{Answer}
 use Rattle.model.specs.Sheet.{Told}
 use Rattle.state.specs.View.{told}
-use Rattle.sessions.specs.Answering.{Opens, toldOpened}
-use Rattle.state.specs.Results.{isDone}
+use Rattle.sessions.specs.Answering.{Opens, told_opened}
+use Rattle.state.specs.Results.{is_done}
 use Rattle.sessions.specs.declared.Opened.{Opened}
 use Rattle.engine.specs.Stepping.{Steps}
 
@@ -17,6 +17,6 @@ unfolding told
 plain-steps t a l h = record { answer = ap (λ (x : Told). x.answer) h; results = ap (λ (x : Told). x.results) h; silent = λ e. refl; after = ap (λ (x : Told). x.after) h }
 
 -- a session that was opened, or was not
-pub opened-steps : (t : Told) (o : Opened) (l : List ℕ) → Opens t o l → Steps t (record { answer = o.answer; result = isDone o.answer; opened = o.session }) l
-unfolding toldOpened
+pub opened-steps : (t : Told) (o : Opened) (l : List ℕ) → Opens t o l → Steps t (record { answer = o.answer; result = is_done o.answer; opened = o.session }) l
+unfolding told_opened
 opened-steps t o l h = record { answer = ap (λ (x : Told). x.answer) h.tells; results = ap (λ (x : Told). x.results) h.tells; silent = h.silent; after = ap (λ (x : Told). x.after) h.tells }

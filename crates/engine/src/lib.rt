@@ -1,9 +1,10 @@
 // Every command through one function, and every question through another.
+#![tactic(auto)]
 ghost use Rattle.std.specs.Prelude.{false, ◌≡◌};
 ghost use Rattle.model.specs.Step.{step};
 ghost use Rattle.model.specs.declared.Question.TheVariants.{Check};
 ghost use Rattle.state.specs.View.{view};
-ghost use Rattle.state.specs.Results.{isDone};
+ghost use Rattle.state.specs.Results.{is_done};
 ghost use Rattle.reviews.specs.Reviewing.{AskedAny};
 ghost use Rattle.engine.specs.Stepping.{Steps};
 
@@ -34,7 +35,7 @@ fn plain(answer: Answer) -> Stepped
 
 // A session that was opened, or was not: where it was, its number is the result.
 fn opening(o: Opened) -> Stepped
-    ensures* { λ x. ⌜ x ≡ record { answer = o.answer; result = isDone o.answer; opened = o.session } ⌝ }
+    ensures* { λ x. ⌜ x ≡ record { answer = o.answer; result = is_done o.answer; opened = o.session } ⌝ }
 {
     let answer = o.answer;
     let opened = o.session;

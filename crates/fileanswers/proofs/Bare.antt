@@ -5,7 +5,7 @@ use mathlib.Core.Logic.{◌↔◌}
 use mathlib.Core.Path.{◌≡◌}
 use Prim.Native.Nat.{ℕ}
 use Rattle.roleset.specs.Roles.{has}
-use Rattle.model.specs.Model.{Model, absentSet, closedSession}
+use Rattle.model.specs.Model.{Model, absent_set, closed_session}
 use Rattle.model.specs.Words.{reached, authorised, effective}
 use Rattle.model.specs.Sound.{Existing, Shape}
 use Rattle.sound.proofs.Carried.{set-none, session-none}
@@ -14,7 +14,7 @@ use Rattle.policyform.specs.Form.{Formed}
 use Rattle.demands.specs.Authorised.{InOrBelow, Authorised, Effective}
 
 abbrev pub bare : Model → Model
-bare m = record { users = m.users; roles = m.roles; juniors = m.juniors; assigned = m.assigned; holders = m.holders; ssd = λ n. absentSet; dsd = λ n. absentSet; sessions = λ s. closedSession; assignmentCount = m.assignmentCount; grantCount = m.grantCount; lineCount = m.lineCount }
+bare m = record { users = m.users; roles = m.roles; juniors = m.juniors; assigned = m.assigned; holders = m.holders; ssd = λ n. absent_set; dsd = λ n. absent_set; sessions = λ s. closed_session; assignment_count = m.assignment_count; grant_count = m.grant_count; line_count = m.line_count }
 
 -- the same roles exist
 existing : (m : Model) (set : ℕ) → Existing m set → Existing (bare m) set

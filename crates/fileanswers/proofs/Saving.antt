@@ -25,14 +25,14 @@ module _ (m : Model) (s : Sound m) where
   file = record { formed = sound-formed m s; written = refl }
 
   paper : AsThePaperSays (encode m)
-  paper = paper-form.file-form m (encode m) file
+  paper = paper-form.file_form m (encode m) file
 
   says : Says paper.sections m
-  says = paper-form.file-says m paper.sections (form-sixteen paper.sections paper.form) (subst (FileOf m) (sym paper.written) file)
+  says = paper-form.file_says m paper.sections (form-sixteen paper.sections paper.form) (subst (FileOf m) (sym paper.written) file)
 
   -- every file of the form that says the policy is as long as the one that is written
   as_long : (f : Sections) → OfTheForm f → Says f m → length (encode m) ≡ length (bytes_of f)
-  as_long f form h = ap length (paper-form.says-file m f (sound-formed m s) form h).written
+  as_long f form h = ap length (paper-form.says_file m f (sound-formed m s) form h).written
 
   saving : (out after : List ℕ) (answer size : ℕ) → Saves m out after answer size → Saving m out after answer size
   saving out after answer size (inl x) =

@@ -5,7 +5,7 @@ use Rattle.roleset.specs.Roles.{has}
 use Rattle.hierarchy.specs.Lines.{Inherits}
 use Rattle.model.specs.Model.{Model}
 use Rattle.model.specs.Sheet.{Refusal, ◌when◌, Told, refused}
-use Rattle.model.specs.commands.Sets.{setsOf}
+use Rattle.model.specs.commands.Sets.{sets_of}
 use Rattle.model.specs.declared.Kind.{Kind}
 use Rattle.policyform.specs.Form.{FileOf}
 use Rattle.policyform.specs.Promises.{Loads}
@@ -29,8 +29,8 @@ pub record Circle (m : Model) : Type 0 where
 pub record BadCardinality (m : Model) : Type 0 where
   pub kind : Kind
   pub name : ℕ
-  pub there : (setsOf kind m name).there ≡ true
-  pub bad : ((setsOf kind m name).card < 2) ⊎ (AsMany (setsOf kind m name).card (λ r. has (setsOf kind m name).roles r ≡ true) → ⊥)
+  pub there : (sets_of kind m name).there ≡ true
+  pub bad : ((sets_of kind m name).card < 2) ⊎ (AsMany (sets_of kind m name).card (λ r. has (sets_of kind m name).roles r ≡ true) → ⊥)
 
 -- 9: "the owner is not authorised for an asked role": some open session has an active role that its owner is not authorised for.
 pub record NotAuthorised (m : Model) : Type 0 where
@@ -38,7 +38,7 @@ pub record NotAuthorised (m : Model) : Type 0 where
   pub role : ℕ
   pub live : (m.sessions session).live ≡ true
   pub active : has (m.sessions session).active role ≡ true
-  pub not-authorised : Authorised m (m.sessions session).owner role → ⊥
+  pub not_authorised : Authorised m (m.sessions session).owner role → ⊥
 
 -- 10: "an SSD rule would be broken for some user", and 11: "a DSD rule would be broken in some session", are `StaticBroken` and `DynamicBroken` of
 -- `demands/specs/Broken`, as for the commands.
@@ -48,19 +48,19 @@ pub record NotAuthorised (m : Model) : Type 0 where
 -- Five answers of yes or no that say what the file breaks. The last two come after 7, and need to say it only where 7 does not apply.
 pub record Asked (m : Model) : Type 0 where
   pub circle : Bool
-  pub circle-says : (circle ≡ true) ↔ Circle m
+  pub circle_says : (circle ≡ true) ↔ Circle m
   pub cardinality : Bool
-  pub cardinality-says : (cardinality ≡ true) ↔ BadCardinality m
+  pub cardinality_says : (cardinality ≡ true) ↔ BadCardinality m
   pub owner : Bool
-  pub owner-says : (owner ≡ true) ↔ NotAuthorised m
+  pub owner_says : (owner ≡ true) ↔ NotAuthorised m
   pub static : Bool
-  pub static-says : (BadCardinality m → ⊥) → (static ≡ true) ↔ StaticBroken m
+  pub static_says : (BadCardinality m → ⊥) → (static ≡ true) ↔ StaticBroken m
   pub dynamic : Bool
-  pub dynamic-says : (BadCardinality m → ⊥) → (dynamic ≡ true) ↔ DynamicBroken m
+  pub dynamic_says : (BadCardinality m → ⊥) → (dynamic ≡ true) ↔ DynamicBroken m
 
 -- "Then 6 .., 7, 9, 10, 11".
-abbrev pub loadRefusals : {m : Model} → Asked m → List Refusal
-loadRefusals asked =
+abbrev pub load_refusals : {m : Model} → Asked m → List Refusal
+load_refusals asked =
     6 when asked.circle
     ∷ 7 when asked.cardinality
     ∷ 9 when asked.owner
@@ -72,7 +72,7 @@ loadRefusals asked =
 -- and then the policy and sessions are those of the file.
 pub record Answered (before m : Model) (told : Told) : Type 0 where
   pub asked : Asked m
-  pub exactly : Exactly before (loadRefusals asked) [] m told
+  pub exactly : Exactly before (load_refusals asked) [] m told
 
 pub record Loading : Type 0 where
   -- 14 is answered exactly when the bytes are not of the form that the paper says.
@@ -86,4 +86,4 @@ pub record Loading : Type 0 where
   -- and the policy is this one.
   pub answers : (before m : Model) (bytes : List ℕ) (told : Told) → FileOf m bytes → Loads before bytes told → Answered before m told
   -- A file is the file of one policy only.
-  pub one-policy : (m m' : Model) (bytes : List ℕ) → FileOf m bytes → FileOf m' bytes → m ≡ m'
+  pub one_policy : (m m' : Model) (bytes : List ℕ) → FileOf m bytes → FileOf m' bytes → m ≡ m'

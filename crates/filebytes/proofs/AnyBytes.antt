@@ -20,10 +20,10 @@ data Reading {A : Type 0} (Ok : A → Type 0) (write : A → List ℕ) (bytes : 
 record Reader {A : Type 0} (Ok : A → Type 0) (write : A → List ℕ) : Type 0 where
   read : (bytes : List ℕ) → Bytes bytes → Reading Ok write bytes
   other : A
-  other-ok : Ok other
+  other_ok : Ok other
 
 number-reader : Reader Fits number
-number-reader = record { read = go; other = 0; other-ok = omega arith }
+number-reader = record { read = go; other = 0; other_ok = omega arith }
   where
     go : (bytes : List ℕ) → Bytes bytes → Reading Fits number bytes
     go [] p = early 0 (omega arith) 0 (0 ∷ []) refl
@@ -43,7 +43,7 @@ number-reader = record { read = go; other = 0; other-ok = omega arith }
 
 -- one after the other
 then : {A B : Type 0} {P : A → Type 0} {Q : B → Type 0} {v : A → List ℕ} {w : B → List ℕ} → Reader P v → Reader Q w → Reader (λ (p : A × B). P p.0 × Q p.1) (λ (p : A × B). v p.0 ++ w p.1)
-then {A} {B} {P} {Q} {v} {w} x y = record { read = go; other = (x.other, y.other); other-ok = (x.other-ok, y.other-ok) }
+then {A} {B} {P} {Q} {v} {w} x y = record { read = go; other = (x.other, y.other); other_ok = (x.other_ok, y.other_ok) }
   where
     later : (bytes : List ℕ) (a : A) → P a → (rest : List ℕ) → bytes ≡ v a ++ rest → Reading Q w rest → Reading (λ (p : A × B). P p.0 × Q p.1) (λ (p : A × B). v p.0 ++ w p.1) bytes
     later bytes a p rest e (whole b q last r h) = whole (a, b) (p, q) last r (e ∙ ap (λ (l : List ℕ). v a ++ l) h ∙ sym (append_assoc (v a) (w b) last))
@@ -51,14 +51,14 @@ then {A} {B} {P} {Q} {v} {w} x y = record { read = go; other = (x.other, y.other
 
     first : (bytes : List ℕ) → Reading P v bytes → Reading (λ (p : A × B). P p.0 × Q p.1) (λ (p : A × B). v p.0 ++ w p.1) bytes
     first bytes (whole a p rest r e) = later bytes a p rest e (y.read rest r)
-    first bytes (early a p next more e) = early (a, y.other) (p, y.other-ok) next (more ++ w y.other) (ap (λ (l : List ℕ). l ++ w y.other) e ∙ append_assoc bytes (next ∷ more) (w y.other))
+    first bytes (early a p next more e) = early (a, y.other) (p, y.other_ok) next (more ++ w y.other) (ap (λ (l : List ℕ). l ++ w y.other) e ∙ append_assoc bytes (next ∷ more) (w y.other))
 
     go : (bytes : List ℕ) → Bytes bytes → Reading (λ (p : A × B). P p.0 × Q p.1) (λ (p : A × B). v p.0 ++ w p.1) bytes
     go bytes r = first bytes (x.read bytes r)
 
 -- the same, made into something else that is written alike
 into : {A B : Type 0} {P : A → Type 0} {v : A → List ℕ} (Q : B → Type 0) (w : B → List ℕ) (g : A → B) → ((a : A) → P a → Q (g a)) → ((a : A) → w (g a) ≡ v a) → Reader P v → Reader Q w
-into {A} {B} {P} {v} Q w g ok alike x = record { read = λ bytes r. go bytes (x.read bytes r); other = g x.other; other-ok = ok x.other x.other-ok }
+into {A} {B} {P} {v} Q w g ok alike x = record { read = λ bytes r. go bytes (x.read bytes r); other = g x.other; other_ok = ok x.other x.other_ok }
   where
     go : (bytes : List ℕ) → Reading P v bytes → Reading Q w bytes
     go bytes (whole a p rest r e) = whole (g a) (ok a p) rest r (e ∙ ap (λ (l : List ℕ). l ++ rest) (sym (alike a)))
@@ -67,7 +67,7 @@ into {A} {B} {P} {v} Q w g ok alike x = record { read = λ bytes r. go bytes (x.
 -- n entries
 nothing-reader : {A : Type 0} (P : A → Type 0) (v : A → List ℕ) → Reader (λ (l : List A). (length l ≡ 0) × Every P l) (entries v)
 unfolding entries
-nothing-reader P v = record { read = λ bytes r. whole [] (refl, tt) bytes r refl; other = []; other-ok = (refl, tt) }
+nothing-reader P v = record { read = λ bytes r. whole [] (refl, tt) bytes r refl; other = []; other_ok = (refl, tt) }
 
 entries-reader : {A : Type 0} (P : A → Type 0) (v : A → List ℕ) → Reader P v → (n : ℕ) → Reader (λ (l : List A). (length l ≡ n) × Every P l) (entries v)
 unfolding entries
@@ -77,7 +77,7 @@ entries-reader {A} P v x (suc n) = into (λ (l : List A). (length l ≡ suc n) �
 -- a count and as many entries
 listing-reader : {A : Type 0} (P : A → Type 0) (v : A → List ℕ) → Reader P v → Reader (Writable P) (listing v)
 unfolding listing
-listing-reader {A} P v x = record { read = λ bytes r. first bytes (number-reader.read bytes r); other = []; other-ok = (omega arith, tt) }
+listing-reader {A} P v x = record { read = λ bytes r. first bytes (number-reader.read bytes r); other = []; other_ok = (omega arith, tt) }
   where
     counted : (n : ℕ) (l : List A) → length l ≡ n → listing v l ≡ number n ++ entries v l
     counted n l e = ap (λ (k : ℕ). number k ++ entries v l) e
@@ -90,7 +90,7 @@ listing-reader {A} P v x = record { read = λ bytes r. first bytes (number-reade
     first bytes (whole n fits rest r e) = later bytes n fits rest e ((entries-reader P v x n).read rest r)
     first bytes (early n fits next more e) =
         let fill = entries-reader P v x n in
-        early fill.other (omega (arith, fill.other-ok.0), fill.other-ok.1) next (more ++ entries v fill.other) (counted n fill.other fill.other-ok.0 ∙ ap (λ (k : List ℕ). k ++ entries v fill.other) e ∙ append_assoc bytes (next ∷ more) (entries v fill.other))
+        early fill.other (omega (arith, fill.other_ok.0), fill.other_ok.1) next (more ++ entries v fill.other) (counted n fill.other fill.other_ok.0 ∙ ap (λ (k : List ℕ). k ++ entries v fill.other) e ∙ append_assoc bytes (next ∷ more) (entries v fill.other))
 
 -- ---- the entries and the sections
 

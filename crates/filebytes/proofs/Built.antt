@@ -13,22 +13,22 @@ use Rattle.roleset.specs.Bounded.{members}
 use Rattle.roleset.specs.Roles.{has, those}
 use Rattle.roleset.proofs.BoundedLaws.{and_left, and_right, and_both, clash}
 use Rattle.roleset.proofs.Laws.{has-none, has-those, those-small, those-member}
-use Rattle.model.specs.Model.{Model, RoleSet, Session, absentSet, closedSession, standing}
+use Rattle.model.specs.Model.{Model, RoleSet, Session, absent_set, closed_session, standing}
 use Rattle.model.specs.Sound.{Existing, SessionShape, Limits, Counted}
-use Rattle.model.specs.Words.{assignments, grants, linesStanding}
-use Rattle.policyform.specs.Encode.{pairIn, grantIn}
+use Rattle.model.specs.Words.{assignments, grants, lines_standing}
+use Rattle.policyform.specs.Encode.{pair_in, grant_in}
 use Rattle.policyform.specs.Form.{SetForm, Formed}
 use Rattle.policyform.proofs.Counts.{pairs-count, grants-count}
 use Rattle.filebytes.specs.Sections.{SetEntry, SessionEntry, Sections, Ascending, Good, Listed, RoleList, FineSet, FineSession, OfTheForm}
 use Rattle.filebytes.specs.Meaning.{SetAs, SessionAs, SetNamed, SessionNumbered, Says}
 use Rattle.filebytes.proofs.Lists.{every-elim, any, any-in, in-any}
-use Rattle.filebytes.proofs.Listed.{pair_of, grantOf}
+use Rattle.filebytes.proofs.Listed.{pair_of, grant_of}
 use Rattle.filebytes.proofs.Same.{role-small, user-small, member-listed, lines_same, assignments-same, holders-same}
 
 -- ---- a set of roles from a list of entries, of which `entry r` names the role r
 
 module _ {A : Type 0} (entry : ℕ → A) (test : ℕ → A → Bool) (exact : (r : ℕ) (a : A) → test r a ≡ true → entry r ≡ a) (self : (r : ℕ) → test r (entry r) ≡ true) (l : List A) (small : (r : ℕ) → Memᴰ (entry r) l → r < 64) where
-  packed-exact : (r : ℕ) → (has (those (λ k. any (test k) l)) r ≡ true) ↔ Memᴰ (entry r) l
+  packed_exact : (r : ℕ) → (has (those (λ k. any (test k) l)) r ≡ true) ↔ Memᴰ (entry r) l
   packed-exact r = (to, back)
     where
       to : has (those (λ k. any (test k) l)) r ≡ true → Memᴰ (entry r) l
@@ -37,32 +37,32 @@ module _ {A : Type 0} (entry : ℕ → A) (test : ℕ → A → Bool) (exact : (
       back : Memᴰ (entry r) l → has (those (λ k. any (test k) l)) r ≡ true
       back m = has-those (λ k. any (test k) l) r (small r m) ∙ in-any (test r) l (entry r) m (self r)
 
-abbrev pub rolesIn : List ℕ → ℕ
-rolesIn l = those (λ r. any (eqb r) l)
+abbrev pub roles_in : List ℕ → ℕ
+roles_in l = those (λ r. any (eqb r) l)
 
-roles-in : (l : List ℕ) → ((r : ℕ) → Listed r l → r < 64) → (r : ℕ) → (has (rolesIn l) r ≡ true) ↔ Listed r l
+roles-in : (l : List ℕ) → ((r : ℕ) → Listed r l → r < 64) → (r : ℕ) → (has (roles_in l) r ≡ true) ↔ Listed r l
 roles-in = packed-exact (λ r. r) eqb eqb-true (λ r. eq-eqb r r refl)
 
-abbrev pairTest : ℕ → ℕ → ℕ × ℕ → Bool
-pairTest i r p = eqb i p.0 && eqb r p.1
+abbrev pair_test : ℕ → ℕ → ℕ × ℕ → Bool
+pair_test i r p = eqb i p.0 && eqb r p.1
 
 abbrev pub row_in : List (ℕ × ℕ) → ℕ → ℕ
-row_in l i = those (λ r. any (pairTest i r) l)
+row_in l i = those (λ r. any (pair_test i r) l)
 
 row-in : (l : List (ℕ × ℕ)) (i : ℕ) → ((r : ℕ) → Memᴰ (i, r) l → r < 64) → (r : ℕ) → (has (row_in l i) r ≡ true) ↔ Memᴰ (i, r) l
 row-in l i =
-    packed-exact (λ r. (i, r)) (pairTest i) (λ r p e. (λ j. (eqb-true i p.0 (and_left (eqb i p.0) (eqb r p.1) e) j, eqb-true r p.1 (and_right (eqb i p.0) (eqb r p.1) e) j))) (λ r. and_both (eqb i i) (eqb r r) (eq-eqb i i refl) (eq-eqb r r refl)) l
+    packed-exact (λ r. (i, r)) (pair_test i) (λ r p e. (λ j. (eqb-true i p.0 (and_left (eqb i p.0) (eqb r p.1) e) j, eqb-true r p.1 (and_right (eqb i p.0) (eqb r p.1) e) j))) (λ r. and_both (eqb i i) (eqb r r) (eq-eqb i i refl) (eq-eqb r r refl)) l
 
-abbrev grantTest : ℕ → ℕ → ℕ → ℕ × ℕ × ℕ → Bool
-grantTest op obj r g = eqb r g.0 && (eqb op g.1 && eqb obj g.2)
+abbrev grant_test : ℕ → ℕ → ℕ → ℕ × ℕ × ℕ → Bool
+grant_test op obj r g = eqb r g.0 && (eqb op g.1 && eqb obj g.2)
 
-abbrev pub holdersIn : List (ℕ × ℕ × ℕ) → ℕ → ℕ
-holdersIn l p = those (λ r. any (grantTest (p / 256) (p % 256) r) l)
+abbrev pub holders_in : List (ℕ × ℕ × ℕ) → ℕ → ℕ
+holders_in l p = those (λ r. any (grant_test (p / 256) (p % 256) r) l)
 
-holders-in : (l : List (ℕ × ℕ × ℕ)) (p : ℕ) → ((r : ℕ) → Memᴰ (r, p / 256, p % 256) l → r < 64) → (r : ℕ) → (has (holdersIn l p) r ≡ true) ↔ Memᴰ (r, p / 256, p % 256) l
-holders-in l p = packed-exact (λ r. (r, p / 256, p % 256)) (grantTest (p / 256) (p % 256)) exact self l
+holders-in : (l : List (ℕ × ℕ × ℕ)) (p : ℕ) → ((r : ℕ) → Memᴰ (r, p / 256, p % 256) l → r < 64) → (r : ℕ) → (has (holders_in l p) r ≡ true) ↔ Memᴰ (r, p / 256, p % 256) l
+holders-in l p = packed-exact (λ r. (r, p / 256, p % 256)) (grant_test (p / 256) (p % 256)) exact self l
   where
-    exact : (r : ℕ) (g : ℕ × ℕ × ℕ) → grantTest (p / 256) (p % 256) r g ≡ true → (r, p / 256, p % 256) ≡ g
+    exact : (r : ℕ) (g : ℕ × ℕ × ℕ) → grant_test (p / 256) (p % 256) r g ≡ true → (r, p / 256, p % 256) ≡ g
     exact r g e =
         let rest = and_right (eqb r g.0) (eqb (p / 256) g.1 && eqb (p % 256) g.2) e in
         let a : r ≡ g.0 = eqb-true r g.0 (and_left (eqb r g.0) (eqb (p / 256) g.1 && eqb (p % 256) g.2) e) in
@@ -70,7 +70,7 @@ holders-in l p = packed-exact (λ r. (r, p / 256, p % 256)) (grantTest (p / 256)
         let d : p % 256 ≡ g.2 = eqb-true (p % 256) g.2 (and_right (eqb (p / 256) g.1) (eqb (p % 256) g.2) rest) in
         λ j. (a j, b j, d j)
 
-    self : (r : ℕ) → grantTest (p / 256) (p % 256) r (r, p / 256, p % 256) ≡ true
+    self : (r : ℕ) → grant_test (p / 256) (p % 256) r (r, p / 256, p % 256) ≡ true
     self r = and_both (eqb r r) _ (eq-eqb r r refl) (and_both (eqb (p / 256) (p / 256)) (eqb (p % 256) (p % 256)) (eq-eqb (p / 256) (p / 256) refl) (eq-eqb (p % 256) (p % 256) refl))
 
 -- ---- a record from the entry of its number
@@ -84,7 +84,7 @@ module _ {A B : Type 0} (key : A → ℕ) (make : A → B) (d : B) where
   unfolding atKey
   at_here a l n e = ap (λ (b : Bool). elim b as (λ _. B) [ true ↦ make a | false ↦ atKey l n ]) e
 
-  at-later : (a : A) (l : List A) (n : ℕ) → eqb (key a) n ≡ false → atKey (a ∷ l) n ≡ atKey l n
+  at_later : (a : A) (l : List A) (n : ℕ) → eqb (key a) n ≡ false → atKey (a ∷ l) n ≡ atKey l n
   unfolding atKey
   at-later a l n e = ap (λ (b : Bool). elim b as (λ _. B) [ true ↦ make a | false ↦ atKey l n ]) e
 
@@ -123,75 +123,75 @@ module _ {A B : Type 0} (key : A → ℕ) (make : A → B) (d : B) where
 
 -- ---- the policy
 
-abbrev setMade : SetEntry → RoleSet
-setMade e = record { there = true; card = e.cardinality; roles = rolesIn e.members }
+abbrev set_made : SetEntry → RoleSet
+set_made e = record { there = true; card = e.cardinality; roles = roles_in e.members }
 
-abbrev sessionMade : SessionEntry → Session
-sessionMade e = record { live = true; owner = e.owner; active = rolesIn e.active }
+abbrev session_made : SessionEntry → Session
+session_made e = record { live = true; owner = e.owner; active = roles_in e.active }
 
-abbrev setsIn : List SetEntry → ℕ → RoleSet
-setsIn = atKey (λ e. e.name) setMade absentSet
+abbrev sets_in : List SetEntry → ℕ → RoleSet
+sets_in = atKey (λ e. e.name) set_made absent_set
 
-abbrev sessionsIn : List SessionEntry → ℕ → Session
-sessionsIn = atKey (λ e. e.number) sessionMade closedSession
+abbrev sessions_in : List SessionEntry → ℕ → Session
+sessions_in = atKey (λ e. e.number) session_made closed_session
 
-abbrev pub modelOf : Sections → Model
-modelOf f =
+abbrev pub model_of : Sections → Model
+model_of f =
     record {
       users = λ u. any (eqb u) f.users;
-      roles = rolesIn f.roles;
+      roles = roles_in f.roles;
       juniors = row_in f.lines;
       assigned = row_in f.assignments;
-      holders = holdersIn f.grants;
-      ssd = setsIn f.ssd;
-      dsd = setsIn f.dsd;
-      sessions = sessionsIn f.sessions;
-      assignmentCount = standing 256 (row_in f.assignments);
-      grantCount = standing 4096 (holdersIn f.grants);
-      lineCount = standing 64 (row_in f.lines);
+      holders = holders_in f.grants;
+      ssd = sets_in f.ssd;
+      dsd = sets_in f.dsd;
+      sessions = sessions_in f.sessions;
+      assignment_count = standing 256 (row_in f.assignments);
+      grant_count = standing 4096 (holders_in f.grants);
+      line_count = standing 64 (row_in f.lines);
     }
 
 module _ (f : Sections) (x : OfTheForm f) where
-  users-say : (u : ℕ) → ((modelOf f).users u ≡ true) ↔ Listed u f.users
+  users_say : (u : ℕ) → ((model_of f).users u ≡ true) ↔ Listed u f.users
   users-say u = ((λ e. let q = any-in (eqb u) f.users e in Memᴰ.cast (eqb-true u q.0 q.2) q.1), (λ m. in-any (eqb u) f.users u m (eq-eqb u u refl)))
 
-  roles-say : (r : ℕ) → (has (modelOf f).roles r ≡ true) ↔ Listed r f.roles
-  roles-say = roles-in f.roles (role-small f x)
+  roles_say : (r : ℕ) → (has (model_of f).roles r ≡ true) ↔ Listed r f.roles
+  roles_say = roles-in f.roles (role-small f x)
 
-  list-says : (l : List ℕ) → RoleList f l → (r : ℕ) → (has (rolesIn l) r ≡ true) ↔ Listed r l
+  list_says : (l : List ℕ) → RoleList f l → (r : ℕ) → (has (roles_in l) r ≡ true) ↔ Listed r l
   list-says l g = roles-in l (member-listed f x l g)
 
-  a-line : (p : ℕ × ℕ) → Memᴰ p f.lines → (Listed p.0 f.roles) × (Listed p.1 f.roles)
-  a-line = every-elim (λ l. (Listed l.0 f.roles) × (Listed l.1 f.roles)) f.lines x.lines.each
+  a_line : (p : ℕ × ℕ) → Memᴰ p f.lines → (Listed p.0 f.roles) × (Listed p.1 f.roles)
+  a_line = every-elim (λ l. (Listed l.0 f.roles) × (Listed l.1 f.roles)) f.lines x.lines.each
 
-  an-assignment : (p : ℕ × ℕ) → Memᴰ p f.assignments → (Listed p.0 f.users) × (Listed p.1 f.roles)
-  an-assignment = every-elim (λ a. (Listed a.0 f.users) × (Listed a.1 f.roles)) f.assignments x.assignments.each
+  an_assignment : (p : ℕ × ℕ) → Memᴰ p f.assignments → (Listed p.0 f.users) × (Listed p.1 f.roles)
+  an_assignment = every-elim (λ a. (Listed a.0 f.users) × (Listed a.1 f.roles)) f.assignments x.assignments.each
 
-  a-grant : (g : ℕ × ℕ × ℕ) → Memᴰ g f.grants → (Listed g.0 f.roles) × (g.1 < 16) × (g.2 < 256)
-  a-grant = every-elim (λ g. (Listed g.0 f.roles) × (g.1 < 16) × (g.2 < 256)) f.grants x.grants.each
+  a_grant : (g : ℕ × ℕ × ℕ) → Memᴰ g f.grants → (Listed g.0 f.roles) × (g.1 < 16) × (g.2 < 256)
+  a_grant = every-elim (λ g. (Listed g.0 f.roles) × (g.1 < 16) × (g.2 < 256)) f.grants x.grants.each
 
-  lines-say : (s j : ℕ) → (has (row_in f.lines s) j ≡ true) ↔ Memᴰ (s, j) f.lines
+  lines_say : (s j : ℕ) → (has (row_in f.lines s) j ≡ true) ↔ Memᴰ (s, j) f.lines
   lines-say s = row-in f.lines s (λ j m. role-small f x j (a-line (s, j) m).1)
 
-  assignments-say : (u r : ℕ) → (has (row_in f.assignments u) r ≡ true) ↔ Memᴰ (u, r) f.assignments
+  assignments_say : (u r : ℕ) → (has (row_in f.assignments u) r ≡ true) ↔ Memᴰ (u, r) f.assignments
   assignments-say u = row-in f.assignments u (λ r m. role-small f x r (an-assignment (u, r) m).1)
 
-  holders-say : (p r : ℕ) → (has (holdersIn f.grants p) r ≡ true) ↔ Memᴰ (r, p / 256, p % 256) f.grants
+  holders_say : (p r : ℕ) → (has (holders_in f.grants p) r ≡ true) ↔ Memᴰ (r, p / 256, p % 256) f.grants
   holders-say p = holders-in f.grants p (λ r m. role-small f x r (a-grant (r, p / 256, p % 256) m).0)
 
-  permissions-small : (p r : ℕ) → has (holdersIn f.grants p) r ≡ true → p < 4096
+  permissions_small : (p r : ℕ) → has (holders_in f.grants p) r ≡ true → p < 4096
   permissions-small p r e = omega (arith, (a-grant (r, p / 256, p % 256) ((holders-say p r).0 e)).1)
 
-  grants-say : (r op obj : ℕ) → op < 16 → obj < 256 → (has (holdersIn f.grants (op * 256 + obj)) r ≡ true) ↔ Memᴰ (r, op, obj) f.grants
+  grants_say : (r op obj : ℕ) → op < 16 → obj < 256 → (has (holders_in f.grants (op * 256 + obj)) r ≡ true) ↔ Memᴰ (r, op, obj) f.grants
   grants-say r op obj a b =
       let first : op ≡ (op * 256 + obj) / 256 = omega arith in
       let second : obj ≡ (op * 256 + obj) % 256 = omega arith in
       let same = holders-say (op * 256 + obj) r in
       ((λ e. Memᴰ.cast (λ j. (r, first j, second j)) (same.0 e)), (λ m. same.1 (Memᴰ.cast (λ j. (r, sym first j, sym second j)) m)))
 
-  sets-say : (l : List SetEntry) → Good 16 (FineSet f) (λ a b. a.name < b.name) l → (e : SetEntry) → Memᴰ e l → SetAs (setsIn l) e
+  sets_say : (l : List SetEntry) → Good 16 (FineSet f) (λ a b. a.name < b.name) l → (e : SetEntry) → Memᴰ e l → SetAs (sets_in l) e
   sets-say l g e m =
-      let found-there = at_own (λ e. e.name) setMade absentSet l g.order e m in
+      let found-there = at_own (λ e. e.name) set_made absent_set l g.order e m in
       let fine = every-elim (FineSet f) l g.each e m in
       record {
         there = ap (λ (s : RoleSet). s.there) found-there;
@@ -199,9 +199,9 @@ module _ (f : Sections) (x : OfTheForm f) where
         members = subst (λ (s : RoleSet). (r : ℕ) → (has s.roles r ≡ true) ↔ Listed r e.members) (sym found-there) (list-says e.members fine.members);
       }
 
-  sessions-say : (e : SessionEntry) → Memᴰ e f.sessions → SessionAs (sessionsIn f.sessions) e
+  sessions_say : (e : SessionEntry) → Memᴰ e f.sessions → SessionAs (sessions_in f.sessions) e
   sessions-say e m =
-      let found-there = at_own (λ e. e.number) sessionMade closedSession f.sessions x.sessions.order e m in
+      let found-there = at_own (λ e. e.number) session_made closed_session f.sessions x.sessions.order e m in
       let fine = every-elim (FineSession f) f.sessions x.sessions.each e m in
       record {
         live = ap (λ (s : Session). s.live) found-there;
@@ -209,24 +209,24 @@ module _ (f : Sections) (x : OfTheForm f) where
         active = subst (λ (s : Session). (r : ℕ) → (has s.active r ≡ true) ↔ Listed r e.active) (sym found-there) (list-says e.active fine.active);
       }
 
-  sets-only : (l : List SetEntry) (n : ℕ) → (setsIn l n).there ≡ true → SetNamed n l
+  sets_only : (l : List SetEntry) (n : ℕ) → (sets_in l n).there ≡ true → SetNamed n l
   unfolding Found
-  sets-only l n e = go (found (λ e. e.name) setMade absentSet l n)
+  sets-only l n e = go (found (λ e. e.name) set_made absent_set l n)
     where
-      go : Found (λ e. e.name) setMade absentSet l n → SetNamed n l
+      go : Found (λ e. e.name) set_made absent_set l n → SetNamed n l
       go (inl q) = (q.0, q.1, q.2)
-      go (inr q) = clash (setsIn l n).there e (ap (λ (s : RoleSet). s.there) q)
+      go (inr q) = clash (sets_in l n).there e (ap (λ (s : RoleSet). s.there) q)
 
-  sessions-only : (n : ℕ) → (sessionsIn f.sessions n).live ≡ true → SessionNumbered n f.sessions
+  sessions_only : (n : ℕ) → (sessions_in f.sessions n).live ≡ true → SessionNumbered n f.sessions
   unfolding Found
-  sessions-only n e = go (found (λ e. e.number) sessionMade closedSession f.sessions n)
+  sessions-only n e = go (found (λ e. e.number) session_made closed_session f.sessions n)
     where
-      go : Found (λ e. e.number) sessionMade closedSession f.sessions n → SessionNumbered n f.sessions
+      go : Found (λ e. e.number) session_made closed_session f.sessions n → SessionNumbered n f.sessions
       go (inl q) = (q.0, q.1, q.2)
-      go (inr q) = clash (sessionsIn f.sessions n).live e (ap (λ (s : Session). s.live) q)
+      go (inr q) = clash (sessions_in f.sessions n).live e (ap (λ (s : Session). s.live) q)
 
-  pub built-says : Says f (modelOf f)
-  built-says =
+  pub built_says : Says f (model_of f)
+  built_says =
       record {
         users = users-say;
         roles = roles-say;
@@ -235,65 +235,65 @@ module _ (f : Sections) (x : OfTheForm f) where
         grants = grants-say;
         permissions = permissions-small;
         ssd = sets-say f.ssd x.ssd;
-        ssd-only = sets-only f.ssd;
+        ssd_only = sets-only f.ssd;
         dsd = sets-say f.dsd x.dsd;
-        dsd-only = sets-only f.dsd;
+        dsd_only = sets-only f.dsd;
         sessions = sessions-say;
-        sessions-only = sessions-only;
+        sessions_only = sessions-only;
       }
 
   -- ---- it may stand in a file
 
-  existing : (l : List ℕ) → RoleList f l → Existing (modelOf f) (rolesIn l)
+  existing : (l : List ℕ) → RoleList f l → Existing (model_of f) (roles_in l)
   existing l g = record { small = those-small (λ r. any (eqb r) l); exist = λ r e. (roles-say r).1 (every-elim (λ k. Listed k f.roles) l g.each r ((list-says l g r).0 e)) }
 
-  set-form : (l : List SetEntry) → Good 16 (FineSet f) (λ a b. a.name < b.name) l → (n : ℕ) → SetForm (modelOf f) n (setsIn l n)
+  set_form : (l : List SetEntry) → Good 16 (FineSet f) (λ a b. a.name < b.name) l → (n : ℕ) → SetForm (model_of f) n (sets_in l n)
   unfolding Found
-  set-form l g n = go (found (λ e. e.name) setMade absentSet l n)
+  set-form l g n = go (found (λ e. e.name) set_made absent_set l n)
     where
-      go : Found (λ e. e.name) setMade absentSet l n → SetForm (modelOf f) n (setsIn l n)
+      go : Found (λ e. e.name) set_made absent_set l n → SetForm (model_of f) n (sets_in l n)
       go (inl q) =
           let fine = every-elim (FineSet f) l g.each q.0 q.1 in
-          subst (SetForm (modelOf f) n) (sym q.3) (record { absent = λ e. absurd (let z : ◌≡◌ {A = ℕ} 0 1 = cc in omega arith); named = λ e. omega (arith, fine.name, q.2); small = fine.cardinality; members = existing q.0.members fine.members })
-      go (inr q) = subst (SetForm (modelOf f) n) (sym q) (record { absent = λ e. refl; named = λ e. absurd (let z : ◌≡◌ {A = ℕ} 0 1 = cc in omega arith); small = omega arith; members = none-existing })
+          subst (SetForm (model_of f) n) (sym q.3) (record { absent = λ e. absurd (let z : ◌≡◌ {A = ℕ} 0 1 = cc in omega arith); named = λ e. omega (arith, fine.name, q.2); small = fine.cardinality; members = existing q.0.members fine.members })
+      go (inr q) = subst (SetForm (model_of f) n) (sym q) (record { absent = λ e. refl; named = λ e. absurd (let z : ◌≡◌ {A = ℕ} 0 1 = cc in omega arith); small = omega arith; members = none-existing })
         where
-          none-existing : Existing (modelOf f) 0
-          none-existing = record { small = omega arith; exist = λ r e. clash (has 0 r) e (has-none r) }
+          none_existing : Existing (model_of f) 0
+          none_existing = record { small = omega arith; exist = λ r e. clash (has 0 r) e (has-none r) }
 
-  session-form : (n : ℕ) → SessionShape (modelOf f) n (sessionsIn f.sessions n)
+  session_form : (n : ℕ) → SessionShape (model_of f) n (sessions_in f.sessions n)
   unfolding Found
-  session-form n = go (found (λ e. e.number) sessionMade closedSession f.sessions n)
+  session-form n = go (found (λ e. e.number) session_made closed_session f.sessions n)
     where
-      go : Found (λ e. e.number) sessionMade closedSession f.sessions n → SessionShape (modelOf f) n (sessionsIn f.sessions n)
+      go : Found (λ e. e.number) session_made closed_session f.sessions n → SessionShape (model_of f) n (sessions_in f.sessions n)
       go (inl q) =
           let fine = every-elim (FineSession f) f.sessions x.sessions.each q.0 q.1 in
-          subst (SessionShape (modelOf f) n) (sym q.3) (record { closed = λ e. absurd (let z : ◌≡◌ {A = ℕ} 0 1 = cc in omega arith); numbered = λ e. omega (arith, fine.number, q.2); owned = λ e. (users-say q.0.owner).1 fine.owner; active = existing q.0.active fine.active })
-      go (inr q) = subst (SessionShape (modelOf f) n) (sym q) (record { closed = λ e. refl; numbered = λ e. absurd (let z : ◌≡◌ {A = ℕ} 0 1 = cc in omega arith); owned = λ e. absurd (let z : ◌≡◌ {A = ℕ} 0 1 = cc in omega arith); active = record { small = omega arith; exist = λ r e. clash (has 0 r) e (has-none r) } })
+          subst (SessionShape (model_of f) n) (sym q.3) (record { closed = λ e. absurd (let z : ◌≡◌ {A = ℕ} 0 1 = cc in omega arith); numbered = λ e. omega (arith, fine.number, q.2); owned = λ e. (users-say q.0.owner).1 fine.owner; active = existing q.0.active fine.active })
+      go (inr q) = subst (SessionShape (model_of f) n) (sym q) (record { closed = λ e. refl; numbered = λ e. absurd (let z : ◌≡◌ {A = ℕ} 0 1 = cc in omega arith); owned = λ e. absurd (let z : ◌≡◌ {A = ℕ} 0 1 = cc in omega arith); active = record { small = omega arith; exist = λ r e. clash (has 0 r) e (has-none r) } })
 
-  limits : Limits (modelOf f)
-  unfolding assignments grants linesStanding
+  limits : Limits (model_of f)
+  unfolding assignments grants lines_standing
   limits =
       record {
-        assigned = omega (arith, pairs-count 256 (row_in f.assignments), length-map (members 16384 (pairIn (row_in f.assignments))) pair_of, ap length (assignments-same f x (row_in f.assignments) assignments-say), x.assignments.count);
-        granted = omega (arith, grants-count (holdersIn f.grants), length-map (members 262144 (grantIn (holdersIn f.grants))) grantOf, ap length (holders-same f x (holdersIn f.grants) grants-say), x.grants.count);
-        lined = omega (arith, pairs-count 64 (row_in f.lines), length-map (members 4096 (pairIn (row_in f.lines))) pair_of, ap length (lines_same f x (row_in f.lines) lines-say), x.lines.count);
+        assigned = omega (arith, pairs-count 256 (row_in f.assignments), length-map (members 16384 (pair_in (row_in f.assignments))) pair_of, ap length (assignments-same f x (row_in f.assignments) assignments-say), x.assignments.count);
+        granted = omega (arith, grants-count (holders_in f.grants), length-map (members 262144 (grant_in (holders_in f.grants))) grant_of, ap length (holders-same f x (holders_in f.grants) grants-say), x.grants.count);
+        lined = omega (arith, pairs-count 64 (row_in f.lines), length-map (members 4096 (pair_in (row_in f.lines))) pair_of, ap length (lines_same f x (row_in f.lines) lines-say), x.lines.count);
       }
 
-  counted : Counted (modelOf f)
-  unfolding assignments grants linesStanding
+  counted : Counted (model_of f)
+  unfolding assignments grants lines_standing
   counted = record { assigned = refl; granted = refl; lined = refl }
 
-  pub built-formed : Formed (modelOf f)
-  built-formed =
+  pub built_formed : Formed (model_of f)
+  built_formed =
       record {
         users = λ u e. user-small f x u ((users-say u).0 e);
         roles = those-small (λ r. any (eqb r) f.roles);
         seniors = λ s j e. (roles-say s).1 (a-line (s, j) ((lines-say s j).0 e)).0;
-        juniors = λ s. record { small = those-small (λ r. any (pairTest s r) f.lines); exist = λ j e. (roles-say j).1 (a-line (s, j) ((lines-say s j).0 e)).1 };
+        juniors = λ s. record { small = those-small (λ r. any (pair_test s r) f.lines); exist = λ j e. (roles-say j).1 (a-line (s, j) ((lines-say s j).0 e)).1 };
         assignees = λ u r e. (users-say u).1 (an-assignment (u, r) ((assignments-say u r).0 e)).0;
-        assigned = λ u. record { small = those-small (λ r. any (pairTest u r) f.assignments); exist = λ r e. (roles-say r).1 (an-assignment (u, r) ((assignments-say u r).0 e)).1 };
+        assigned = λ u. record { small = those-small (λ r. any (pair_test u r) f.assignments); exist = λ r e. (roles-say r).1 (an-assignment (u, r) ((assignments-say u r).0 e)).1 };
         permissions = permissions-small;
-        holders = λ p. record { small = those-small (λ r. any (grantTest (p / 256) (p % 256) r) f.grants); exist = λ r e. (roles-say r).1 (a-grant (r, p / 256, p % 256) ((holders-say p r).0 e)).0 };
+        holders = λ p. record { small = those-small (λ r. any (grant_test (p / 256) (p % 256) r) f.grants); exist = λ r e. (roles-say r).1 (a-grant (r, p / 256, p % 256) ((holders-say p r).0 e)).0 };
         ssd = set-form f.ssd x.ssd;
         dsd = set-form f.dsd x.dsd;
         sessions = session-form;

@@ -15,10 +15,10 @@ use Rattle.roleset.proofs.MembersLaws.{members-most}
 use Rattle.model.specs.Model.{Model, RoleSet, Session}
 use Rattle.model.specs.Sound.{Existing}
 use Rattle.text.specs.Bytes.{two, flat, section}
-use Rattle.policyform.specs.Encode.{pairEntry, pairIn, grantEntry, grantIn, setEntry, sessionEntry, encode}
+use Rattle.policyform.specs.Encode.{pair_entry, pair_in, grant_entry, grant_in, set_entry, session_entry, encode}
 use Rattle.policyform.specs.Form.{SetForm, Formed}
 use Rattle.policyform.proofs.Size.{few-lines, few-assigned, few-grants}
-use Rattle.filebytes.specs.Sections.{SetEntry, SessionEntry, Sections, number, entries, listing, pair, grant, set, session, bytes_of, Good, Listed, pairBefore, grantBefore, RoleList, FineSet, FineSession, OfTheForm, Fits, Writable, Sixteen}
+use Rattle.filebytes.specs.Sections.{SetEntry, SessionEntry, Sections, number, entries, listing, pair, grant, set, session, bytes_of, Good, Listed, pair_before, grant_before, RoleList, FineSet, FineSession, OfTheForm, Fits, Writable, Sixteen}
 use Rattle.filebytes.specs.Meaning.{SetAs, SessionAs, SetNamed, SessionNumbered, Says}
 use Rattle.filebytes.proofs.Lists.{every-elim, every-weaker, in_map, map-in, members-in, in_members, good-members, good-numbers}
 
@@ -27,33 +27,33 @@ use Rattle.filebytes.proofs.Lists.{every-elim, every-weaker, in_map, map-in, mem
 abbrev pub pair_of : ℕ → ℕ × ℕ
 pair_of k = (k / 64, k % 64)
 
-abbrev pub grantOf : ℕ → ℕ × ℕ × ℕ
-grantOf k = (k / 4096, k % 4096 / 256, k % 256)
+abbrev pub grant_of : ℕ → ℕ × ℕ × ℕ
+grant_of k = (k / 4096, k % 4096 / 256, k % 256)
 
 -- and the number of each
-abbrev pub pairNumber : ℕ × ℕ → ℕ
-pairNumber p = 64 * p.0 + p.1
+abbrev pub pair_number : ℕ × ℕ → ℕ
+pair_number p = 64 * p.0 + p.1
 
-abbrev pub grantNumber : ℕ × ℕ × ℕ → ℕ
-grantNumber g = 4096 * g.0 + (g.1 * 256 + g.2)
+abbrev pub grant_number : ℕ × ℕ × ℕ → ℕ
+grant_number g = 4096 * g.0 + (g.1 * 256 + g.2)
 
-abbrev pub setEntryOf : (ℕ → RoleSet) → ℕ → SetEntry
-setEntryOf sets n = record { name = n; cardinality = (sets n).card; members = members 64 (has (sets n).roles) }
+abbrev pub set_entry_of : (ℕ → RoleSet) → ℕ → SetEntry
+set_entry_of sets n = record { name = n; cardinality = (sets n).card; members = members 64 (has (sets n).roles) }
 
-abbrev pub sessionEntryOf : (ℕ → Session) → ℕ → SessionEntry
-sessionEntryOf sessions s = record { number = s; owner = (sessions s).owner; active = members 64 (has (sessions s).active) }
+abbrev pub session_entry_of : (ℕ → Session) → ℕ → SessionEntry
+session_entry_of sessions s = record { number = s; owner = (sessions s).owner; active = members 64 (has (sessions s).active) }
 
-abbrev pub sectionsOf : Model → Sections
-sectionsOf m =
+abbrev pub sections_of : Model → Sections
+sections_of m =
     record {
       users = members 256 m.users;
       roles = members 64 (has m.roles);
-      lines = map pair_of (members 4096 (pairIn m.juniors));
-      assignments = map pair_of (members 16384 (pairIn m.assigned));
-      grants = map grantOf (members 262144 (grantIn m.holders));
-      ssd = map (setEntryOf m.ssd) (members 16 (λ n. (m.ssd n).there));
-      dsd = map (setEntryOf m.dsd) (members 16 (λ n. (m.dsd n).there));
-      sessions = map (sessionEntryOf m.sessions) (members 64 (λ s. (m.sessions s).live));
+      lines = map pair_of (members 4096 (pair_in m.juniors));
+      assignments = map pair_of (members 16384 (pair_in m.assigned));
+      grants = map grant_of (members 262144 (grant_in m.holders));
+      ssd = map (set_entry_of m.ssd) (members 16 (λ n. (m.ssd n).there));
+      dsd = map (set_entry_of m.dsd) (members 16 (λ n. (m.dsd n).there));
+      sessions = map (session_entry_of m.sessions) (members 64 (λ s. (m.sessions s).live));
     }
 
 -- ---- their bytes are the file
@@ -74,131 +74,131 @@ map_same (k ∷ ks) = ap (λ (l : List ℕ). k ∷ l) (map_same ks)
 numbers-section : (ks : List ℕ) → listing number ks ≡ section two ks
 numbers-section ks = ap (listing number) (sym (map_same ks)) ∙ listing-section number (λ k. k) two (λ k. refl) ks
 
-set-bytes : (sets : ℕ → RoleSet) (n : ℕ) → set (setEntryOf sets n) ≡ setEntry sets n
+set-bytes : (sets : ℕ → RoleSet) (n : ℕ) → set (set_entry_of sets n) ≡ set_entry sets n
 set-bytes sets n = ap (λ (l : List ℕ). number n ++ (number (sets n).card ++ l)) (numbers-section (members 64 (has (sets n).roles)))
 
-session-bytes : (sessions : ℕ → Session) (s : ℕ) → session (sessionEntryOf sessions s) ≡ sessionEntry sessions s
+session-bytes : (sessions : ℕ → Session) (s : ℕ) → session (session_entry_of sessions s) ≡ session_entry sessions s
 session-bytes sessions s = ap (λ (l : List ℕ). number s ++ (number (sessions s).owner ++ l)) (numbers-section (members 64 (has (sessions s).active)))
 
-pub sections-bytes : (m : Model) → bytes_of (sectionsOf m) ≡ encode m
+pub sections-bytes : (m : Model) → bytes_of (sections_of m) ≡ encode m
 unfolding bytes_of encode
 sections-bytes m =
     ap₂ ◌++◌ (numbers-section _)
     (ap₂ ◌++◌ (numbers-section _)
-    (ap₂ ◌++◌ (listing-section pair pair_of pairEntry (λ k. refl) _)
-    (ap₂ ◌++◌ (listing-section pair pair_of pairEntry (λ k. refl) _)
-    (ap₂ ◌++◌ (listing-section grant grantOf grantEntry (λ k. refl) _)
-    (ap₂ ◌++◌ (listing-section set (setEntryOf m.ssd) (setEntry m.ssd) (set-bytes m.ssd) _)
-    (ap₂ ◌++◌ (listing-section set (setEntryOf m.dsd) (setEntry m.dsd) (set-bytes m.dsd) _)
-    (listing-section session (sessionEntryOf m.sessions) (sessionEntry m.sessions) (session-bytes m.sessions) _)))))))
+    (ap₂ ◌++◌ (listing-section pair pair_of pair_entry (λ k. refl) _)
+    (ap₂ ◌++◌ (listing-section pair pair_of pair_entry (λ k. refl) _)
+    (ap₂ ◌++◌ (listing-section grant grant_of grant_entry (λ k. refl) _)
+    (ap₂ ◌++◌ (listing-section set (set_entry_of m.ssd) (set_entry m.ssd) (set-bytes m.ssd) _)
+    (ap₂ ◌++◌ (listing-section set (set_entry_of m.dsd) (set_entry m.dsd) (set-bytes m.dsd) _)
+    (listing-section session (session_entry_of m.sessions) (session_entry m.sessions) (session-bytes m.sessions) _)))))))
 
 -- ---- they are of the form
 
-pub pair-up : (k j : ℕ) → k < j → pairBefore (pair_of k) (pair_of j)
+pub pair-up : (k j : ℕ) → k < j → pair_before (pair_of k) (pair_of j)
 pair-up k j l = go (dec_lt (k / 64) (j / 64))
   where
-    go : Dec (k / 64 < j / 64) → pairBefore (pair_of k) (pair_of j)
+    go : Dec (k / 64 < j / 64) → pair_before (pair_of k) (pair_of j)
     go (yes h) = inl h
     go (no h) = inr (omega arith, omega arith)
 
-pub grant-up : (k j : ℕ) → k < j → grantBefore (grantOf k) (grantOf j)
+pub grant-up : (k j : ℕ) → k < j → grant_before (grant_of k) (grant_of j)
 grant-up k j l = go (dec_lt (k / 4096) (j / 4096)) (dec_lt (k % 4096 / 256) (j % 4096 / 256))
   where
-    go : Dec (k / 4096 < j / 4096) → Dec (k % 4096 / 256 < j % 4096 / 256) → grantBefore (grantOf k) (grantOf j)
+    go : Dec (k / 4096 < j / 4096) → Dec (k % 4096 / 256 < j % 4096 / 256) → grant_before (grant_of k) (grant_of j)
     go (yes h) d = inl h
     go (no h) (yes i) = inr (omega arith, inl i)
     go (no h) (no i) = inr (omega arith, inr (omega arith, omega arith))
 
 module _ (m : Model) (f : Formed m) where
-  a-user : (u : ℕ) → m.users u ≡ true → Listed u (sectionsOf m).users
+  a_user : (u : ℕ) → m.users u ≡ true → Listed u (sections_of m).users
   a-user u e = in_members 256 m.users u (f.users u e) e
 
-  a-role : (r : ℕ) → has m.roles r ≡ true → Listed r (sectionsOf m).roles
+  a_role : (r : ℕ) → has m.roles r ≡ true → Listed r (sections_of m).roles
   a-role r e = in_members 64 (has m.roles) r (member-small m.roles r f.roles e) e
 
-  role-list : (s : ℕ) → Existing m s → RoleList (sectionsOf m) (members 64 (has s))
-  role-list s x = good-numbers 64 (λ r. Listed r (sectionsOf m).roles) 64 (has s) (members-most 64 (has s)) (λ r l e. a-role r (x.exist r e))
+  role_list : (s : ℕ) → Existing m s → RoleList (sections_of m) (members 64 (has s))
+  role-list s x = good-numbers 64 (λ r. Listed r (sections_of m).roles) 64 (has s) (members-most 64 (has s)) (λ r l e. a-role r (x.exist r e))
 
-  sets-form : (sets : ℕ → RoleSet) → ((n : ℕ) → SetForm m n (sets n)) → Good 16 (FineSet (sectionsOf m)) (λ a b. a.name < b.name) (map (setEntryOf sets) (members 16 (λ n. (sets n).there)))
-  sets-form sets x = good-members 16 (FineSet (sectionsOf m)) (λ a b. a.name < b.name) (setEntryOf sets) 16 (λ n. (sets n).there) (members-most 16 (λ n. (sets n).there)) (λ n l e. record { name = l; cardinality = (x n).small; members = role-list (sets n).roles (x n).members }) (λ k j l. l)
+  sets_form : (sets : ℕ → RoleSet) → ((n : ℕ) → SetForm m n (sets n)) → Good 16 (FineSet (sections_of m)) (λ a b. a.name < b.name) (map (set_entry_of sets) (members 16 (λ n. (sets n).there)))
+  sets-form sets x = good-members 16 (FineSet (sections_of m)) (λ a b. a.name < b.name) (set_entry_of sets) 16 (λ n. (sets n).there) (members-most 16 (λ n. (sets n).there)) (λ n l e. record { name = l; cardinality = (x n).small; members = role-list (sets n).roles (x n).members }) (λ k j l. l)
 
-  pub sections-form : OfTheForm (sectionsOf m)
-  sections-form =
+  pub sections_form : OfTheForm (sections_of m)
+  sections_form =
       record {
         users = good-numbers 256 (λ u. u < 256) 256 m.users (members-most 256 m.users) (λ k l e. l);
         roles = good-numbers 64 (λ r. r < 64) 64 (has m.roles) (members-most 64 (has m.roles)) (λ k l e. l);
-        lines = good-members _ _ pairBefore pair_of 4096 (pairIn m.juniors) (omega (arith, few-lines m f.limits)) (λ k l e. (a-role (k / 64) (f.seniors (k / 64) (k % 64) e), a-role (k % 64) ((f.juniors (k / 64)).exist (k % 64) e))) pair-up;
-        assignments = good-members _ _ pairBefore pair_of 16384 (pairIn m.assigned) (omega (arith, few-assigned m f.limits)) (λ k l e. (a-user (k / 64) (f.assignees (k / 64) (k % 64) e), a-role (k % 64) ((f.assigned (k / 64)).exist (k % 64) e))) pair-up;
-        grants = good-members _ _ grantBefore grantOf 262144 (grantIn m.holders) (omega (arith, few-grants m f.limits)) (λ k l e. (a-role (k / 4096) ((f.holders (k % 4096)).exist (k / 4096) e), omega arith, omega arith)) grant-up;
+        lines = good-members _ _ pair_before pair_of 4096 (pair_in m.juniors) (omega (arith, few-lines m f.limits)) (λ k l e. (a-role (k / 64) (f.seniors (k / 64) (k % 64) e), a-role (k % 64) ((f.juniors (k / 64)).exist (k % 64) e))) pair-up;
+        assignments = good-members _ _ pair_before pair_of 16384 (pair_in m.assigned) (omega (arith, few-assigned m f.limits)) (λ k l e. (a-user (k / 64) (f.assignees (k / 64) (k % 64) e), a-role (k % 64) ((f.assigned (k / 64)).exist (k % 64) e))) pair-up;
+        grants = good-members _ _ grant_before grant_of 262144 (grant_in m.holders) (omega (arith, few-grants m f.limits)) (λ k l e. (a-role (k / 4096) ((f.holders (k % 4096)).exist (k / 4096) e), omega arith, omega arith)) grant-up;
         ssd = sets-form m.ssd f.ssd;
         dsd = sets-form m.dsd f.dsd;
-        sessions = good-members 64 (FineSession (sectionsOf m)) (λ a b. a.number < b.number) (sessionEntryOf m.sessions) 64 (λ s. (m.sessions s).live) (members-most 64 (λ s. (m.sessions s).live)) (λ s l e. record { number = l; owner = a-user (m.sessions s).owner ((f.sessions s).owned e); active = role-list (m.sessions s).active (f.sessions s).active }) (λ k j l. l);
+        sessions = good-members 64 (FineSession (sections_of m)) (λ a b. a.number < b.number) (session_entry_of m.sessions) 64 (λ s. (m.sessions s).live) (members-most 64 (λ s. (m.sessions s).live)) (λ s l e. record { number = l; owner = a-user (m.sessions s).owner ((f.sessions s).owned e); active = role-list (m.sessions s).active (f.sessions s).active }) (λ k j l. l);
       }
 
 -- ---- they say the policy
 
 -- a pair and a grant stand in the list at their own numbers
-pub pair-own : (size : ℕ) (table : ℕ → ℕ) (p : ℕ × ℕ) → p.0 < size → p.1 < 64 → has (table p.0) p.1 ≡ true → (pairNumber p < 64 * size) × (pairIn table (pairNumber p) ≡ true) × (pair_of (pairNumber p) ≡ p)
+pub pair-own : (size : ℕ) (table : ℕ → ℕ) (p : ℕ × ℕ) → p.0 < size → p.1 < 64 → has (table p.0) p.1 ≡ true → (pair_number p < 64 * size) × (pair_in table (pair_number p) ≡ true) × (pair_of (pair_number p) ≡ p)
 pair-own size table p i r e =
-    let row : pairNumber p / 64 ≡ p.0 = omega arith in
-    let col : pairNumber p % 64 ≡ p.1 = omega arith in
+    let row : pair_number p / 64 ≡ p.0 = omega arith in
+    let col : pair_number p % 64 ≡ p.1 = omega arith in
     (omega arith, ap₂ (λ (a b : ℕ). has (table a) b) row col ∙ e, λ j. (row j, col j))
 
-pub pair-in : (size : ℕ) (table : ℕ → ℕ) (p : ℕ × ℕ) → p.0 < size → p.1 < 64 → has (table p.0) p.1 ≡ true → Memᴰ p (map pair_of (members (64 * size) (pairIn table)))
-pair-in size table p i r e = let o = pair-own size table p i r e in Memᴰ.cast (sym o.2) (in_map pair_of (pairNumber p) (members (64 * size) (pairIn table)) (in_members (64 * size) (pairIn table) (pairNumber p) o.0 o.1))
+pub pair-in : (size : ℕ) (table : ℕ → ℕ) (p : ℕ × ℕ) → p.0 < size → p.1 < 64 → has (table p.0) p.1 ≡ true → Memᴰ p (map pair_of (members (64 * size) (pair_in table)))
+pair-in size table p i r e = let o = pair-own size table p i r e in Memᴰ.cast (sym o.2) (in_map pair_of (pair_number p) (members (64 * size) (pair_in table)) (in_members (64 * size) (pair_in table) (pair_number p) o.0 o.1))
 
-pub grant-own : (holders : ℕ → ℕ) (g : ℕ × ℕ × ℕ) → g.0 < 64 → g.1 < 16 → g.2 < 256 → has (holders (g.1 * 256 + g.2)) g.0 ≡ true → (grantNumber g < 262144) × (grantIn holders (grantNumber g) ≡ true) × (grantOf (grantNumber g) ≡ g)
+pub grant-own : (holders : ℕ → ℕ) (g : ℕ × ℕ × ℕ) → g.0 < 64 → g.1 < 16 → g.2 < 256 → has (holders (g.1 * 256 + g.2)) g.0 ≡ true → (grant_number g < 262144) × (grant_in holders (grant_number g) ≡ true) × (grant_of (grant_number g) ≡ g)
 grant-own holders g a b d e =
-    let role : grantNumber g / 4096 ≡ g.0 = omega arith in
-    let all : grantNumber g % 4096 ≡ g.1 * 256 + g.2 = omega arith in
-    let operation : grantNumber g % 4096 / 256 ≡ g.1 = omega arith in
-    let object : grantNumber g % 256 ≡ g.2 = omega arith in
+    let role : grant_number g / 4096 ≡ g.0 = omega arith in
+    let all : grant_number g % 4096 ≡ g.1 * 256 + g.2 = omega arith in
+    let operation : grant_number g % 4096 / 256 ≡ g.1 = omega arith in
+    let object : grant_number g % 256 ≡ g.2 = omega arith in
     (omega arith, ap₂ (λ (a b : ℕ). has (holders a) b) all role ∙ e, λ j. (role j, operation j, object j))
 
-pub grant-in : (holders : ℕ → ℕ) (g : ℕ × ℕ × ℕ) → g.0 < 64 → g.1 < 16 → g.2 < 256 → has (holders (g.1 * 256 + g.2)) g.0 ≡ true → Memᴰ g (map grantOf (members 262144 (grantIn holders)))
-grant-in holders g a b d e = let o = grant-own holders g a b d e in Memᴰ.cast (sym o.2) (in_map grantOf (grantNumber g) (members 262144 (grantIn holders)) (in_members 262144 (grantIn holders) (grantNumber g) o.0 o.1))
+pub grant-in : (holders : ℕ → ℕ) (g : ℕ × ℕ × ℕ) → g.0 < 64 → g.1 < 16 → g.2 < 256 → has (holders (g.1 * 256 + g.2)) g.0 ≡ true → Memᴰ g (map grant_of (members 262144 (grant_in holders)))
+grant-in holders g a b d e = let o = grant-own holders g a b d e in Memᴰ.cast (sym o.2) (in_map grant_of (grant_number g) (members 262144 (grant_in holders)) (in_members 262144 (grant_in holders) (grant_number g) o.0 o.1))
 
 -- the pairs of a table of which no place is beyond `size` and no role beyond 63
-pairs-say : (size : ℕ) (table : ℕ → ℕ) → ((i r : ℕ) → has (table i) r ≡ true → (i < size) × (r < 64)) → (i r : ℕ) → (has (table i) r ≡ true) ↔ Memᴰ (i, r) (map pair_of (members (64 * size) (pairIn table)))
+pairs-say : (size : ℕ) (table : ℕ → ℕ) → ((i r : ℕ) → has (table i) r ≡ true → (i < size) × (r < 64)) → (i r : ℕ) → (has (table i) r ≡ true) ↔ Memᴰ (i, r) (map pair_of (members (64 * size) (pair_in table)))
 pairs-say size table small i r = ((λ e. pair-in size table (i, r) (small i r e).0 (small i r e).1 e), back)
   where
-    back : Memᴰ (i, r) (map pair_of (members (64 * size) (pairIn table))) → has (table i) r ≡ true
+    back : Memᴰ (i, r) (map pair_of (members (64 * size) (pair_in table))) → has (table i) r ≡ true
     back x =
-        let q = map-in pair_of (members (64 * size) (pairIn table)) (i, r) x in
-        ap (λ (p : ℕ × ℕ). has (table p.0) p.1) q.2 ∙ (members-in (64 * size) (pairIn table) q.0 q.1).1
+        let q = map-in pair_of (members (64 * size) (pair_in table)) (i, r) x in
+        ap (λ (p : ℕ × ℕ). has (table p.0) p.1) q.2 ∙ (members-in (64 * size) (pair_in table) q.0 q.1).1
 
 module _ (m : Model) (f : Formed m) where
-  roles-say : (s : ℕ) → s < 2 ^ 64 → (r : ℕ) → (has s r ≡ true) ↔ Listed r (members 64 (has s))
+  roles_say : (s : ℕ) → s < 2 ^ 64 → (r : ℕ) → (has s r ≡ true) ↔ Listed r (members 64 (has s))
   roles-say s small r = ((λ e. in_members 64 (has s) r (member-small s r small e) e), (λ l. (members-in 64 (has s) r l).1))
 
-  grants-say : (r op obj : ℕ) → op < 16 → obj < 256 → (has (m.holders (op * 256 + obj)) r ≡ true) ↔ Memᴰ (r, op, obj) (sectionsOf m).grants
+  grants_say : (r op obj : ℕ) → op < 16 → obj < 256 → (has (m.holders (op * 256 + obj)) r ≡ true) ↔ Memᴰ (r, op, obj) (sections_of m).grants
   grants-say r op obj lo hi = ((λ e. grant-in m.holders (r, op, obj) (member-small (m.holders (op * 256 + obj)) r (f.holders (op * 256 + obj)).small e) lo hi e), back)
     where
-      back : Memᴰ (r, op, obj) (sectionsOf m).grants → has (m.holders (op * 256 + obj)) r ≡ true
+      back : Memᴰ (r, op, obj) (sections_of m).grants → has (m.holders (op * 256 + obj)) r ≡ true
       back x =
-          let q = map-in grantOf (members 262144 (grantIn m.holders)) (r, op, obj) x in
+          let q = map-in grant_of (members 262144 (grant_in m.holders)) (r, op, obj) x in
           let k : ℕ = q.0 in
           let same : op * 256 + obj ≡ k % 4096 = ap (λ (p : ℕ × ℕ × ℕ). p.1 * 256 + p.2) q.2 ∙ omega arith in
-          ap₂ (λ (a b : ℕ). has (m.holders a) b) same (ap (λ (p : ℕ × ℕ × ℕ). p.0) q.2) ∙ (members-in 262144 (grantIn m.holders) k q.1).1
+          ap₂ (λ (a b : ℕ). has (m.holders a) b) same (ap (λ (p : ℕ × ℕ × ℕ). p.0) q.2) ∙ (members-in 262144 (grant_in m.holders) k q.1).1
 
-  sets-say : (sets : ℕ → RoleSet) → ((n : ℕ) → SetForm m n (sets n)) → (e : SetEntry) → Memᴰ e (map (setEntryOf sets) (members 16 (λ n. (sets n).there))) → SetAs sets e
+  sets_say : (sets : ℕ → RoleSet) → ((n : ℕ) → SetForm m n (sets n)) → (e : SetEntry) → Memᴰ e (map (set_entry_of sets) (members 16 (λ n. (sets n).there))) → SetAs sets e
   sets-say sets x e i =
-      let q = map-in (setEntryOf sets) (members 16 (λ n. (sets n).there)) e i in
+      let q = map-in (set_entry_of sets) (members 16 (λ n. (sets n).there)) e i in
       subst (SetAs sets) (sym q.2) (record { there = (members-in 16 (λ n. (sets n).there) q.0 q.1).1; cardinality = refl; members = roles-say (sets q.0).roles (x q.0).members.small })
 
-  sets-only : (sets : ℕ → RoleSet) → ((n : ℕ) → SetForm m n (sets n)) → (n : ℕ) → (sets n).there ≡ true → SetNamed n (map (setEntryOf sets) (members 16 (λ n. (sets n).there)))
-  sets-only sets x n e = (setEntryOf sets n, in_map (setEntryOf sets) n (members 16 (λ n. (sets n).there)) (in_members 16 (λ n. (sets n).there) n ((x n).named e) e), refl)
+  sets_only : (sets : ℕ → RoleSet) → ((n : ℕ) → SetForm m n (sets n)) → (n : ℕ) → (sets n).there ≡ true → SetNamed n (map (set_entry_of sets) (members 16 (λ n. (sets n).there)))
+  sets-only sets x n e = (set_entry_of sets n, in_map (set_entry_of sets) n (members 16 (λ n. (sets n).there)) (in_members 16 (λ n. (sets n).there) n ((x n).named e) e), refl)
 
-  sessions-say : (e : SessionEntry) → Memᴰ e (sectionsOf m).sessions → SessionAs m.sessions e
+  sessions_say : (e : SessionEntry) → Memᴰ e (sections_of m).sessions → SessionAs m.sessions e
   sessions-say e i =
-      let q = map-in (sessionEntryOf m.sessions) (members 64 (λ s. (m.sessions s).live)) e i in
+      let q = map-in (session_entry_of m.sessions) (members 64 (λ s. (m.sessions s).live)) e i in
       subst (SessionAs m.sessions) (sym q.2) (record { live = (members-in 64 (λ s. (m.sessions s).live) q.0 q.1).1; owner = refl; active = roles-say (m.sessions q.0).active (f.sessions q.0).active.small })
 
-  sessions-only : (n : ℕ) → (m.sessions n).live ≡ true → SessionNumbered n (sectionsOf m).sessions
-  sessions-only n e = (sessionEntryOf m.sessions n, in_map (sessionEntryOf m.sessions) n (members 64 (λ s. (m.sessions s).live)) (in_members 64 (λ s. (m.sessions s).live) n ((f.sessions n).numbered e) e), refl)
+  sessions_only : (n : ℕ) → (m.sessions n).live ≡ true → SessionNumbered n (sections_of m).sessions
+  sessions-only n e = (session_entry_of m.sessions n, in_map (session_entry_of m.sessions) n (members 64 (λ s. (m.sessions s).live)) (in_members 64 (λ s. (m.sessions s).live) n ((f.sessions n).numbered e) e), refl)
 
-  pub sections-say : Says (sectionsOf m) m
-  sections-say =
+  pub sections_say : Says (sections_of m) m
+  sections_say =
       record {
         users = λ u. (a-user m f u, λ l. (members-in 256 m.users u l).1);
         roles = roles-say m.roles f.roles;
@@ -207,31 +207,31 @@ module _ (m : Model) (f : Formed m) where
         grants = grants-say;
         permissions = f.permissions;
         ssd = sets-say m.ssd f.ssd;
-        ssd-only = sets-only m.ssd f.ssd;
+        ssd_only = sets-only m.ssd f.ssd;
         dsd = sets-say m.dsd f.dsd;
-        dsd-only = sets-only m.dsd f.dsd;
+        dsd_only = sets-only m.dsd f.dsd;
         sessions = sessions-say;
-        sessions-only = sessions-only;
+        sessions_only = sessions-only;
       }
 
 -- ---- and they can be written
 
 module _ (f : Sections) (x : OfTheForm f) where
-  a-role-fits : (r : ℕ) → Listed r f.roles → Fits r
+  a_role_fits : (r : ℕ) → Listed r f.roles → Fits r
   a-role-fits r l = omega (arith, every-elim (λ k. k < 64) f.roles x.roles.each r l)
 
-  a-user-fits : (u : ℕ) → Listed u f.users → Fits u
+  a_user_fits : (u : ℕ) → Listed u f.users → Fits u
   a-user-fits u l = omega (arith, every-elim (λ k. k < 256) f.users x.users.each u l)
 
-  list-fits : (l : List ℕ) → RoleList f l → Writable Fits l
+  list_fits : (l : List ℕ) → RoleList f l → Writable Fits l
   list-fits l g = (omega (arith, g.count), every-weaker (λ r. Listed r f.roles) Fits a-role-fits l g.each)
 
-  sets-fit : (l : List SetEntry) → Good 16 (FineSet f) (λ a b. a.name < b.name) l → Writable (λ e. Fits e.name × Fits e.cardinality × Writable Fits e.members) l
+  sets_fit : (l : List SetEntry) → Good 16 (FineSet f) (λ a b. a.name < b.name) l → Writable (λ e. Fits e.name × Fits e.cardinality × Writable Fits e.members) l
   sets-fit l g = (omega (arith, g.count), every-weaker (FineSet f) _ (λ e y. (omega (arith, y.name), y.cardinality, list-fits e.members y.members)) l g.each)
 
   -- What is of the form has sixteen-bit numbers only.
-  pub form-sixteen : Sixteen f
-  form-sixteen =
+  pub form_sixteen : Sixteen f
+  form_sixteen =
       record {
         users = (omega (arith, x.users.count), every-weaker (λ u. u < 256) Fits (λ u l. omega arith) f.users x.users.each);
         roles = (omega (arith, x.roles.count), every-weaker (λ u. u < 64) Fits (λ u l. omega arith) f.roles x.roles.each);

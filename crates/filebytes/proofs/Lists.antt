@@ -118,7 +118,7 @@ module _ {A : Type 0} (Before : A → A → Type 0) (never_both : (a b : A) → 
       go (inl e) = let self : Before a a = subst (Before a) (e ∙ sym same) below in absurd (never_both a a self self)
       go (inr i) = i
 
-  pub same-list : (l k : List A) → Ascending Before l → Ascending Before k → ((a : A) → Memᴰ a l → Memᴰ a k) → ((a : A) → Memᴰ a k → Memᴰ a l) → l ≡ k
+  pub same_list : (l k : List A) → Ascending Before l → Ascending Before k → ((a : A) → Memᴰ a l → Memᴰ a k) → ((a : A) → Memᴰ a k → Memᴰ a l) → l ≡ k
   same-list [] [] p q to back = refl
   same-list [] (b ∷ k) p q to back = absurd (Memᴰ.not-nil (back b (Memᴰ.head refl)))
   same-list (a ∷ l) [] p q to back = absurd (Memᴰ.not-nil (to a (Memᴰ.head refl)))

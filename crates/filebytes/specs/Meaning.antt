@@ -40,9 +40,9 @@ pub record Says (f : Sections) (m : Model) : Type 0 where
   pub permissions : (p r : ℕ) → has (m.holders p) r ≡ true → p < 4096
   -- Every set that is listed stands in the policy as it is listed, and there is no set of another name.
   pub ssd : (e : SetEntry) → Memᴰ e f.ssd → SetAs m.ssd e
-  pub ssd-only : (n : ℕ) → (m.ssd n).there ≡ true → SetNamed n f.ssd
+  pub ssd_only : (n : ℕ) → (m.ssd n).there ≡ true → SetNamed n f.ssd
   pub dsd : (e : SetEntry) → Memᴰ e f.dsd → SetAs m.dsd e
-  pub dsd-only : (n : ℕ) → (m.dsd n).there ≡ true → SetNamed n f.dsd
+  pub dsd_only : (n : ℕ) → (m.dsd n).there ≡ true → SetNamed n f.dsd
   -- Every session that is listed is open as it is listed, and no other session is open.
   pub sessions : (e : SessionEntry) → Memᴰ e f.sessions → SessionAs m.sessions e
-  pub sessions-only : (n : ℕ) → (m.sessions n).live ≡ true → SessionNumbered n f.sessions
+  pub sessions_only : (n : ℕ) → (m.sessions n).live ≡ true → SessionNumbered n f.sessions

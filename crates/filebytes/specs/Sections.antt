@@ -96,11 +96,11 @@ Listed k list = Memᴰ k list
 
 -- "compared by its leading numbers": the first number is lower; or it is the same and the second is lower; or both are the same and the third is
 -- lower.
-abbrev pub pairBefore : ℕ × ℕ → ℕ × ℕ → Type 0
-pairBefore p q = (p.0 < q.0) ⊎ ((p.0 ≡ q.0) × (p.1 < q.1))
+abbrev pub pair_before : ℕ × ℕ → ℕ × ℕ → Type 0
+pair_before p q = (p.0 < q.0) ⊎ ((p.0 ≡ q.0) × (p.1 < q.1))
 
-abbrev pub grantBefore : ℕ × ℕ × ℕ → ℕ × ℕ × ℕ → Type 0
-grantBefore p q = (p.0 < q.0) ⊎ ((p.0 ≡ q.0) × ((p.1 < q.1) ⊎ ((p.1 ≡ q.1) × (p.2 < q.2))))
+abbrev pub grant_before : ℕ × ℕ × ℕ → ℕ × ℕ × ℕ → Type 0
+grant_before p q = (p.0 < q.0) ⊎ ((p.0 ≡ q.0) × ((p.1 < q.1) ⊎ ((p.1 ≡ q.1) × (p.2 < q.2))))
 
 -- A list of roles inside an entry: at most 64, each of them listed in the section of roles, strictly ascending.
 abbrev pub RoleList : Sections → List ℕ → Type 0
@@ -123,9 +123,9 @@ pub record FineSession (f : Sections) (e : SessionEntry) : Type 0 where
 pub record OfTheForm (f : Sections) : Type 0 where
   pub users : Good 256 (λ u. u < 256) ◌<◌ f.users
   pub roles : Good 64 (λ r. r < 64) ◌<◌ f.roles
-  pub lines : Good 512 (λ l. (Listed l.0 f.roles) × (Listed l.1 f.roles)) pairBefore f.lines
-  pub assignments : Good 2048 (λ a. (Listed a.0 f.users) × (Listed a.1 f.roles)) pairBefore f.assignments
-  pub grants : Good 2048 (λ g. (Listed g.0 f.roles) × (g.1 < 16) × (g.2 < 256)) grantBefore f.grants
+  pub lines : Good 512 (λ l. (Listed l.0 f.roles) × (Listed l.1 f.roles)) pair_before f.lines
+  pub assignments : Good 2048 (λ a. (Listed a.0 f.users) × (Listed a.1 f.roles)) pair_before f.assignments
+  pub grants : Good 2048 (λ g. (Listed g.0 f.roles) × (g.1 < 16) × (g.2 < 256)) grant_before f.grants
   pub ssd : Good 16 (FineSet f) (λ a b. a.name < b.name) f.ssd
   pub dsd : Good 16 (FineSet f) (λ a b. a.name < b.name) f.dsd
   pub sessions : Good 64 (FineSession f) (λ a b. a.number < b.number) f.sessions

@@ -8,14 +8,14 @@ use Prim.Native.Nat.{ℕ}
 use native.Mathlib.Omega.{arith}
 use Rattle.roleset.specs.Bounded.{some, every, tally, members}
 use Rattle.roleset.specs.Roles.{has, pack, those, union, common, subset, is_empty, count}
-use Rattle.hierarchy.specs.Walks.{juniorsOf, walk, reach, circular, longerChain}
+use Rattle.hierarchy.specs.Walks.{juniors_of, walk, reach, circular, longer_chain}
 use Rattle.model.specs.Model.{Model, standing}
 use Rattle.model.specs.Sheet.{Told, verdict, settle, done, refused}
-use Rattle.model.specs.Words.{breaks, breaksSome, staticBroken, dynamicBroken}
+use Rattle.model.specs.Words.{breaks, breaks_some, static_broken, dynamic_broken}
 use Rattle.sound.proofs.Sheet.{settle-done, settle-refused}
 use Rattle.policyform.specs.Form.{FileOf}
 use Rattle.policyform.specs.Promises.{Loads}
-use Rattle.policyform.specs.Rules.{badSet, unauthorised, rulesBroken}
+use Rattle.policyform.specs.Rules.{bad_set, unauthorised, rules_broken}
 use Rattle.policyread.proofs.Whole.{file-one}
 use Rattle.policyfile.proofs.Laws.{load-file}
 use Rattle.policyfile.proofs.Sounding.{sound-formed}
@@ -24,127 +24,127 @@ use Rattle.demands.proofs.Kept.{reachable-sound}
 use Rattle.filebytes.specs.Sections.{Sections, entries, listing, bytes_of, OfTheForm}
 use Rattle.filebytes.specs.Meaning.{Says}
 use Rattle.filebytes.proofs.Lists.{any}
-use Rattle.filebytes.proofs.Decided.{all, inOrder, Tested, tested-form}
+use Rattle.filebytes.proofs.Decided.{all, in_order, Tested, tested-form}
 use Rattle.filebytes.proofs.Listed.{form-sixteen}
-use Rattle.filebytes.proofs.Built.{atKey, modelOf, built-says, built-formed}
+use Rattle.filebytes.proofs.Built.{atKey, model_of, built-says, built-formed}
 use Rattle.filebytes.proofs.FileForm.{paper-form}
-use Rattle.filetables.specs.Rows.{bytesIn}
-use Rattle.filetables.specs.PolicyBytes.{mixedSections, mixedFile, wideFile, seniorsSections, seniorsFile, FileIs}
+use Rattle.filetables.specs.Rows.{bytes_in}
+use Rattle.filetables.specs.PolicyBytes.{mixed_sections, mixed_file, wide_file, seniors_sections, seniors_file, FileIs}
 use Rattle.filetables.proofs.Saved.{file-is}
 
 -- ---- sections of the form, written as these bytes
 
 module _ (f : Sections) (form : OfTheForm f) (bytes : List ℕ) (written : bytes_of f ≡ bytes) where
-  listed-file : (m : Model) → Reachable m → Says f m → FileIs m bytes
-  listed-file m p s = let sound = reachable-sound p in file-is m sound bytes ((paper-form.says-file m f (sound-formed m sound) form s).written ∙ written)
+  listed_file : (m : Model) → Reachable m → Says f m → FileIs m bytes
+  listed-file m p s = let sound = reachable-sound p in file-is m sound bytes ((paper-form.says_file m f (sound-formed m sound) form s).written ∙ written)
 
-  built-file : FileOf (modelOf f) (bytes_of f)
-  built-file = paper-form.says-file (modelOf f) f (built-formed f form) form (built-says f form)
+  built_file : FileOf (model_of f) (bytes_of f)
+  built_file = paper-form.says_file (model_of f) f (built-formed f form) form (built-says f form)
 
   -- what loading them tells is what their policy breaks
-  load-tells : (before : Model) (told : Told) → Loads before bytes told → told ≡ settle (rulesBroken (modelOf f)) before [] (modelOf f)
-  load-tells before told l = load-file before (modelOf f) told (built-formed f form) (subst (λ (b : List ℕ). Loads before b told) (sym written ∙ sym built-file.written) l)
+  load_tells : (before : Model) (told : Told) → Loads before bytes told → told ≡ settle (rules_broken (model_of f)) before [] (model_of f)
+  load-tells before told l = load-file before (model_of f) told (built-formed f form) (subst (λ (b : List ℕ). Loads before b told) (sym written ∙ sym built-file.written) l)
 
   -- and it is refused where they break one
-  load-refused : (n : ℕ) → verdict (rulesBroken (modelOf f)) ≡ n → (n ≡ 0 → ⊥) → (before : Model) (told : Told) → Loads before bytes told → told ≡ refused n before
+  load_refused : (n : ℕ) → verdict (rules_broken (model_of f)) ≡ n → (n ≡ 0 → ⊥) → (before : Model) (told : Told) → Loads before bytes told → told ≡ refused n before
   load-refused n e some before told l =
       load-tells before told l
-      ∙ settle-refused (rulesBroken (modelOf f)) before [] (modelOf f) (λ z. some (sym e ∙ z))
+      ∙ settle-refused (rules_broken (model_of f)) before [] (model_of f) (λ z. some (sym e ∙ z))
       ∙ ap (λ (k : ℕ). refused k before) e
 
 -- ---- several entries
 
-mixed-tested : Tested mixedSections
-unfolding all any inOrder
+mixed-tested : Tested mixed_sections
+unfolding all any in_order
 mixed-tested = record { users = refl; roles = refl; lines = refl; assignments = refl; grants = refl; ssd = refl; dsd = refl; sessions = refl }
 
-mixed-form : OfTheForm mixedSections
-mixed-form = tested-form mixedSections mixed-tested
+mixed-form : OfTheForm mixed_sections
+mixed-form = tested-form mixed_sections mixed-tested
 
-mixed-written : bytes_of mixedSections ≡ bytesIn mixedFile
+mixed-written : bytes_of mixed_sections ≡ bytes_in mixed_file
 unfolding bytes_of listing entries
 mixed-written = refl
 
-mixed-clear : verdict (rulesBroken (modelOf mixedSections)) ≡ 0
-unfolding some every tally has pack those union common subset is_empty count juniorsOf walk reach circular longerChain standing verdict breaks breaksSome staticBroken dynamicBroken badSet unauthorised rulesBroken any atKey
+mixed-clear : verdict (rules_broken (model_of mixed_sections)) ≡ 0
+unfolding some every tally has pack those union common subset is_empty count juniors_of walk reach circular longer_chain standing verdict breaks breaks_some static_broken dynamic_broken bad_set unauthorised rules_broken any atKey
 mixed-clear = refl
 
-pub mixed-file : (m : Model) → Reachable m → Says mixedSections m → FileIs m (bytesIn mixedFile)
-mixed-file = listed-file mixedSections mixed-form (bytesIn mixedFile) mixed-written
+pub mixed-file : (m : Model) → Reachable m → Says mixed_sections m → FileIs m (bytes_in mixed_file)
+mixed-file = listed-file mixed_sections mixed-form (bytes_in mixed_file) mixed-written
 
-pub mixed-loaded : (before : Model) (told : Told) → Loads before (bytesIn mixedFile) told → (told.answer ≡ 0) × Says mixedSections told.after
+pub mixed-loaded : (before : Model) (told : Told) → Loads before (bytes_in mixed_file) told → (told.answer ≡ 0) × Says mixed_sections told.after
 mixed-loaded before told l =
-    let e : told ≡ done [] (modelOf mixedSections) = load-tells mixedSections mixed-form (bytesIn mixedFile) mixed-written before told l ∙ settle-done (rulesBroken (modelOf mixedSections)) before [] (modelOf mixedSections) mixed-clear in
-    (ap (λ (t : Told). t.answer) e, subst (λ (t : Told). Says mixedSections t.after) (sym e) (built-says mixedSections mixed-form))
+    let e : told ≡ done [] (model_of mixed_sections) = load-tells mixed_sections mixed-form (bytes_in mixed_file) mixed-written before told l ∙ settle-done (rules_broken (model_of mixed_sections)) before [] (model_of mixed_sections) mixed-clear in
+    (ap (λ (t : Told). t.answer) e, subst (λ (t : Told). Says mixed_sections t.after) (sym e) (built-says mixed_sections mixed-form))
 
 -- ---- a number above 255
 
-abbrev wideSections : Sections
-wideSections = record { users = []; roles = 6 ∷ []; lines = []; assignments = []; grants = []; ssd = record { name = 3; cardinality = 258; members = 6 ∷ [] } ∷ []; dsd = []; sessions = [] }
+abbrev wide_sections : Sections
+wide_sections = record { users = []; roles = 6 ∷ []; lines = []; assignments = []; grants = []; ssd = record { name = 3; cardinality = 258; members = 6 ∷ [] } ∷ []; dsd = []; sessions = [] }
 
-wide-tested : Tested wideSections
-unfolding all any inOrder
+wide-tested : Tested wide_sections
+unfolding all any in_order
 wide-tested = record { users = refl; roles = refl; lines = refl; assignments = refl; grants = refl; ssd = refl; dsd = refl; sessions = refl }
 
-wide_form : OfTheForm wideSections
-wide_form = tested-form wideSections wide-tested
+wide_form : OfTheForm wide_sections
+wide_form = tested-form wide_sections wide-tested
 
-wide-written : bytes_of wideSections ≡ bytesIn wideFile
+wide-written : bytes_of wide_sections ≡ bytes_in wide_file
 unfolding bytes_of listing entries
 wide-written = refl
 
-wide-broken : verdict (rulesBroken (modelOf wideSections)) ≡ 7
-unfolding some every tally has pack those union common subset is_empty count juniorsOf walk reach circular longerChain verdict badSet rulesBroken any atKey
+wide-broken : verdict (rules_broken (model_of wide_sections)) ≡ 7
+unfolding some every tally has pack those union common subset is_empty count juniors_of walk reach circular longer_chain verdict bad_set rules_broken any atKey
 wide-broken = refl
 
-pub wide-file : (m : Model) × FileOf m (bytesIn wideFile)
-wide-file = (modelOf wideSections, subst (FileOf (modelOf wideSections)) wide-written (built-file wideSections wide_form (bytesIn wideFile) wide-written))
+pub wide-file : (m : Model) × FileOf m (bytes_in wide_file)
+wide-file = (model_of wide_sections, subst (FileOf (model_of wide_sections)) wide-written (built-file wide_sections wide_form (bytes_in wide_file) wide-written))
 
-pub wide-number : (m : Model) → FileOf m (bytesIn wideFile) → ((m.ssd 3).there ≡ true) × ((m.ssd 3).card ≡ 258)
+pub wide-number : (m : Model) → FileOf m (bytes_in wide_file) → ((m.ssd 3).there ≡ true) × ((m.ssd 3).card ≡ 258)
 wide-number m x =
-    let s = paper-form.file-says m wideSections (form-sixteen wideSections wide_form) (subst (FileOf m) (sym wide-written) x) in
+    let s = paper-form.file_says m wide_sections (form-sixteen wide_sections wide_form) (subst (FileOf m) (sym wide-written) x) in
     let set = s.ssd (record { name = 3; cardinality = 258; members = 6 ∷ [] }) (Memᴰ.head refl) in
     (set.there, set.cardinality)
 
-pub wide-refused : (before : Model) (told : Told) → Loads before (bytesIn wideFile) told → told ≡ refused 7 before
-wide-refused = load-refused wideSections wide_form (bytesIn wideFile) wide-written 7 wide-broken (λ z. omega arith)
+pub wide-refused : (before : Model) (told : Told) → Loads before (bytes_in wide_file) told → told ≡ refused 7 before
+wide-refused = load-refused wide_sections wide_form (bytes_in wide_file) wide-written 7 wide-broken (λ z. omega arith)
 
 -- ---- a dynamic rule broken by inherited roles
 
-seniors-tested : Tested seniorsSections
-unfolding all any inOrder
+seniors-tested : Tested seniors_sections
+unfolding all any in_order
 seniors-tested = record { users = refl; roles = refl; lines = refl; assignments = refl; grants = refl; ssd = refl; dsd = refl; sessions = refl }
 
-seniors-form : OfTheForm seniorsSections
-seniors-form = tested-form seniorsSections seniors-tested
+seniors-form : OfTheForm seniors_sections
+seniors-form = tested-form seniors_sections seniors-tested
 
-seniors-written : bytes_of seniorsSections ≡ bytesIn seniorsFile
+seniors-written : bytes_of seniors_sections ≡ bytes_in seniors_file
 unfolding bytes_of listing entries
 seniors-written = refl
 
-seniors-broken : verdict (rulesBroken (modelOf seniorsSections)) ≡ 11
-unfolding some every tally has pack those union common subset is_empty count juniorsOf walk reach circular longerChain verdict breaks breaksSome staticBroken dynamicBroken badSet unauthorised rulesBroken any atKey
+seniors-broken : verdict (rules_broken (model_of seniors_sections)) ≡ 11
+unfolding some every tally has pack those union common subset is_empty count juniors_of walk reach circular longer_chain verdict breaks breaks_some static_broken dynamic_broken bad_set unauthorised rules_broken any atKey
 seniors-broken = refl
 
-seniors-built : FileOf (modelOf seniorsSections) (bytesIn seniorsFile)
-seniors-built = subst (FileOf (modelOf seniorsSections)) seniors-written (built-file seniorsSections seniors-form (bytesIn seniorsFile) seniors-written)
+seniors-built : FileOf (model_of seniors_sections) (bytes_in seniors_file)
+seniors-built = subst (FileOf (model_of seniors_sections)) seniors-written (built-file seniors_sections seniors-form (bytes_in seniors_file) seniors-written)
 
-pub seniors-file : (m : Model) × FileOf m (bytesIn seniorsFile)
-seniors-file = (modelOf seniorsSections, seniors-built)
+pub seniors-file : (m : Model) × FileOf m (bytes_in seniors_file)
+seniors-file = (model_of seniors_sections, seniors-built)
 
 -- the policy of these bytes is the one that the sections make
-seniors-one : (m : Model) → FileOf m (bytesIn seniorsFile) → m ≡ modelOf seniorsSections
-seniors-one m x = file-one (bytesIn seniorsFile) m (modelOf seniorsSections) x seniors-built
+seniors-one : (m : Model) → FileOf m (bytes_in seniors_file) → m ≡ model_of seniors_sections
+seniors-one m x = file-one (bytes_in seniors_file) m (model_of seniors_sections) x seniors-built
 
-pub seniors-says : (m : Model) → FileOf m (bytesIn seniorsFile) → Says seniorsSections m
-seniors-says m x = paper-form.file-says m seniorsSections (form-sixteen seniorsSections seniors-form) (subst (FileOf m) (sym seniors-written) x)
+pub seniors-says : (m : Model) → FileOf m (bytes_in seniors_file) → Says seniors_sections m
+seniors-says m x = paper-form.file_says m seniors_sections (form-sixteen seniors_sections seniors-form) (subst (FileOf m) (sym seniors-written) x)
 
-seniors-kept : some 64 (λ k. breaksSome (modelOf seniorsSections).dsd ((modelOf seniorsSections).sessions k).active) ≡ false
-unfolding some every tally has pack those common count breaks breaksSome any atKey
+seniors-kept : some 64 (λ k. breaks_some (model_of seniors_sections).dsd ((model_of seniors_sections).sessions k).active) ≡ false
+unfolding some every tally has pack those common count breaks breaks_some any atKey
 seniors-kept = refl
 
-pub seniors-active : (m : Model) → FileOf m (bytesIn seniorsFile) → some 64 (λ k. breaksSome m.dsd (m.sessions k).active) ≡ false
-seniors-active m x = subst (λ (y : Model). some 64 (λ k. breaksSome y.dsd (y.sessions k).active) ≡ false) (sym (seniors-one m x)) seniors-kept
+pub seniors-active : (m : Model) → FileOf m (bytes_in seniors_file) → some 64 (λ k. breaks_some m.dsd (m.sessions k).active) ≡ false
+seniors-active m x = subst (λ (y : Model). some 64 (λ k. breaks_some y.dsd (y.sessions k).active) ≡ false) (sym (seniors-one m x)) seniors-kept
 
-pub seniors-refused : (before : Model) (told : Told) → Loads before (bytesIn seniorsFile) told → told ≡ refused 11 before
-seniors-refused = load-refused seniorsSections seniors-form (bytesIn seniorsFile) seniors-written 11 seniors-broken (λ z. omega arith)
+pub seniors-refused : (before : Model) (told : Told) → Loads before (bytes_in seniors_file) told → told ≡ refused 11 before
+seniors-refused = load-refused seniors_sections seniors-form (bytes_in seniors_file) seniors-written 11 seniors-broken (λ z. omega arith)

@@ -2,12 +2,12 @@
 use Rattle.model.specs.Model.{empty}
 use Rattle.sound.proofs.Empty.{empty-sound}
 use Rattle.policyfile.proofs.Laws.{empty-file}
-use Rattle.filetables.specs.Rows.{bytesIn}
-use Rattle.filetables.specs.PolicyBytes.{emptyFile, PolicyBytes}
+use Rattle.filetables.specs.Rows.{bytes_in}
+use Rattle.filetables.specs.PolicyBytes.{empty_file, PolicyBytes}
 use Rattle.filetables.proofs.Saved.{file-is}
 use Rattle.filetables.proofs.Bench.{bench-file}
 use Rattle.filetables.proofs.Mixed.{mixed-file, mixed-loaded, wide-file, wide-number, wide-refused, seniors-file, seniors-says, seniors-active, seniors-refused}
 
 -- the files, byte by byte
 pub policy-bytes : PolicyBytes
-policy-bytes = record { empty-file = file-is empty empty-sound (bytesIn emptyFile) empty-file; bench-file = bench-file; mixed-file = mixed-file; mixed-loaded = mixed-loaded; wide-file = wide-file; wide-number = wide-number; wide-refused = wide-refused; seniors-file = seniors-file; seniors-says = seniors-says; seniors-active = seniors-active; seniors-refused = seniors-refused }
+policy-bytes = record { empty_file = file-is empty empty-sound (bytes_in empty_file) empty-file; bench_file = bench-file; mixed_file = mixed-file; mixed_loaded = mixed-loaded; wide_file = wide-file; wide_number = wide-number; wide_refused = wide-refused; seniors_file = seniors-file; seniors_says = seniors-says; seniors_active = seniors-active; seniors_refused = seniors-refused }

@@ -3,20 +3,20 @@
 use Rattle.std.specs.Prelude.{true, false, List, [], ◌∷◌, ◌++◌, ◌≡◌, ℕ, ◌≤◌, ◌<◌, length, drop}
 use Rattle.roleset.specs.Bounded.{some}
 use Rattle.model.specs.Model.{Model, empty}
-use Rattle.model.specs.Words.{breaksSome}
+use Rattle.model.specs.Words.{breaks_some}
 use Rattle.model.specs.Sheet.{Told, done, refused}
 use Rattle.policyform.specs.Form.{FileOf}
 use Rattle.policyform.specs.Promises.{Saves, Loads}
-use Rattle.benchsheet.specs.Lines.{atTheBench}
+use Rattle.benchsheet.specs.Lines.{at_the_bench}
 use Rattle.demands.specs.Reachable.{Reachable}
 use Rattle.filebytes.specs.Sections.{Sections}
 use Rattle.filebytes.specs.Meaning.{Says}
-use Rattle.filetables.specs.Rows.{Row, ◌⇒◌, bytesIn}
+use Rattle.filetables.specs.Rows.{Row, ◌⇒◌, bytes_in}
 
 -- ---- the paper's bench policy: the one after the first ten lines of its example
 
-abbrev pub benchFile : List Row
-benchFile =
+abbrev pub bench_file : List Row
+bench_file =
     "1 user" ⇒ (1 ∷ 0 ∷ [])
     ∷ "user 7" ⇒ (7 ∷ 0 ∷ [])
     ∷ "3 roles" ⇒ (3 ∷ 0 ∷ [])
@@ -36,8 +36,8 @@ benchFile =
 
 -- ---- a policy with several entries in the sections, so that their order shows
 
-abbrev pub mixedSections : Sections
-mixedSections =
+abbrev pub mixed_sections : Sections
+mixed_sections =
     record {
       users = 7 ∷ 200 ∷ [];
       roles = 0 ∷ 1 ∷ 2 ∷ 3 ∷ 63 ∷ [];
@@ -49,8 +49,8 @@ mixedSections =
       sessions = record { number = 0; owner = 200; active = 2 ∷ [] } ∷ record { number = 1; owner = 7; active = 0 ∷ 2 ∷ [] } ∷ [];
     }
 
-abbrev pub mixedFile : List Row
-mixedFile =
+abbrev pub mixed_file : List Row
+mixed_file =
     "2 users" ⇒ (2 ∷ 0 ∷ [])
     ∷ "user 7" ⇒ (7 ∷ 0 ∷ [])
     ∷ "user 200" ⇒ (200 ∷ 0 ∷ [])
@@ -82,8 +82,8 @@ mixedFile =
 
 -- ---- a file with a number above 255, which only a cardinality and a count can be: it is of the form, and its load is refused with 7
 
-abbrev pub wideFile : List Row
-wideFile =
+abbrev pub wide_file : List Row
+wide_file =
     "no user" ⇒ (0 ∷ 0 ∷ [])
     ∷ "1 role" ⇒ (1 ∷ 0 ∷ [])
     ∷ "role 6" ⇒ (6 ∷ 0 ∷ [])
@@ -98,8 +98,8 @@ wideFile =
 
 -- ---- a file that an engine before request 2 could save: a session has two seniors active, and through them both roles of a dynamic set effective
 
-abbrev pub seniorsSections : Sections
-seniorsSections =
+abbrev pub seniors_sections : Sections
+seniors_sections =
     record {
       users = 7 ∷ [];
       roles = 0 ∷ 1 ∷ 2 ∷ 3 ∷ [];
@@ -111,8 +111,8 @@ seniorsSections =
       sessions = record { number = 0; owner = 7; active = 2 ∷ 3 ∷ [] } ∷ [];
     }
 
-abbrev pub seniorsFile : List Row
-seniorsFile =
+abbrev pub seniors_file : List Row
+seniors_file =
     "1 user" ⇒ (1 ∷ 0 ∷ [])
     ∷ "user 7" ⇒ (7 ∷ 0 ∷ [])
     ∷ "4 roles" ⇒ (4 ∷ 0 ∷ [])
@@ -136,8 +136,8 @@ seniorsFile =
 -- ---- what is saved and loaded
 
 -- P12: "the empty policy saved" is "sixteen zero bytes"
-abbrev pub emptyFile : List Row
-emptyFile = "sixteen zero bytes" ⇒ (0 ∷ 0 ∷ 0 ∷ 0 ∷ 0 ∷ 0 ∷ 0 ∷ 0 ∷ 0 ∷ 0 ∷ 0 ∷ 0 ∷ 0 ∷ 0 ∷ 0 ∷ 0 ∷ []) ∷ []
+abbrev pub empty_file : List Row
+empty_file = "sixteen zero bytes" ⇒ (0 ∷ 0 ∷ 0 ∷ 0 ∷ 0 ∷ 0 ∷ 0 ∷ 0 ∷ 0 ∷ 0 ∷ 0 ∷ 0 ∷ 0 ∷ 0 ∷ 0 ∷ 0 ∷ []) ∷ []
 
 -- Saving the policy into a buffer that has room for these bytes answers 0 and their number; they stand at the front, and past them is what was
 -- there before.
@@ -160,19 +160,19 @@ pub record FileIs (m : Model) (bytes : List ℕ) : Type 0 where
 
 pub record PolicyBytes : Type 0 where
   -- P12: the empty policy saved is sixteen zero bytes.
-  pub empty-file : FileIs empty (bytesIn emptyFile)
+  pub empty_file : FileIs empty (bytes_in empty_file)
   -- The bench policy has the first table as its file.
-  pub bench-file : FileIs atTheBench (bytesIn benchFile)
+  pub bench_file : FileIs at_the_bench (bytes_in bench_file)
   -- A policy of ours that holds what the sections above list has the second table as its file, and loading that gives such a policy.
-  pub mixed-file : (m : Model) → Reachable m → Says mixedSections m → FileIs m (bytesIn mixedFile)
-  pub mixed-loaded : (before : Model) (told : Told) → Loads before (bytesIn mixedFile) told → (told.answer ≡ 0) × Says mixedSections told.after
+  pub mixed_file : (m : Model) → Reachable m → Says mixed_sections m → FileIs m (bytes_in mixed_file)
+  pub mixed_loaded : (before : Model) (told : Told) → Loads before (bytes_in mixed_file) told → (told.answer ≡ 0) × Says mixed_sections told.after
   -- The third table is a file, and only of a policy whose static set 3 has the cardinality 258. Loading it is refused with 7, and nothing changes.
-  pub wide-file : (m : Model) × FileOf m (bytesIn wideFile)
-  pub wide-number : (m : Model) → FileOf m (bytesIn wideFile) → ((m.ssd 3).there ≡ true) × ((m.ssd 3).card ≡ 258)
-  pub wide-refused : (before : Model) (told : Told) → Loads before (bytesIn wideFile) told → told ≡ refused 7 before
+  pub wide_file : (m : Model) × FileOf m (bytes_in wide_file)
+  pub wide_number : (m : Model) → FileOf m (bytes_in wide_file) → ((m.ssd 3).there ≡ true) × ((m.ssd 3).card ≡ 258)
+  pub wide_refused : (before : Model) (told : Told) → Loads before (bytes_in wide_file) told → told ≡ refused 7 before
   -- The fourth is the file of a policy that holds what its sections list; by the rule over active roles alone no session of it breaks a dynamic set.
   -- Loading it is refused with 11, and nothing changes.
-  pub seniors-file : (m : Model) × FileOf m (bytesIn seniorsFile)
-  pub seniors-says : (m : Model) → FileOf m (bytesIn seniorsFile) → Says seniorsSections m
-  pub seniors-active : (m : Model) → FileOf m (bytesIn seniorsFile) → some 64 (λ k. breaksSome m.dsd (m.sessions k).active) ≡ false
-  pub seniors-refused : (before : Model) (told : Told) → Loads before (bytesIn seniorsFile) told → told ≡ refused 11 before
+  pub seniors_file : (m : Model) × FileOf m (bytes_in seniors_file)
+  pub seniors_says : (m : Model) → FileOf m (bytes_in seniors_file) → Says seniors_sections m
+  pub seniors_active : (m : Model) → FileOf m (bytes_in seniors_file) → some 64 (λ k. breaks_some m.dsd (m.sessions k).active) ≡ false
+  pub seniors_refused : (before : Model) (told : Told) → Loads before (bytes_in seniors_file) told → told ≡ refused 11 before

@@ -8,6 +8,6 @@ pub data Row : Type 0 where
   ◌⇒◌ : String → List ℕ → Row
 
 -- The bytes of all rows, one after another.
-abbrev pub bytesIn : List Row → List ℕ
-bytesIn [] = []
-bytesIn ((words ⇒ bytes) ∷ rest) = bytes ++ bytesIn rest
+abbrev pub bytes_in : List Row → List ℕ
+bytes_in [] = []
+bytes_in ((words ⇒ bytes) ∷ rest) = bytes ++ bytes_in rest

@@ -1,1 +1,2 @@
 // Policy files byte by byte beside their meaning: the tables in specs/, proved in proofs/. No code.
+#![tactic(auto)]

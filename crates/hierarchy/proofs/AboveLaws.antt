@@ -8,7 +8,7 @@ use Rattle.roleset.proofs.BoundedLaws.{and_left, and_right, and_both, not_yes, y
 use Rattle.roleset.proofs.Laws.{has-those, those-member, has-common, is_empty_false}
 use Rattle.hierarchy.specs.Lines.{line, Inherits, Small, AtOrAbove}
 use Rattle.hierarchy.specs.Lines.Inherits.{one, more}
-use Rattle.hierarchy.specs.Walks.{reach, turned, atOrAbove, ReachesUp}
+use Rattle.hierarchy.specs.Walks.{reach, turned, at_or_above, ReachesUp}
 use Rattle.hierarchy.proofs.InheritsLaws.{trans}
 use Rattle.hierarchy.proofs.WalkLaws.{not-empty, reach-sound, reach-complete, under_one, one-under}
 
@@ -23,20 +23,20 @@ unfolding turned
 turned-line lines s j h = (those-member (λ s. line lines s j) s h).1
 
 module _ (lines : ℕ → ℕ) (small : Small lines) where
-  line-turns : (s j : ℕ) → line lines s j ≡ true → line (turned lines) j s ≡ true
+  line_turns : (s j : ℕ) → line lines s j ≡ true → line (turned lines) j s ≡ true
   line-turns s j h = line-turned lines s j (small.within s j h).0 ∙ h
 
   -- The turned lines join roles 0 to 63 too.
-  pub turned-within : Small (turned lines)
-  turned-within = record { within = λ j s h. let l = small.within s j (turned-line lines s j h) in (l.1, l.0) }
+  pub turned_within : Small (turned lines)
+  turned_within = record { within = λ j s h. let l = small.within s j (turned-line lines s j h) in (l.1, l.0) }
 
   -- Over the turned lines a role inherits what inherits it over the lines.
-  pub turn-inherits : {s j : ℕ} → Inherits lines s j → Inherits (turned lines) j s
+  pub turn_inherits : {s j : ℕ} → Inherits lines s j → Inherits (turned lines) j s
   turn-inherits {s} {j} (one p) = one (line-turns s j p)
   turn-inherits {s} (more {k = k} p i) = trans (turn-inherits i) (one (line-turns s k p))
 
   -- It inherits nothing else there.
-  pub turned-inherits : {s j : ℕ} → Inherits (turned lines) j s → Inherits lines s j
+  pub turned_inherits : {s j : ℕ} → Inherits (turned lines) j s → Inherits lines s j
   turned-inherits {s} {j} (one p) = one (turned-line lines s j p)
   turned-inherits {s} {j} (more {k = k} p i) = trans (turned-inherits i) (one (turned-line lines k j p))
 
@@ -44,26 +44,26 @@ module _ (lines : ℕ → ℕ) (small : Small lines) where
   turn_at (inl e) = inl (sym e)
   turn_at (inr i) = inr (turn-inherits i)
 
-  turned-at : {s j : ℕ} → AtOrAbove (turned lines) j s → AtOrAbove lines s j
+  turned_at : {s j : ℕ} → AtOrAbove (turned lines) j s → AtOrAbove lines s j
   turned-at (inl e) = inl (sym e)
   turned-at (inr i) = inr (turned-inherits i)
 
   -- The roles at or above r are r itself and roles that inherit it,
-  pub above-sound : (r s : ℕ) → has (atOrAbove lines r) s ≡ true → AtOrAbove lines s r
-  unfolding atOrAbove
+  pub above_sound : (r s : ℕ) → has (at_or_above lines r) s ≡ true → AtOrAbove lines s r
+  unfolding at_or_above
   above-sound r s h = turned-at (under_one r s (reach-sound (turned lines) (with none r) s h))
 
   -- and all of these, with a circle or without.
-  pub above-complete : (r s : ℕ) → r < 64 → AtOrAbove lines s r → has (atOrAbove lines r) s ≡ true
-  unfolding atOrAbove
+  pub above_complete : (r s : ℕ) → r < 64 → AtOrAbove lines s r → has (at_or_above lines r) s ≡ true
+  unfolding at_or_above
   above-complete r s l a = reach-complete (turned lines) (with none r) turned-within s (one-under r s l (turn_at a))
 
   -- A walk from a set meets r exactly where the set and the roles at or above r have a role in common.
-  pub reach-above : (from r : ℕ) → r < 64 → has (reach lines from) r ≡ not (is_empty (common from (atOrAbove lines r)))
+  pub reach_above : (from r : ℕ) → r < 64 → has (reach lines from) r ≡ not (is_empty (common from (at_or_above lines r)))
   reach-above from r l = agree (has (reach lines from) r) (not (is_empty shared)) to back
     where
       above : ℕ
-      above = atOrAbove lines r
+      above = at_or_above lines r
 
       shared : ℕ
       shared = common from above
@@ -80,5 +80,5 @@ module _ (lines : ℕ → ℕ) (small : Small lines) where
           reach-complete lines from small r (record { role = m.0; small = m.1; member = and_left (has from m.0) (has above m.0) p; down = above-sound r m.0 (and_right (has from m.0) (has above m.0) p) })
 
 -- So the walk upwards is what it is to hand back.
-pub above-reaches : (lines : ℕ → ℕ) (r set : ℕ) → set ≡ atOrAbove lines r → ReachesUp lines r set
+pub above-reaches : (lines : ℕ → ℕ) (r set : ℕ) → set ≡ at_or_above lines r → ReachesUp lines r set
 above-reaches lines r set e = record { is = e; exactly = λ small l s. (λ h. above-sound lines small r s (rw e at h), λ a. rw e (above-complete lines small r s l a)) }

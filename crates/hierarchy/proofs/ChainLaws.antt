@@ -7,27 +7,27 @@ use Rattle.roleset.proofs.BoundedLaws.{clash}
 use Rattle.roleset.proofs.Laws.{is_empty_false}
 use Rattle.hierarchy.specs.Lines.{line, Chain, Small}
 use Rattle.hierarchy.specs.Lines.Chain.{alone, down}
-use Rattle.hierarchy.specs.Walks.{juniorsOf, longerChain}
+use Rattle.hierarchy.specs.Walks.{juniors_of, longer_chain}
 use Rattle.hierarchy.proofs.WalkLaws.{not-empty, junior-of, of-junior}
 
 module _ (lines : ℕ → ℕ) where
   -- ---- case by case
 
   -- no chain starts in an empty front
-  pub longer-empty : (n front : ℕ) → is_empty front ≡ true → longerChain lines n front ≡ false
-  unfolding longerChain
+  pub longer_empty : (n front : ℕ) → is_empty front ≡ true → longer_chain lines n front ≡ false
+  unfolding longer_chain
   longer-empty zero front e = rw e
-  longer-empty (suc n) front e = rw (e, longerChain)
+  longer-empty (suc n) front e = rw (e, longer_chain)
 
   -- with no role allowed, any role is a longer one
-  pub longer-stopped : (front : ℕ) → is_empty front ≡ false → longerChain lines 0 front ≡ true
-  unfolding longerChain
+  pub longer_stopped : (front : ℕ) → is_empty front ≡ false → longer_chain lines 0 front ≡ true
+  unfolding longer_chain
   longer-stopped front e = rw e
 
   -- else it is asked of the front's juniors, with one role fewer allowed
-  pub longer-on : (n front : ℕ) → is_empty front ≡ false → longerChain lines (suc n) front ≡ longerChain lines n (juniorsOf lines front)
-  unfolding longerChain
-  longer-on n front e = rw (e, longerChain)
+  pub longer_on : (n front : ℕ) → is_empty front ≡ false → longer_chain lines (suc n) front ≡ longer_chain lines n (juniors_of lines front)
+  unfolding longer_chain
+  longer-on n front e = rw (e, longer_chain)
 
   -- ---- runs
 
@@ -43,11 +43,11 @@ module _ (lines : ℕ → ℕ) where
     pub member : has front role ≡ true
     pub run : Run n role
 
-  longer-nothing : (n front : ℕ) → is_empty front ≡ true → longerChain lines n front ≡ true → RunFrom (suc n) front
+  longer_nothing : (n front : ℕ) → is_empty front ≡ true → longer_chain lines n front ≡ true → RunFrom (suc n) front
   longer-nothing n front e h = clash false (rw (longer-empty n front e) at h) refl
 
   -- Where the answer is yes, a run of more roles than were allowed starts in the front.
-  pub longer-run : (n front : ℕ) → longerChain lines n front ≡ true → RunFrom (suc n) front
+  pub longer_run : (n front : ℕ) → longer_chain lines n front ≡ true → RunFrom (suc n) front
   longer-run zero front h = go (is_empty front) refl
     where
       go : (b : Bool) → is_empty front ≡ b → RunFrom 1 front
@@ -55,9 +55,9 @@ module _ (lines : ℕ → ℕ) where
       go false e =
           let m = is_empty_false front e in
           record { role = m.0; small = m.1; member = m.2; run = stay }
-  longer-run (suc n) front h = go (is_empty front) refl (longer-run n (juniorsOf lines front))
+  longer-run (suc n) front h = go (is_empty front) refl (longer-run n (juniors_of lines front))
     where
-      go : (b : Bool) → is_empty front ≡ b → (longerChain lines n (juniorsOf lines front) ≡ true → RunFrom (suc n) (juniorsOf lines front)) → RunFrom (suc (suc n)) front
+      go : (b : Bool) → is_empty front ≡ b → (longer_chain lines n (juniors_of lines front) ≡ true → RunFrom (suc n) (juniors_of lines front)) → RunFrom (suc (suc n)) front
       go true e ih = longer-nothing (suc n) front e h
       go false e ih =
           let f = ih (rw (longer-on n front e) at h) in
@@ -65,9 +65,9 @@ module _ (lines : ℕ → ℕ) where
           record { role = o.1.0; small = o.1.1; member = o.1.2; run = go_on o.1.3 f.small f.run }
 
   -- Where such a run starts in the front, the answer is yes.
-  pub run-longer : (n front s : ℕ) → s < 64 → has front s ≡ true → Run (suc n) s → longerChain lines n front ≡ true
+  pub run_longer : (n front s : ℕ) → s < 64 → has front s ≡ true → Run (suc n) s → longer_chain lines n front ≡ true
   run-longer zero front s l h c = rw (longer-stopped front (not-empty front s l h))
-  run-longer (suc n) front s l h (go_on {k = k} p lk c) = rw (longer-on n front (not-empty front s l h)) (run-longer n (juniorsOf lines front) k lk (junior-of lines front s k l lk h p) c)
+  run-longer (suc n) front s l h (go_on {k = k} p lk c) = rw (longer-on n front (not-empty front s l h)) (run-longer n (juniors_of lines front) k lk (junior-of lines front s k l lk h p) c)
 
   -- Over lines between roles 0 to 63 every chain is a run.
   pub chain_run : Small lines → {n s : ℕ} → Chain lines n s → Run n s

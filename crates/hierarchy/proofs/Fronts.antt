@@ -11,49 +11,49 @@ use Rattle.roleset.specs.Roles.{has, without, union, is_empty}
 use Rattle.roleset.proofs.BoundedLaws.{clash, and_left, and_both, or_left, or_right, or_cases, not_yes, agree, never}
 use Rattle.roleset.proofs.Laws.{those-small, has-none, has-union, has-without, union-small, ext}
 use Rattle.hierarchy.specs.Lines.{line}
-use Rattle.hierarchy.specs.Walks.{juniorsOf, walk, longerChain}
+use Rattle.hierarchy.specs.Walks.{juniors_of, walk, longer_chain}
 use Rattle.hierarchy.proofs.WalkLaws.{junior-of, of-junior, walk-on, walk-small}
 use Rattle.hierarchy.proofs.ChainLaws.{longer-on}
 
 module _ (lines : ℕ → ℕ) where
-  pub juniors-small : (front : ℕ) → juniorsOf lines front < 2 ^ 64
-  unfolding juniorsOf
+  pub juniors_small : (front : ℕ) → juniors_of lines front < 2 ^ 64
+  unfolding juniors_of
   juniors-small front = those-small (λ j. some 64 (λ s. has front s && line lines s j))
 
   module _ (rest s : ℕ) (l : s < 64) (h : has rest s ≡ true) where
     -- the juniors of a front are those of one of its roles and those of the others
-    juniors-split : (k : ℕ) → k < 64 → has (juniorsOf lines rest) k ≡ (has (lines s) k || has (juniorsOf lines (without rest s)) k)
-    juniors-split k lk = agree (has (juniorsOf lines rest) k) (has (lines s) k || has (juniorsOf lines (without rest s)) k) (λ p. to (of-junior lines rest k p).1) (λ p. back (or_cases (has (lines s) k) (has (juniorsOf lines (without rest s)) k) p))
+    juniors_split : (k : ℕ) → k < 64 → has (juniors_of lines rest) k ≡ (has (lines s) k || has (juniors_of lines (without rest s)) k)
+    juniors-split k lk = agree (has (juniors_of lines rest) k) (has (lines s) k || has (juniors_of lines (without rest s)) k) (λ p. to (of-junior lines rest k p).1) (λ p. back (or_cases (has (lines s) k) (has (juniors_of lines (without rest s)) k) p))
       where
-        to : (t : ℕ) × (t < 64) × (has rest t ≡ true) × (line lines t k ≡ true) → (has (lines s) k || has (juniorsOf lines (without rest s)) k) ≡ true
+        to : (t : ℕ) × (t < 64) × (has rest t ≡ true) × (line lines t k ≡ true) → (has (lines s) k || has (juniors_of lines (without rest s)) k) ≡ true
         to m = go (eqb m.0 s) refl
           where
-            go : (b : Bool) → eqb m.0 s ≡ b → (has (lines s) k || has (juniorsOf lines (without rest s)) k) ≡ true
-            go true e = or_left (has (lines s) k) (has (juniorsOf lines (without rest s)) k) (subst (λ (x : ℕ). has (lines x) k ≡ true) (eqb-true m.0 s e) m.3)
-            go false e = or_right (has (lines s) k) (has (juniorsOf lines (without rest s)) k) (junior-of lines (without rest s) m.0 k m.1 lk (has-without rest s m.0 m.1 ∙ and_both (has rest m.0) (not (eqb m.0 s)) m.2 (not_yes (eqb m.0 s) e)) m.3)
+            go : (b : Bool) → eqb m.0 s ≡ b → (has (lines s) k || has (juniors_of lines (without rest s)) k) ≡ true
+            go true e = or_left (has (lines s) k) (has (juniors_of lines (without rest s)) k) (subst (λ (x : ℕ). has (lines x) k ≡ true) (eqb-true m.0 s e) m.3)
+            go false e = or_right (has (lines s) k) (has (juniors_of lines (without rest s)) k) (junior-of lines (without rest s) m.0 k m.1 lk (has-without rest s m.0 m.1 ∙ and_both (has rest m.0) (not (eqb m.0 s)) m.2 (not_yes (eqb m.0 s) e)) m.3)
 
-        back : (has (lines s) k ≡ true) ⊎ (has (juniorsOf lines (without rest s)) k ≡ true) → has (juniorsOf lines rest) k ≡ true
+        back : (has (lines s) k ≡ true) ⊎ (has (juniors_of lines (without rest s)) k ≡ true) → has (juniors_of lines rest) k ≡ true
         back (inl p) = junior-of lines rest s k l lk h p
         back (inr p) =
             let m = (of-junior lines (without rest s) k p).1 in
             junior-of lines rest m.0 k m.1 lk (and_left (has rest m.0) (not (eqb m.0 s)) (sym (has-without rest s m.0 m.1) ∙ m.2)) m.3
 
     -- What is met so far joined to what is still to come stays the same when one role's juniors are met and the role is dropped.
-    pub juniors-step : (met : ℕ) → union (union met (lines s)) (juniorsOf lines (without rest s)) ≡ union met (juniorsOf lines rest)
-    juniors-step met = ext (union (union met (lines s)) others) (union met (juniorsOf lines rest)) (union-small (union met (lines s)) others) (union-small met (juniorsOf lines rest)) (λ k lk. rw (has-union (union met (lines s)) others k lk, has-union met (lines s) k lk, has-union met (juniorsOf lines rest) k lk, juniors-split k lk) (or_assoc (has met k) (has (lines s) k) (has others k)))
+    pub juniors_step : (met : ℕ) → union (union met (lines s)) (juniors_of lines (without rest s)) ≡ union met (juniors_of lines rest)
+    juniors-step met = ext (union (union met (lines s)) others) (union met (juniors_of lines rest)) (union-small (union met (lines s)) others) (union-small met (juniors_of lines rest)) (λ k lk. rw (has-union (union met (lines s)) others k lk, has-union met (lines s) k lk, has-union met (juniors_of lines rest) k lk, juniors-split k lk) (or_assoc (has met k) (has (lines s) k) (has others k)))
       where
         others : ℕ
-        others = juniorsOf lines (without rest s)
+        others = juniors_of lines (without rest s)
 
   -- Of no role there are no juniors.
-  pub juniors-none : (k : ℕ) → has (juniorsOf lines 0) k ≡ false
-  juniors-none k = never (has (juniorsOf lines 0) k) (λ p. let m = (of-junior lines 0 k p).1 in clash (has 0 m.0) m.2 (has-none m.0))
+  pub juniors_none : (k : ℕ) → has (juniors_of lines 0) k ≡ false
+  juniors-none k = never (has (juniors_of lines 0) k) (λ p. let m = (of-junior lines 0 k p).1 in clash (has 0 m.0) m.2 (has-none m.0))
 
-  pub juniors-begin : (front : ℕ) → union 0 (juniorsOf lines front) ≡ juniorsOf lines front
-  juniors-begin front = ext (union 0 (juniorsOf lines front)) (juniorsOf lines front) (union-small 0 (juniorsOf lines front)) (juniors-small front) (λ k lk. rw (has-union 0 (juniorsOf lines front) k lk, has-none k))
+  pub juniors_begin : (front : ℕ) → union 0 (juniors_of lines front) ≡ juniors_of lines front
+  juniors-begin front = ext (union 0 (juniors_of lines front)) (juniors_of lines front) (union-small 0 (juniors_of lines front)) (juniors-small front) (λ k lk. rw (has-union 0 (juniors_of lines front) k lk, has-none k))
 
-  pub juniors-end : (met : ℕ) → met < 2 ^ 64 → union met (juniorsOf lines 0) ≡ met
-  juniors-end met l = ext (union met (juniorsOf lines 0)) met (union-small met (juniorsOf lines 0)) l (λ k lk. rw (has-union met (juniorsOf lines 0) k lk, juniors-none k) (or-false (has met k)))
+  pub juniors_end : (met : ℕ) → met < 2 ^ 64 → union met (juniors_of lines 0) ≡ met
+  juniors-end met l = ext (union met (juniors_of lines 0)) met (union-small met (juniors_of lines 0)) l (λ k lk. rw (has-union met (juniors_of lines 0) k lk, juniors-none k) (or-false (has met k)))
 
 -- no roles joined to what is met change nothing
 pub union-none : (met : ℕ) → met < 2 ^ 64 → union met 0 ≡ met
@@ -63,18 +63,18 @@ union_assoc : (a b c : ℕ) → union (union a b) c ≡ union a (union b c)
 union_assoc a b c = ext (union (union a b) c) (union a (union b c)) (union-small (union a b) c) (union-small a (union b c)) (λ k lk. rw (has-union (union a b) c k lk, has-union a b k lk, has-union a (union b c) k lk, has-union b c k lk) (or_assoc (has a k) (has b k) (has c k)))
 
 -- a front that is not empty joins what is met, and then the walk from its juniors with one role fewer allowed
-pub walk_step : (lines : ℕ → ℕ) (allowed front next met more last : ℕ) → (allowed ≡ 0 → ⊥) → is_empty front ≡ false → next ≡ juniorsOf lines front → more ≡ union met front → last ≡ union more (walk lines (allowed - 1) next) → last ≡ union met (walk lines allowed front)
+pub walk_step : (lines : ℕ → ℕ) (allowed front next met more last : ℕ) → (allowed ≡ 0 → ⊥) → is_empty front ≡ false → next ≡ juniors_of lines front → more ≡ union met front → last ≡ union more (walk lines (allowed - 1) next) → last ≡ union met (walk lines allowed front)
 walk_step lines zero front next met more last n e p s q = absurd (n refl)
 walk_step lines (suc m) front next met more last n e p s q =
     let same : suc m - 1 ≡ m = omega arith in
-    q ∙ rw (s, p, same, walk-on lines m front e) (union_assoc met front (walk lines m (juniorsOf lines front)))
+    q ∙ rw (s, p, same, walk-on lines m front e) (union_assoc met front (walk lines m (juniors_of lines front)))
 
 -- what a walk from a front adds to no roles is the walk
 pub walk-begun : (lines : ℕ → ℕ) (n front : ℕ) → union 0 (walk lines n front) ≡ walk lines n front
 walk-begun lines n front = ext (union 0 (walk lines n front)) (walk lines n front) (union-small 0 (walk lines n front)) (walk-small lines n front) (λ k lk. rw (has-union 0 (walk lines n front) k lk, has-none k))
 
 -- a longer chain starts in a front that is not empty where one starts at its juniors, with one role fewer allowed
-pub longer-step : (lines : ℕ → ℕ) (allowed front next : ℕ) (found : Bool) → (allowed ≡ 0 → ⊥) → is_empty front ≡ false → next ≡ juniorsOf lines front → found ≡ longerChain lines (allowed - 1) next → found ≡ longerChain lines allowed front
+pub longer-step : (lines : ℕ → ℕ) (allowed front next : ℕ) (found : Bool) → (allowed ≡ 0 → ⊥) → is_empty front ≡ false → next ≡ juniors_of lines front → found ≡ longer_chain lines (allowed - 1) next → found ≡ longer_chain lines allowed front
 longer-step lines zero front next found n e p q = absurd (n refl)
 longer-step lines (suc m) front next found n e p q =
     let same : suc m - 1 ≡ m = omega arith in

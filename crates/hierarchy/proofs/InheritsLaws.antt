@@ -50,7 +50,7 @@ remove-acyclic f h = record { never = λ r p. h.never r (inherits-grows f p) }
 
 module _ {lines lines' : ℕ → ℕ} {s j : ℕ} (added : (a b : ℕ) → line lines' a b ≡ true → (line lines a b ≡ true) ⊎ ((a ≡ s) × (b ≡ j))) where
   -- With the line (s, j) added, a role inherits what it did before; or it is s or above s, and inherits j or what j does.
-  pub added-inherits : {a b : ℕ} → Inherits lines' a b → Inherits lines a b ⊎ (AtOrAbove lines a s × AtOrAbove lines j b)
+  pub added_inherits : {a b : ℕ} → Inherits lines' a b → Inherits lines a b ⊎ (AtOrAbove lines a s × AtOrAbove lines j b)
   added-inherits {a} {b} (one l) = first (added a b l)
     where
       first : (line lines a b ≡ true) ⊎ ((a ≡ s) × (b ≡ j)) → Inherits lines a b ⊎ (AtOrAbove lines a s × AtOrAbove lines j b)
@@ -65,7 +65,7 @@ module _ {lines lines' : ℕ → ℕ} {s j : ℕ} (added : (a b : ℕ) → line 
       first (inr new) (inr q) = inr (inl new.0, q.1)
 
   -- A line added between two roles, of which the junior neither is nor inherits the senior, makes no circle.
-  pub add-acyclic : (AtOrAbove lines j s → ⊥) → Acyclic lines → Acyclic lines'
+  pub add_acyclic : (AtOrAbove lines j s → ⊥) → Acyclic lines → Acyclic lines'
   add-acyclic not-above h = record { never = λ r p. go r (added-inherits p) }
     where
       go : (r : ℕ) → Inherits lines r r ⊎ (AtOrAbove lines r s × AtOrAbove lines j r) → ⊥

@@ -9,10 +9,10 @@ use borrow.Author.Tests.{eqb-true, eq-eqb}
 use Rattle.roleset.specs.Bounded.{some}
 use Rattle.roleset.specs.Roles.{has, none, with, union, is_empty}
 use Rattle.roleset.proofs.BoundedLaws.{clash, and_left, and_right, and_both, or_left, or_right, or_cases, agree, never, some-intro, some-elim}
-use Rattle.roleset.proofs.Laws.{has-those, those-small, those-member, ext, has-none, has-with, has-union, isEmpty-true}
+use Rattle.roleset.proofs.Laws.{has-those, those-small, those-member, ext, has-none, has-with, has-union, is_empty-true}
 use Rattle.hierarchy.specs.Lines.{line, Small, AtOrAbove, Under}
 use Rattle.hierarchy.specs.Lines.Inherits.{one}
-use Rattle.hierarchy.specs.Walks.{juniorsOf, walk, reach, Reaches}
+use Rattle.hierarchy.specs.Walks.{juniors_of, walk, reach, Reaches}
 use Rattle.hierarchy.proofs.InheritsLaws.{above-trans}
 use Rattle.hierarchy.proofs.Ways.{Met, here, next, met-in-64}
 
@@ -34,17 +34,17 @@ union_right a b k l h = has-union a b k l ∙ or_right (has a k) (has b k) h
 
 -- a set with a member is not empty
 pub not-empty : (s k : ℕ) → k < 64 → has s k ≡ true → is_empty s ≡ false
-not-empty s k l h = never (is_empty s) (λ e. clash (has s k) h (isEmpty-true s e k l))
+not-empty s k l h = never (is_empty s) (λ e. clash (has s k) h (is_empty-true s e k l))
 
 module _ (lines : ℕ → ℕ) where
   -- The roles to which a line leads from a role of the front are its juniors.
-  pub junior-of : (front s j : ℕ) → s < 64 → j < 64 → has front s ≡ true → line lines s j ≡ true → has (juniorsOf lines front) j ≡ true
-  unfolding juniorsOf
+  pub junior_of : (front s j : ℕ) → s < 64 → j < 64 → has front s ≡ true → line lines s j ≡ true → has (juniors_of lines front) j ≡ true
+  unfolding juniors_of
   junior-of front s j ls lj h l = has-those (λ j. some 64 (λ s. has front s && line lines s j)) j lj ∙ some-intro 64 (λ s. has front s && line lines s j) s ls (and_both (has front s) (line lines s j) h l)
 
   -- A junior of the front has a line from one of its roles.
-  pub of-junior : (front j : ℕ) → has (juniorsOf lines front) j ≡ true → (j < 64) × ((s : ℕ) × (s < 64) × (has front s ≡ true) × (line lines s j ≡ true))
-  unfolding juniorsOf
+  pub of_junior : (front j : ℕ) → has (juniors_of lines front) j ≡ true → (j < 64) × ((s : ℕ) × (s < 64) × (has front s ≡ true) × (line lines s j ≡ true))
+  unfolding juniors_of
   of-junior front j h =
       let m = those-member (λ j. some 64 (λ s. has front s && line lines s j)) j h in
       let t = some-elim 64 (λ s. has front s && line lines s j) m.1 in
@@ -53,18 +53,18 @@ module _ (lines : ℕ → ℕ) where
   -- ---- the walk, case by case
 
   -- a walk from no role meets none
-  pub walk-empty : (n front : ℕ) → is_empty front ≡ true → walk lines n front ≡ none
+  pub walk_empty : (n front : ℕ) → is_empty front ≡ true → walk lines n front ≡ none
   unfolding walk
   walk-empty zero front e = refl
   walk-empty (suc n) front e = rw (e, walk)
 
   -- with no role allowed, a walk meets none
-  pub walk-stopped : (front : ℕ) → walk lines 0 front ≡ none
+  pub walk_stopped : (front : ℕ) → walk lines 0 front ≡ none
   unfolding walk
   walk-stopped front = refl
 
   -- else the front is joined to the walk from its juniors, with one role fewer allowed
-  pub walk-on : (n front : ℕ) → is_empty front ≡ false → walk lines (suc n) front ≡ union front (walk lines n (juniorsOf lines front))
+  pub walk_on : (n front : ℕ) → is_empty front ≡ false → walk lines (suc n) front ≡ union front (walk lines n (juniors_of lines front))
   unfolding walk
   walk-on n front e = rw (e, walk)
 
@@ -80,72 +80,72 @@ module _ (lines : ℕ → ℕ) where
   found_nothing : (n front r : ℕ) → is_empty front ≡ true → has (walk lines n front) r ≡ true → MetFrom n front r
   found_nothing n front r e h = clash (has 0 r) (rw (walk-empty n front e) at h) (has-none r)
 
-  found-next : (n front r : ℕ) → r < 64 → (has front r ≡ true) ⊎ MetFrom n (juniorsOf lines front) r → MetFrom (suc n) front r
+  found_next : (n front r : ℕ) → r < 64 → (has front r ≡ true) ⊎ MetFrom n (juniors_of lines front) r → MetFrom (suc n) front r
   found-next n front r l (inl p) = record { role = r; small = l; member = p; met = here refl }
   found-next n front r l (inr f) =
       let o = of-junior front f.role f.member in
       record { role = o.1.0; small = o.1.1; member = o.1.2; met = next o.1.3 f.small f.met }
 
   -- The walk finds no role but those that it meets.
-  pub walk-found : (n front r : ℕ) → has (walk lines n front) r ≡ true → MetFrom n front r
+  pub walk_found : (n front r : ℕ) → has (walk lines n front) r ≡ true → MetFrom n front r
   walk-found zero front r h = clash (has 0 r) (rw (walk-stopped front) at h) (has-none r)
-  walk-found (suc n) front r h = go (is_empty front) refl (walk-found n (juniorsOf lines front) r)
+  walk-found (suc n) front r h = go (is_empty front) refl (walk-found n (juniors_of lines front) r)
     where
-      go : (b : Bool) → is_empty front ≡ b → (has (walk lines n (juniorsOf lines front)) r ≡ true → MetFrom n (juniorsOf lines front) r) → MetFrom (suc n) front r
+      go : (b : Bool) → is_empty front ≡ b → (has (walk lines n (juniors_of lines front)) r ≡ true → MetFrom n (juniors_of lines front) r) → MetFrom (suc n) front r
       go true e ih = found_nothing (suc n) front r e h
       go false e ih =
-          let m = union-member front (walk lines n (juniorsOf lines front)) r (rw (walk-on n front e) at h) in
+          let m = union-member front (walk lines n (juniors_of lines front)) r (rw (walk-on n front e) at h) in
           found-next n front r m.0 (⊎_elim (λ p. inl p) (λ p. inr (ih p)) m.1)
 
-  met-small : {n s r : ℕ} → s < 64 → Met lines n s r → r < 64
+  met_small : {n s r : ℕ} → s < 64 → Met lines n s r → r < 64
   met-small l (here e) = rw e at l
   met-small l (next p lk m) = met-small lk m
 
   -- The walk finds every role that it meets.
-  pub walk-finds : {n s r : ℕ} (front : ℕ) → s < 64 → has front s ≡ true → Met lines n s r → has (walk lines n front) r ≡ true
-  walk-finds {n = suc n} {s} {r} front l h (here e) = rw (walk-on n front (not-empty front s l h)) (union_left front (walk lines n (juniorsOf lines front)) r (rw e at l) (rw e at h))
-  walk-finds {n = suc n} {s} {r} front l h (next {k = k} p lk m) = rw (walk-on n front (not-empty front s l h)) (union_right front (walk lines n (juniorsOf lines front)) r (met-small lk m) (walk-finds (juniorsOf lines front) lk (junior-of front s k l lk h p) m))
+  pub walk_finds : {n s r : ℕ} (front : ℕ) → s < 64 → has front s ≡ true → Met lines n s r → has (walk lines n front) r ≡ true
+  walk-finds {n = suc n} {s} {r} front l h (here e) = rw (walk-on n front (not-empty front s l h)) (union_left front (walk lines n (juniors_of lines front)) r (rw e at l) (rw e at h))
+  walk-finds {n = suc n} {s} {r} front l h (next {k = k} p lk m) = rw (walk-on n front (not-empty front s l h)) (union_right front (walk lines n (juniors_of lines front)) r (met-small lk m) (walk-finds (juniors_of lines front) lk (junior-of front s k l lk h p) m))
 
-  met-at-or-above : {n s r : ℕ} → Met lines n s r → AtOrAbove lines s r
+  met_at_or_above : {n s r : ℕ} → Met lines n s r → AtOrAbove lines s r
   met-at-or-above (here e) = inl e
   met-at-or-above (next p lk m) = inr (above-trans (one p) (met-at-or-above m))
 
   -- The set of the roles met is a set of roles 0 to 63.
-  pub walk-small : (n front : ℕ) → walk lines n front < 2 ^ 64
+  pub walk_small : (n front : ℕ) → walk lines n front < 2 ^ 64
   unfolding walk union
   walk-small zero front = omega arith
   walk-small (suc n) front = go (is_empty front) refl
     where
       go : (b : Bool) → is_empty front ≡ b → walk lines (suc n) front < 2 ^ 64
       go true e = rw (walk-empty (suc n) front e) (omega arith)
-      go false e = rw (walk-on n front e) (those-small (λ k. has front k || has (walk lines n (juniorsOf lines front)) k))
+      go false e = rw (walk-on n front e) (those-small (λ k. has front k || has (walk lines n (juniors_of lines front)) k))
 
 -- ---- the walk from a set
 
 module _ (lines : ℕ → ℕ) (from : ℕ) where
   -- The roles of a walk are roles of the set it starts from, or inherited by one,
-  pub reach-sound : (r : ℕ) → has (reach lines from) r ≡ true → Under lines from r
+  pub reach_sound : (r : ℕ) → has (reach lines from) r ≡ true → Under lines from r
   unfolding reach
   reach-sound r h =
       let f = walk-found lines 64 from r h in
       record { role = f.role; small = f.small; member = f.member; down = met-at-or-above lines f.met }
 
   -- and all of these, with a circle or without.
-  pub reach-complete : Small lines → (r : ℕ) → Under lines from r → has (reach lines from) r ≡ true
+  pub reach_complete : Small lines → (r : ℕ) → Under lines from r → has (reach lines from) r ≡ true
   unfolding reach
   reach-complete small r u = walk-finds lines from u.small u.member (met-in-64 lines small u.small u.down)
 
   -- So the walk is what a walk is to hand back.
-  pub reach-reaches : (set : ℕ) → set ≡ reach lines from → Reaches lines from set
+  pub reach_reaches : (set : ℕ) → set ≡ reach lines from → Reaches lines from set
   reach-reaches set e = record { is = e; exactly = λ small r. (λ h. reach-sound r (rw e at h), λ u. rw e (reach-complete small r u)) }
 
   -- The roles met are a set of roles 0 to 63.
-  pub reach-small : reach lines from < 2 ^ 64
+  pub reach_small : reach lines from < 2 ^ 64
   unfolding reach
-  reach-small = walk-small lines 64 from
+  reach_small = walk-small lines 64 from
 
   -- The walk meets the roles that it starts from.
-  pub reach-from : (r : ℕ) → r < 64 → has from r ≡ true → has (reach lines from) r ≡ true
+  pub reach_from : (r : ℕ) → r < 64 → has from r ≡ true → has (reach lines from) r ≡ true
   unfolding reach
   reach-from r l h = walk-finds lines from l h (here refl)
 
@@ -170,12 +170,12 @@ one-under r k l a = record { role = r; small = l; member = has-with none r r l �
 -- ---- more lines, a larger start
 
 module _ (lines lines' : ℕ → ℕ) (grows : (s j : ℕ) → s < 64 → j < 64 → line lines s j ≡ true → line lines' s j ≡ true) where
-  met-grows : {n s r : ℕ} → s < 64 → Met lines n s r → Met lines' n s r
+  met_grows : {n s r : ℕ} → s < 64 → Met lines n s r → Met lines' n s r
   met-grows l (here e) = here e
   met-grows {s = s} l (next {k = k} p lk m) = next (grows s k l lk p) lk (met-grows lk m)
 
   module _ (n from from' : ℕ) (more-from : (s : ℕ) → s < 64 → has from s ≡ true → has from' s ≡ true) where
-    walk-grows : (r : ℕ) → has (walk lines n from) r ≡ true → has (walk lines' n from') r ≡ true
+    walk_grows : (r : ℕ) → has (walk lines n from) r ≡ true → has (walk lines' n from') r ≡ true
     walk-grows r h =
         let f = walk-found lines n from r h in
         walk-finds lines' from' f.small (more-from f.role f.small f.member) (met-grows f.small f.met)
@@ -202,9 +202,9 @@ reach-ext lines lines' from f = walk-ext lines lines' 64 from from (λ s j ls lj
 
 module _ (lines : ℕ → ℕ) (a b : ℕ) where
   -- A walk from two sets together meets what the walks from each do.
-  pub reach-union : reach lines (union a b) ≡ union (reach lines a) (reach lines b)
+  pub reach_union : reach lines (union a b) ≡ union (reach lines a) (reach lines b)
   unfolding reach union
-  reach-union = ext (walk lines 64 (union a b)) (union ra rb) (walk-small lines 64 (union a b)) (those-small (λ k. has ra k || has rb k)) (λ k l. agree (has (walk lines 64 (union a b)) k) (has (union ra rb) k) (to k l) (back k))
+  reach_union = ext (walk lines 64 (union a b)) (union ra rb) (walk-small lines 64 (union a b)) (those-small (λ k. has ra k || has rb k)) (λ k l. agree (has (walk lines 64 (union a b)) k) (has (union ra rb) k) (to k l) (back k))
     where
       ra : ℕ
       ra = walk lines 64 a

@@ -53,7 +53,7 @@ module _ (lines : ℕ → ℕ) where
   Onward pass r a = (a ≡ r) ⊎ ((k : ℕ) × (line lines a k ≡ true) × Way (but pass a) r k)
 
   -- a is not on the way, or the way goes on from there
-  last-at : (pass : ℕ → Bool) (r a : ℕ) {s : ℕ} → Way pass r s → Way (but pass a) r s ⊎ Onward pass r a
+  last_at : (pass : ℕ → Bool) (r a : ℕ) {s : ℕ} → Way pass r s → Way (but pass a) r s ⊎ Onward pass r a
   last-at pass r a {s} (there l p e) = go (eqb s a) refl
     where
       go : (b : Bool) → eqb s a ≡ b → Way (but pass a) r s ⊎ Onward pass r a
@@ -86,5 +86,5 @@ module _ (lines : ℕ → ℕ) where
     way {s} l (inr (more {k = k} p i)) = along l refl p (way (small.within s k p).1 (inr i))
 
     -- What a role is or inherits is met by fewer than 64 lines.
-    pub met-in-64 : {s r : ℕ} → s < 64 → AtOrAbove lines s r → Met 64 s r
+    pub met_in_64 : {s r : ℕ} → s < 64 → AtOrAbove lines s r → Met 64 s r
     met-in-64 l a = shortened 64 (λ k. true) (tally-le 64 (λ k. true)) (way l a)

@@ -5,13 +5,13 @@ use Rattle.roleset.specs.Roles.{has, those, none, with, union, is_empty}
 use Rattle.hierarchy.specs.Lines.{line, Inherits, Small, AtOrAbove, Under}
 
 -- the roles directly below some role of the front
-unfoldable pub juniorsOf : (ℕ → ℕ) → ℕ → ℕ
-juniorsOf lines front = those (λ j. some 64 (λ s. has front s && line lines s j))
+unfoldable pub juniors_of : (ℕ → ℕ) → ℕ → ℕ
+juniors_of lines front = those (λ j. some 64 (λ s. has front s && line lines s j))
 
 -- The roles of the front and all that they inherit, in chains of as many roles as are allowed.
 unfoldable pub walk : (ℕ → ℕ) → ℕ → ℕ → ℕ
 walk lines zero front = none
-walk lines (suc allowed) front = elim (is_empty front) [ true ↦ none | false ↦ union front (walk lines allowed (juniorsOf lines front)) ]
+walk lines (suc allowed) front = elim (is_empty front) [ true ↦ none | false ↦ union front (walk lines allowed (juniors_of lines front)) ]
 
 -- the roles of a set and all that they inherit
 unfoldable pub reach : (ℕ → ℕ) → ℕ → ℕ
@@ -22,17 +22,17 @@ unfoldable pub turned : (ℕ → ℕ) → ℕ → ℕ
 turned lines j = those (λ s. line lines s j)
 
 -- the role r and all that inherit it; no role where r is beyond 63
-unfoldable pub atOrAbove : (ℕ → ℕ) → ℕ → ℕ
-atOrAbove lines r = reach (turned lines) (with none r)
+unfoldable pub at_or_above : (ℕ → ℕ) → ℕ → ℕ
+at_or_above lines r = reach (turned lines) (with none r)
 
 -- a chain of more roles than are allowed starts in the front
-unfoldable pub longerChain : (ℕ → ℕ) → ℕ → ℕ → Bool
-longerChain lines zero front = not (is_empty front)
-longerChain lines (suc allowed) front = elim (is_empty front) [ true ↦ false | false ↦ longerChain lines allowed (juniorsOf lines front) ]
+unfoldable pub longer_chain : (ℕ → ℕ) → ℕ → ℕ → Bool
+longer_chain lines zero front = not (is_empty front)
+longer_chain lines (suc allowed) front = elim (is_empty front) [ true ↦ false | false ↦ longer_chain lines allowed (juniors_of lines front) ]
 
 -- some role inherits itself: a chain of more than 64 roles starts somewhere
 unfoldable pub circular : (ℕ → ℕ) → Bool
-circular lines = longerChain lines 64 (those (λ k. true))
+circular lines = longer_chain lines 64 (those (λ k. true))
 
 -- ---- what is handed back, and nothing beside it: over any lines between roles 0 to 63, with a circle among them or without
 
@@ -43,7 +43,7 @@ pub record Reaches (lines : ℕ → ℕ) (from set : ℕ) : Type 0 where
 
 -- It is the set of the role r and of all that inherit it, and of no other.
 pub record ReachesUp (lines : ℕ → ℕ) (r set : ℕ) : Type 0 where
-  pub is : set ≡ atOrAbove lines r
+  pub is : set ≡ at_or_above lines r
   pub exactly : Small lines → r < 64 → (s : ℕ) → (has set s ≡ true) ↔ AtOrAbove lines s r
 
 -- It says whether some role inherits itself.

@@ -1,15 +1,16 @@
 // What roles inherit through direct lines, over `juniors: [u64; 64]`: bit j of place s is the line (s, j).
+#![tactic(auto)]
 ghost use Rattle.std.specs.Prelude.{◌≡◌, ℕ, ◌<◌, length};
 ghost use Rattle.roleset.specs.Roles.{union};
 ghost use Rattle.hierarchy.specs.Lines.{table_of};
-ghost use Rattle.hierarchy.specs.Walks.{juniorsOf, walk, longerChain, turned, Reaches, ReachesUp, TellsCircle};
+ghost use Rattle.hierarchy.specs.Walks.{juniors_of, walk, longer_chain, turned, Reaches, ReachesUp, TellsCircle};
 ghost use Rattle.hierarchy.specs.Marks.{Marked};
 
 use numbers::Role;
 
 // The roles directly below some role of the front. It takes the front's lowest role and drops it, as long as there is one.
 fn juniors_of(juniors: &[u64; 64], front: u64) -> u64
-    ensures { result ≡ juniorsOf (table_of juniors.now) front }
+    ensures { result ≡ juniors_of (table_of juniors.now) front }
 {
     let mut met = 0u64;
     let mut rest = front;
@@ -45,7 +46,7 @@ pub fn reach(juniors: &[u64; 64], from: u64) -> u64
 
 // Does a chain of more than `allowed` roles start in the front?
 fn longer_chain(juniors: &[u64; 64], front: u64, allowed: u16) -> bool
-    ensures { result ≡ longerChain (table_of juniors.now) allowed front }
+    ensures { result ≡ longer_chain (table_of juniors.now) allowed front }
 {
     if front == 0 {
         return false;

@@ -1,4 +1,5 @@
 // The commands `inherit` and `disinherit`.
+#![tactic(auto)]
 ghost use Rattle.std.specs.Prelude.{◌≡◌};
 ghost use Rattle.model.specs.commands.Inheriting.{inherit, disinherit};
 ghost use Rattle.state.specs.View.{view, told};

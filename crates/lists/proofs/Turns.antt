@@ -11,7 +11,7 @@ use borrow.Author.Tests.{le-leb, lt-leb}
 use Rattle.roleset.specs.Roles.{has, those, with}
 use Rattle.roleset.proofs.BoundedLaws.{or_right}
 use Rattle.roleset.proofs.Laws.{has-none, has-with, those-ext, those-has}
-use Rattle.model.specs.Lists.{rising, someFrom, listed, setOf}
+use Rattle.model.specs.Lists.{rising, some_from, listed, set_of}
 
 -- the next number, and the rest after it
 next : (l : List ℕ) (i : ℕ) → i < length l → drop i l ≡ get_or l i 0 ∷ drop (i + 1) l
@@ -28,21 +28,21 @@ module _ (l : List ℕ) (i : ℕ) (h : i < length l) where
   turn_low a bound p = rw (next l i h, lt-leb bound (get_or l i 0) p) (and-false a)
 
   -- Any other: ascending if it was so far and the rest is, above it.
-  pub turn-high : (a : Bool) (bound : ℕ) → bound ≤ get_or l i 0 → (a && rising bound (drop i l)) ≡ (a && rising (get_or l i 0 + 1) (drop (i + 1) l))
+  pub turn_high : (a : Bool) (bound : ℕ) → bound ≤ get_or l i 0 → (a && rising bound (drop i l)) ≡ (a && rising (get_or l i 0 + 1) (drop (i + 1) l))
   unfolding rising
   turn-high a bound p = rw (next l i h, le-leb bound (get_or l i 0) p, add-one (get_or l i 0))
 
   -- A number beyond the range, and one within it.
-  pub turn-beyond : (b : Bool) (n : ℕ) → n ≤ get_or l i 0 → (b || someFrom n (drop i l)) ≡ true
-  unfolding someFrom
+  pub turn_beyond : (b : Bool) (n : ℕ) → n ≤ get_or l i 0 → (b || some_from n (drop i l)) ≡ true
+  unfolding some_from
   turn-beyond b n p = rw (next l i h, le-leb n (get_or l i 0) p) (or_right b true refl)
 
-  pub turn-within : (b : Bool) (n : ℕ) → get_or l i 0 < n → (b || someFrom n (drop i l)) ≡ (b || someFrom n (drop (i + 1) l))
-  unfolding someFrom
+  pub turn_within : (b : Bool) (n : ℕ) → get_or l i 0 < n → (b || some_from n (drop i l)) ≡ (b || some_from n (drop (i + 1) l))
+  unfolding some_from
   turn-within b n p = rw (next l i h, lt-leb n (get_or l i 0) p)
 
   -- The number joins the set.
-  pub turn-joins : (s : ℕ) → joining (with s (get_or l i 0)) (drop (i + 1) l) ≡ joining s (drop i l)
+  pub turn_joins : (s : ℕ) → joining (with s (get_or l i 0)) (drop (i + 1) l) ≡ joining s (drop i l)
   unfolding joining listed
   turn-joins s = rw (next l i h) (those-ext _ _ (λ k p. ap (λ (b : Bool). b || listed (drop (i + 1) l) k) (has-with s (get_or l i 0) k p) ∙ shift (has s k) (eqb k (get_or l i 0)) (listed (drop (i + 1) l) k)))
     where
@@ -51,20 +51,20 @@ module _ (l : List ℕ) (i : ℕ) (h : i < length l) where
       shift false y z = refl
 
 -- Before the first number.
-pub joining-start : (l : List ℕ) → joining 0 l ≡ setOf l
-unfolding joining setOf
+pub joining-start : (l : List ℕ) → joining 0 l ≡ set_of l
+unfolding joining set_of
 joining-start l = those-ext _ _ (λ k p. rw (has-none k))
 
 -- After the last one.
 module _ (l : List ℕ) (i : ℕ) (h : length l ≤ i) where
-  pub end-rising : (a : Bool) (bound : ℕ) → (a && rising bound (drop i l)) ≡ a
+  pub end_rising : (a : Bool) (bound : ℕ) → (a && rising bound (drop i l)) ≡ a
   unfolding rising
   end-rising a bound = rw (drop_of_length-le l h) (and-true a)
 
-  pub end-beyond : (b : Bool) (n : ℕ) → (b || someFrom n (drop i l)) ≡ b
-  unfolding someFrom
+  pub end_beyond : (b : Bool) (n : ℕ) → (b || some_from n (drop i l)) ≡ b
+  unfolding some_from
   end-beyond b n = rw (drop_of_length-le l h) (or-false b)
 
-  pub end-joins : (s : ℕ) → s < 2 ^ 64 → joining s (drop i l) ≡ s
+  pub end_joins : (s : ℕ) → s < 2 ^ 64 → joining s (drop i l) ≡ s
   unfolding joining listed
   end-joins s p = rw (drop_of_length-le l h) (those-ext _ _ (λ k q. or-false (has s k)) ∙ those-has s p)

@@ -20,7 +20,7 @@ use Rattle.model.specs.Words.{permission}
 use Rattle.model.specs.declared.Kind.TheVariants.{Static, Dynamic}
 use Rattle.model.specs.declared.Question.{Question}
 use Rattle.model.specs.declared.Question.TheVariants.{Check, AssignedUsers, AssignedRoles, AuthUsers, AuthRoles, RolePerms, UserPerms, SessionRoles, SessionPerms, RoleOps, UserOps, Sets, SetRoles, SetCount}
-use Rattle.benchsheet.specs.Lines.{atTheBench, r}
+use Rattle.benchsheet.specs.Lines.{at_the_bench, r}
 use Rattle.demands.specs.Demand2.{Applies, FirstToApply, Exactly, place}
 use Rattle.demands.specs.Reachable.{Reachable, start}
 use Rattle.demands.specs.Reviews.{Listing, Answered, Reviewing}
@@ -91,12 +91,12 @@ none-length (a ∷ l) f = absurd (f a (Memᴰ.head refl))
 made-up-length : (reviewer : Reviewer) → Reviewing reviewer → (made : ℕ → Question → ℕ) → ((m : Model) (room : ℕ) (q : Question) → (reviewer m room q).answer ≡ 0 → length (reviewer m room q).results ≡ made room q) → ⊥
 unfolding empty
 made-up-length reviewer f made h =
-    let y = given (λ room. reviewer atTheBench room (Sets Static)) (λ room. f atTheBench bench-reachable room (Sets Static)) refl refl in
+    let y = given (λ room. reviewer at_the_bench room (Sets Static)) (λ room. f at_the_bench bench-reachable room (Sets Static)) refl refl in
     let x = f empty start y.room (Sets Static) in
     let nobody = none-length x.whole (λ k a. clash false ((x.members k).0 a) refl) in
     let done = x.tells.done.1 (none-applies _ (refl, (refl, (le-ltb y.room (length x.whole) (omega arith), tt)))) in
     let short = h empty y.room (Sets Static) done in
-    let long = h atTheBench y.room (Sets Static) y.done in
+    let long = h at_the_bench y.room (Sets Static) y.done in
     omega (arith, ap length (x.tells.gives done), some-length (y.lists 0 bench.separated))
 
 -- where 15 alone of the three applies, it is the first
@@ -111,16 +111,16 @@ fifteen-first c e = record { applies = Memᴰ.tail (Memᴰ.tail (Memᴰ.head (λ
 
 cut-to-room : (reviewer : Reviewer) → Reviewing reviewer → ((m : Model) (room : ℕ) (q : Question) → (reviewer m room q).answer ≡ 15 → ⊥) → ⊥
 cut-to-room reviewer f h =
-    let x = f atTheBench bench-reachable 0 (Sets Static) in
+    let x = f at_the_bench bench-reachable 0 (Sets Static) in
     let long = lt-ltb 0 (length x.whole) (some-length ((x.members 0).1 bench.separated)) in
-    h atTheBench 0 (Sets Static) ((x.tells.refused 15 (λ e. omega arith)).1 (fifteen-first _ long))
+    h at_the_bench 0 (Sets Static) ((x.tells.refused 15 (λ e. omega arith)).1 (fifteen-first _ long))
 
 -- At the bench role 2 inherits role 0, which holds operation 4 on object 30; role 2 itself does not.
 direct-grants : (reviewer : Reviewer) → Reviewing reviewer → ((m : Model) (room : ℕ) (r : Role) (obj op : ℕ) → Memᴰ op (reviewer m room (RoleOps r obj)).results → has (m.holders (op * 256 + obj)) r.number ≡ true) → ⊥
 direct-grants reviewer f h =
-    let y = given (λ room. reviewer atTheBench room (RoleOps (r 2) 30)) (λ room. f atTheBench bench-reachable room (RoleOps (r 2) 30)) refl (ap not bench.senior) in
+    let y = given (λ room. reviewer at_the_bench room (RoleOps (r 2) 30)) (λ room. f at_the_bench bench-reachable room (RoleOps (r 2) 30)) refl (ap not bench.senior) in
     let listed = y.lists 4 (record { role = 0; chosen = inr (one bench.lower); holds = bench.holds }) in
-    clash (has (atTheBench.holders (permission 4 30)) 2) (h atTheBench y.room (r 2) 30 4 listed) bench.indirect
+    clash (has (at_the_bench.holders (permission 4 30)) 2) (h at_the_bench y.room (r 2) 30 4 listed) bench.indirect
 
 -- On the empty policy no role exists, so that 2 applies; and object 299 is 1 whatever the role.
 missing-role : (reviewer : Reviewer) → Reviewing reviewer → ((m : Model) (room : ℕ) (r : Role) → has m.roles r.number ≡ false → (reviewer m room (AssignedUsers r)).answer ≡ 0) → ⊥
@@ -142,4 +142,4 @@ object-299 reviewer f h = h empty 0 (r 0) (((f empty start 0 (RoleOps (r 0) 299)
 
 -- demand 2 leaves one reviewer; those with made-up lists are shut out
 pub reviewers-shut-out : ReviewersShutOut
-reviewers-shut-out = record { oneReviewer = one-reviewer; madeUpLength = made-up-length; cutToRoom = cut-to-room; directGrants = direct-grants; missingRole = missing-role; object299 = object-299 }
+reviewers-shut-out = record { one_reviewer = one-reviewer; made_up_length = made-up-length; cut_to_room = cut-to-room; direct_grants = direct-grants; missing_role = missing-role; object299 = object-299 }

@@ -19,8 +19,8 @@ use Rattle.model.specs.commands.Users.{user}
 use Rattle.model.specs.declared.Command.{Command}
 use Rattle.model.specs.declared.Command.TheVariants.{AddUser}
 use Rattle.sound.proofs.Sheet.{AllClear}
-use Rattle.benchsheet.specs.Lines.{Line, command, question, afterwards, atTheBench, firstTen, u}
-use Rattle.demands.specs.Demand2.{Obeys, Answers, Applies, Exactly, checkRefusals, Checked, Granted, FirstToApply, refusals, results, effect}
+use Rattle.benchsheet.specs.Lines.{Line, command, question, afterwards, at_the_bench, first_ten, u}
+use Rattle.demands.specs.Demand2.{Obeys, Answers, Applies, Exactly, check_refusals, Checked, Granted, FirstToApply, refusals, results, effect}
 use Rattle.demands.specs.Reachable.{Reachable, start, after}
 use Rattle.misreadings.specs.ShutOut.{ShutOut, Engine, Checker}
 use Rattle.misreadings.proofs.Bench.{bench}
@@ -62,8 +62,8 @@ checked-one m s op obj t v x y = told-one t v same (go (ℕ_discrete t.answer 0)
     go (yes p) = pick (x.answers p)
       where
         pick : (n : ℕ) × ((t.results ≡ 1 ∷ n ∷ []) ⊎ (t.results ≡ 0 ∷ n ∷ [])) → t.results ≡ v.results
-        pick (n, inl a) = a ∙ sym ((y.looked-yes (sym same ∙ p) n).1 ((x.looked-yes p n).0 a))
-        pick (n, inr a) = a ∙ sym ((y.looked-no (sym same ∙ p) n).1 ((x.looked-no p n).0 a))
+        pick (n, inl a) = a ∙ sym ((y.looked_yes (sym same ∙ p) n).1 ((x.looked_yes p n).0 a))
+        pick (n, inr a) = a ∙ sym ((y.looked_no (sym same ∙ p) n).1 ((x.looked_no p n).0 a))
     go (no p) = x.silent p ∙ sym (y.silent (λ e. p (same ∙ e)))
 
 pub one-checker : (checker other : Checker) → Answers checker → Answers other → (m : Model) → Reachable m → (s op obj : ℕ) → checker m s op obj ≡ other m s op obj
@@ -78,9 +78,9 @@ afterwards-reachable m p [] = p
 afterwards-reachable m p (command c list ∷ rest) = afterwards-reachable (step m c list).after (after p c list) rest
 afterwards-reachable m p (question q ∷ rest) = afterwards-reachable m p rest
 
-pub bench-reachable : Reachable atTheBench
-unfolding atTheBench
-bench-reachable = afterwards-reachable empty start firstTen
+pub bench-reachable : Reachable at_the_bench
+unfolding at_the_bench
+bench-reachable = afterwards-reachable empty start first_ten
 
 -- where no condition of a list holds no number of it applies
 pub none-applies : (cases : List Refusal) → AllClear cases → (n : ℕ) → Applies cases n → ⊥
@@ -115,13 +115,13 @@ once engine f h =
     clash true refl (ap (λ (m : Model). m.users 1) (sym (x.changes y.0) ∙ y.1))
 
 -- at the bench session 0 may do 4 on 30, through role 0 below role 2, and not 4 on 31, which no role holds
-bench-granted : Granted atTheBench 0 (permission 4 30)
+bench-granted : Granted at_the_bench 0 (permission 4 30)
 bench-granted = record { role = 0; effective = record { exists = bench.exists; through = inr (2, bench.active, one bench.lower) }; holds = bench.holds }
 
-bench-open : (n : ℕ) → Applies (checkRefusals atTheBench 0 4 30) n → ⊥
+bench-open : (n : ℕ) → Applies (check_refusals at_the_bench 0 4 30) n → ⊥
 bench-open = none-applies _ (refl, (ap not bench.live, tt))
 
-bench-closed : (n : ℕ) → Applies (checkRefusals atTheBench 0 4 31) n → ⊥
+bench-closed : (n : ℕ) → Applies (check_refusals at_the_bench 0 4 31) n → ⊥
 bench-closed = none-applies _ (refl, (ap not bench.live, tt))
 
 yes-is-not-no : (n k : ℕ) → ◌≡◌ {A = List ℕ} (1 ∷ n ∷ []) (0 ∷ k ∷ []) → ⊥
@@ -129,19 +129,19 @@ yes-is-not-no n k e = let z : ◌≡◌ {A = ℕ} 1 0 = cc in omega arith
 
 yes-always : (checker : Checker) → Answers checker → ((m : Model) (s op obj : ℕ) → (checker m s op obj).answer ≡ 0 → (n : ℕ) × ((checker m s op obj).results ≡ 1 ∷ n ∷ [])) → ⊥
 yes-always checker f h =
-    let x = f atTheBench bench-reachable 0 4 31 in
+    let x = f at_the_bench bench-reachable 0 4 31 in
     let answered = x.done.1 bench-closed in
-    let g = (x.exactly answered).0 (h atTheBench 0 4 31 answered) in
+    let g = (x.exactly answered).0 (h at_the_bench 0 4 31 answered) in
     clash (has 0 g.role) (ap (λ (set : ℕ). has set g.role) (sym bench.unheld) ∙ g.holds) (has-none g.role)
 
 no-always : (checker : Checker) → Answers checker → ((m : Model) (s op obj : ℕ) → (checker m s op obj).answer ≡ 0 → (n : ℕ) × ((checker m s op obj).results ≡ 0 ∷ n ∷ [])) → ⊥
 no-always checker f h =
-    let x = f atTheBench bench-reachable 0 4 30 in
+    let x = f at_the_bench bench-reachable 0 4 30 in
     let answered = x.done.1 bench-open in
     let told = (x.exactly answered).1 bench-granted in
-    let said = h atTheBench 0 4 30 answered in
+    let said = h at_the_bench 0 4 30 answered in
     yes-is-not-no told.0 said.0 (sym told.1 ∙ said.1)
 
 -- demand 2 leaves one engine; those that the paper names are shut out
 pub shut_out : ShutOut
-shut_out = record { oneEngine = one-engine; oneChecker = one-checker; refusing = refusing; yesAlways = yes-always; noAlways = no-always; idle = idle; once = once }
+shut_out = record { one_engine = one-engine; one_checker = one-checker; refusing = refusing; yes_always = yes-always; no_always = no-always; idle = idle; once = once }

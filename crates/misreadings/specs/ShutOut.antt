@@ -24,14 +24,14 @@ Reviewer = Model → ℕ → Question → Told
 
 pub record ShutOut : Type 0 where
   -- two engines that obey demand 2 tell the same, on every policy that can be reached; and so do two checkers
-  pub oneEngine : (engine other : Engine) → Obeys engine → Obeys other → (m : Model) → Reachable m → (c : Command) (list : List ℕ) → engine m c list ≡ other m c list
-  pub oneChecker : (checker other : Checker) → Answers checker → Answers other → (m : Model) → Reachable m → (s op obj : ℕ) → checker m s op obj ≡ other m s op obj
+  pub one_engine : (engine other : Engine) → Obeys engine → Obeys other → (m : Model) → Reachable m → (c : Command) (list : List ℕ) → engine m c list ≡ other m c list
+  pub one_checker : (checker other : Checker) → Answers checker → Answers other → (m : Model) → Reachable m → (s op obj : ℕ) → checker m s op obj ≡ other m s op obj
   -- "An engine that refuses everything is shut out by demand 2's exact refusals,
   pub refusing : (engine : Engine) → Obeys engine → ((m : Model) (c : Command) (list : List ℕ) → (engine m c list).answer ≡ 0 → ⊥) → ⊥
   -- and so is one that always says yes
-  pub yesAlways : (checker : Checker) → Answers checker → ((m : Model) (s op obj : ℕ) → (checker m s op obj).answer ≡ 0 → (n : ℕ) × ((checker m s op obj).results ≡ 1 ∷ n ∷ [])) → ⊥
+  pub yes_always : (checker : Checker) → Answers checker → ((m : Model) (s op obj : ℕ) → (checker m s op obj).answer ≡ 0 → (n : ℕ) × ((checker m s op obj).results ≡ 1 ∷ n ∷ [])) → ⊥
   -- or always no."
-  pub noAlways : (checker : Checker) → Answers checker → ((m : Model) (s op obj : ℕ) → (checker m s op obj).answer ≡ 0 → (n : ℕ) × ((checker m s op obj).results ≡ 0 ∷ n ∷ [])) → ⊥
+  pub no_always : (checker : Checker) → Answers checker → ((m : Model) (s op obj : ℕ) → (checker m s op obj).answer ≡ 0 → (n : ℕ) × ((checker m s op obj).results ≡ 0 ∷ n ∷ [])) → ⊥
   -- "One that does nothing satisfies demand 3 and breaks demand 2,
   pub idle : (engine : Engine) → Obeys engine → ((m : Model) (c : Command) (list : List ℕ) → (engine m c list).after ≡ m) → ⊥
   -- as does one that obeys its first command and only acknowledges the rest."
@@ -40,17 +40,17 @@ pub record ShutOut : Type 0 where
 -- The same of the questions: demand 2 leaves one reviewer.
 pub record ReviewersShutOut : Type 0 where
   -- Two reviewers that obey demand 2 tell the same, on every policy that can be reached, with any room and of every question.
-  pub oneReviewer : (reviewer other : Reviewer) → Reviewing reviewer → Reviewing other → (m : Model) → Reachable m → (room : ℕ) (q : Question) → reviewer m room q ≡ other m room q
+  pub one_reviewer : (reviewer other : Reviewer) → Reviewing reviewer → Reviewing other → (m : Model) → Reachable m → (room : ℕ) (q : Question) → reviewer m room q ≡ other m room q
   -- "A made-up list length breaks the review lists." The length `made` is made up: it depends on the room and the question, and not on the policy. So
   -- a reviewer whose lists all have one length is shut out, and so is one that always fills its room.
-  pub madeUpLength : (reviewer : Reviewer) → Reviewing reviewer → (made : ℕ → Question → ℕ) → ((m : Model) (room : ℕ) (q : Question) → (reviewer m room q).answer ≡ 0 → length (reviewer m room q).results ≡ made room q) → ⊥
+  pub made_up_length : (reviewer : Reviewer) → Reviewing reviewer → (made : ℕ → Question → ℕ) → ((m : Model) (room : ℕ) (q : Question) → (reviewer m room q).answer ≡ 0 → length (reviewer m room q).results ≡ made room q) → ⊥
   -- A reviewer that never answers 15, but cuts its lists to the room, is shut out.
-  pub cutToRoom : (reviewer : Reviewer) → Reviewing reviewer → ((m : Model) (room : ℕ) (q : Question) → (reviewer m room q).answer ≡ 15 → ⊥) → ⊥
+  pub cut_to_room : (reviewer : Reviewer) → Reviewing reviewer → ((m : Model) (room : ℕ) (q : Question) → (reviewer m room q).answer ≡ 15 → ⊥) → ⊥
   -- "The schema of RoleOperationsOnObject in document 000 tests the asked role alone; its text includes inherited roles, and the text decides." A
   -- reviewer whose `role-ops` lists no operation but those that the asked role itself holds is shut out. At the bench role 2 inherits role 0, which
   -- holds operation 4 on object 30.
-  pub directGrants : (reviewer : Reviewer) → Reviewing reviewer → ((m : Model) (room : ℕ) (r : Role) (obj op : ℕ) → Memᴰ op (reviewer m room (RoleOps r obj)).results → has (m.holders (op * 256 + obj)) r.number ≡ true) → ⊥
+  pub direct_grants : (reviewer : Reviewer) → Reviewing reviewer → ((m : Model) (room : ℕ) (r : Role) (obj op : ℕ) → Memᴰ op (reviewer m room (RoleOps r obj)).results → has (m.holders (op * 256 + obj)) r.number ≡ true) → ⊥
   -- A reviewer that answers 0 for a role that does not exist is shut out.
-  pub missingRole : (reviewer : Reviewer) → Reviewing reviewer → ((m : Model) (room : ℕ) (r : Role) → has m.roles r.number ≡ false → (reviewer m room (AssignedUsers r)).answer ≡ 0) → ⊥
+  pub missing_role : (reviewer : Reviewer) → Reviewing reviewer → ((m : Model) (room : ℕ) (r : Role) → has m.roles r.number ≡ false → (reviewer m room (AssignedUsers r)).answer ≡ 0) → ⊥
   -- A reviewer to which object 299 is not beyond its range is shut out.
   pub object299 : (reviewer : Reviewer) → Reviewing reviewer → ((m : Model) (room : ℕ) (r : Role) → (reviewer m room (RoleOps r 299)).answer ≡ 1 → ⊥) → ⊥

@@ -8,10 +8,10 @@ use lib.ListN.{length}
 use Rattle.model.specs.Model.{Model}
 use Rattle.model.specs.Sheet.{Told, Refusal, verdict, settle, done, refused}
 use Rattle.model.specs.Step.{step}
-use Rattle.model.specs.commands.Users.{user, role, endAll, nouser, norole}
+use Rattle.model.specs.commands.Users.{user, role, end_all, nouser, norole}
 use Rattle.model.specs.commands.Assigning.{assign, deassign, grant, revoke}
 use Rattle.model.specs.commands.Inheriting.{inherit, disinherit}
-use Rattle.model.specs.commands.Sets.{makeSet, dropSet, addMember, dropMember, setCardinality}
+use Rattle.model.specs.commands.Sets.{make_set, drop_set, add_member, drop_member, set_cardinality}
 use Rattle.model.specs.commands.Sessions.{session, activate, drop, end}
 use Rattle.model.specs.declared.Command.{Command}
 use Rattle.model.specs.declared.Command.TheVariants.{AddUser, AddRole, NoUser, NoRole, Assign, Deassign, Grant, Revoke, Inherit, Disinherit, MakeSet, DropSet, AddMember, DropMember, SetCardinality, OpenSession, Activate, DropActive, EndSession, EndAll}
@@ -26,7 +26,7 @@ no_more rs m results after h = go (eqb (verdict rs) 0)
     go false = omega arith
 
 pub few-results : (m : Model) (c : Command) (list : List ℕ) → length (step m c list).results ≤ 1
-unfolding step user role endAll nouser norole assign deassign grant revoke inherit disinherit makeSet dropSet addMember dropMember setCardinality session activate drop end
+unfolding step user role end_all nouser norole assign deassign grant revoke inherit disinherit make_set drop_set add_member drop_member set_cardinality session activate drop end
 few-results m (AddUser u) list = no_more _ m _ _ (omega arith)
 few-results m (AddRole r) list = no_more _ m _ _ (omega arith)
 few-results m (NoUser u) list = no_more _ m _ _ (omega arith)

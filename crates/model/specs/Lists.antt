@@ -12,9 +12,9 @@ abbrev pub ascending : List ℕ → Bool
 ascending l = rising 0 l
 
 -- some number of the list is at least n
-unfoldable pub someFrom : ℕ → List ℕ → Bool
-someFrom n [] = false
-someFrom n (a ∷ rest) = leb n a || someFrom n rest
+unfoldable pub some_from : ℕ → List ℕ → Bool
+some_from n [] = false
+some_from n (a ∷ rest) = leb n a || some_from n rest
 
 -- k is in the list
 unfoldable pub listed : List ℕ → ℕ → Bool
@@ -22,10 +22,10 @@ listed [] k = false
 listed (a ∷ rest) k = eqb k a || listed rest k
 
 -- the set of the listed roles
-unfoldable pub setOf : List ℕ → ℕ
-setOf l = those (listed l)
+unfoldable pub set_of : List ℕ → ℕ
+set_of l = those (listed l)
 
 -- the list up to and including the first number that passes the test, or all of it where none does
-unfoldable pub upToFirst : (ℕ → Bool) → List ℕ → List ℕ
-upToFirst test [] = []
-upToFirst test (k ∷ rest) = k ∷ elim (test k) [ true ↦ [] | false ↦ upToFirst test rest ]
+unfoldable pub up_to_first : (ℕ → Bool) → List ℕ → List ℕ
+up_to_first test [] = []
+up_to_first test (k ∷ rest) = k ∷ elim (test k) [ true ↦ [] | false ↦ up_to_first test rest ]

@@ -29,20 +29,20 @@ pub record Model : Type 0 where
   -- the sessions, by number
   pub sessions : ℕ → Session
   -- how many assignments, grants and lines stand: kept, and in every policy of the engine's own the tables' own counts (`Counted` in Sound)
-  pub assignmentCount : ℕ
-  pub grantCount : ℕ
-  pub lineCount : ℕ
+  pub assignment_count : ℕ
+  pub grant_count : ℕ
+  pub line_count : ℕ
 
 -- a set that is not there, and a session that is not live
-abbrev pub absentSet : RoleSet
-absentSet = record { there = false; card = 0; roles = 0 }
+abbrev pub absent_set : RoleSet
+absent_set = record { there = false; card = 0; roles = 0 }
 
-abbrev pub closedSession : Session
-closedSession = record { live = false; owner = 0; active = 0 }
+abbrev pub closed_session : Session
+closed_session = record { live = false; owner = 0; active = 0 }
 
 -- "starting empty"
 unfoldable pub empty : Model
-empty = record { users = λ u. false; roles = 0; juniors = λ s. 0; assigned = λ u. 0; holders = λ p. 0; ssd = λ n. absentSet; dsd = λ n. absentSet; sessions = λ s. closedSession; assignmentCount = 0; grantCount = 0; lineCount = 0 }
+empty = record { users = λ u. false; roles = 0; juniors = λ s. 0; assigned = λ u. 0; holders = λ p. 0; ssd = λ n. absent_set; dsd = λ n. absent_set; sessions = λ s. closed_session; assignment_count = 0; grant_count = 0; line_count = 0 }
 
 -- ---- a table with one place changed, and a model with one part changed
 
@@ -50,41 +50,41 @@ empty = record { users = λ u. false; roles = 0; juniors = λ s. 0; assigned = �
 unfoldable pub put {ℓ} : {A : Type ℓ} → (ℕ → A) → ℕ → A → ℕ → A
 put table i v k = elim (eqb k i) [ true ↦ v | false ↦ table k ]
 
-abbrev pub withUsers : Model → (ℕ → Bool) → Model
-withUsers m x = record { users = x; roles = m.roles; juniors = m.juniors; assigned = m.assigned; holders = m.holders; ssd = m.ssd; dsd = m.dsd; sessions = m.sessions; assignmentCount = m.assignmentCount; grantCount = m.grantCount; lineCount = m.lineCount }
+abbrev pub with_users : Model → (ℕ → Bool) → Model
+with_users m x = record { users = x; roles = m.roles; juniors = m.juniors; assigned = m.assigned; holders = m.holders; ssd = m.ssd; dsd = m.dsd; sessions = m.sessions; assignment_count = m.assignment_count; grant_count = m.grant_count; line_count = m.line_count }
 
-abbrev pub withRoles : Model → ℕ → Model
-withRoles m x = record { users = m.users; roles = x; juniors = m.juniors; assigned = m.assigned; holders = m.holders; ssd = m.ssd; dsd = m.dsd; sessions = m.sessions; assignmentCount = m.assignmentCount; grantCount = m.grantCount; lineCount = m.lineCount }
+abbrev pub with_roles : Model → ℕ → Model
+with_roles m x = record { users = m.users; roles = x; juniors = m.juniors; assigned = m.assigned; holders = m.holders; ssd = m.ssd; dsd = m.dsd; sessions = m.sessions; assignment_count = m.assignment_count; grant_count = m.grant_count; line_count = m.line_count }
 
-abbrev pub withSsd : Model → (ℕ → RoleSet) → Model
-withSsd m x = record { users = m.users; roles = m.roles; juniors = m.juniors; assigned = m.assigned; holders = m.holders; ssd = x; dsd = m.dsd; sessions = m.sessions; assignmentCount = m.assignmentCount; grantCount = m.grantCount; lineCount = m.lineCount }
+abbrev pub with_ssd : Model → (ℕ → RoleSet) → Model
+with_ssd m x = record { users = m.users; roles = m.roles; juniors = m.juniors; assigned = m.assigned; holders = m.holders; ssd = x; dsd = m.dsd; sessions = m.sessions; assignment_count = m.assignment_count; grant_count = m.grant_count; line_count = m.line_count }
 
-abbrev pub withDsd : Model → (ℕ → RoleSet) → Model
-withDsd m x = record { users = m.users; roles = m.roles; juniors = m.juniors; assigned = m.assigned; holders = m.holders; ssd = m.ssd; dsd = x; sessions = m.sessions; assignmentCount = m.assignmentCount; grantCount = m.grantCount; lineCount = m.lineCount }
+abbrev pub with_dsd : Model → (ℕ → RoleSet) → Model
+with_dsd m x = record { users = m.users; roles = m.roles; juniors = m.juniors; assigned = m.assigned; holders = m.holders; ssd = m.ssd; dsd = x; sessions = m.sessions; assignment_count = m.assignment_count; grant_count = m.grant_count; line_count = m.line_count }
 
-abbrev pub withSessions : Model → (ℕ → Session) → Model
-withSessions m x = record { users = m.users; roles = m.roles; juniors = m.juniors; assigned = m.assigned; holders = m.holders; ssd = m.ssd; dsd = m.dsd; sessions = x; assignmentCount = m.assignmentCount; grantCount = m.grantCount; lineCount = m.lineCount }
+abbrev pub with_sessions : Model → (ℕ → Session) → Model
+with_sessions m x = record { users = m.users; roles = m.roles; juniors = m.juniors; assigned = m.assigned; holders = m.holders; ssd = m.ssd; dsd = m.dsd; sessions = x; assignment_count = m.assignment_count; grant_count = m.grant_count; line_count = m.line_count }
 
 -- other lines, assignments or grants, of which so many stand
-abbrev pub withLines : Model → (ℕ → ℕ) → ℕ → Model
-withLines m x n = record { users = m.users; roles = m.roles; juniors = x; assigned = m.assigned; holders = m.holders; ssd = m.ssd; dsd = m.dsd; sessions = m.sessions; assignmentCount = m.assignmentCount; grantCount = m.grantCount; lineCount = n }
+abbrev pub with_lines : Model → (ℕ → ℕ) → ℕ → Model
+with_lines m x n = record { users = m.users; roles = m.roles; juniors = x; assigned = m.assigned; holders = m.holders; ssd = m.ssd; dsd = m.dsd; sessions = m.sessions; assignment_count = m.assignment_count; grant_count = m.grant_count; line_count = n }
 
-abbrev pub withAssignments : Model → (ℕ → ℕ) → ℕ → Model
-withAssignments m x n = record { users = m.users; roles = m.roles; juniors = m.juniors; assigned = x; holders = m.holders; ssd = m.ssd; dsd = m.dsd; sessions = m.sessions; assignmentCount = n; grantCount = m.grantCount; lineCount = m.lineCount }
+abbrev pub with_assignments : Model → (ℕ → ℕ) → ℕ → Model
+with_assignments m x n = record { users = m.users; roles = m.roles; juniors = m.juniors; assigned = x; holders = m.holders; ssd = m.ssd; dsd = m.dsd; sessions = m.sessions; assignment_count = n; grant_count = m.grant_count; line_count = m.line_count }
 
-abbrev pub withGrants : Model → (ℕ → ℕ) → ℕ → Model
-withGrants m x n = record { users = m.users; roles = m.roles; juniors = m.juniors; assigned = m.assigned; holders = x; ssd = m.ssd; dsd = m.dsd; sessions = m.sessions; assignmentCount = m.assignmentCount; grantCount = n; lineCount = m.lineCount }
+abbrev pub with_grants : Model → (ℕ → ℕ) → ℕ → Model
+with_grants m x n = record { users = m.users; roles = m.roles; juniors = m.juniors; assigned = m.assigned; holders = x; ssd = m.ssd; dsd = m.dsd; sessions = m.sessions; assignment_count = m.assignment_count; grant_count = n; line_count = m.line_count }
 
 -- how many members the first n sets of a table have in all
 unfoldable pub standing : ℕ → (ℕ → ℕ) → ℕ
 standing n table = total n (λ k. count (table k))
 
 -- other lines, assignments or grants, counted
-abbrev pub withJuniors : Model → (ℕ → ℕ) → Model
-withJuniors m x = withLines m x (standing 64 x)
+abbrev pub with_juniors : Model → (ℕ → ℕ) → Model
+with_juniors m x = with_lines m x (standing 64 x)
 
-abbrev pub withAssigned : Model → (ℕ → ℕ) → Model
-withAssigned m x = withAssignments m x (standing 256 x)
+abbrev pub with_assigned : Model → (ℕ → ℕ) → Model
+with_assigned m x = with_assignments m x (standing 256 x)
 
-abbrev pub withHolders : Model → (ℕ → ℕ) → Model
-withHolders m x = withGrants m x (standing 4096 x)
+abbrev pub with_holders : Model → (ℕ → ℕ) → Model
+with_holders m x = with_grants m x (standing 4096 x)

@@ -2,13 +2,13 @@
 use Rattle.std.specs.Prelude.{Bool, false, not, ◌||◌, List, [], ◌∷◌, ℕ, ◌%◌, leb, ltb, length}
 use Rattle.roleset.specs.Bounded.{members}
 use Rattle.roleset.specs.Roles.{has, with, none, common, is_empty}
-use Rattle.hierarchy.specs.Walks.{atOrAbove}
+use Rattle.hierarchy.specs.Walks.{at_or_above}
 use Rattle.numbers.specs.Ranges.{objects}
 use Rattle.model.specs.Model.{Model}
 use Rattle.model.specs.Sheet.{Told, Refusal, ◌when◌, settle}
 use Rattle.model.specs.Words.{reached, authorised, effective, permission}
-use Rattle.model.specs.commands.Naming.{userBeyond, roleBeyond, sessionBeyond, setBeyond, userMissing, roleMissing, sessionMissing}
-use Rattle.model.specs.commands.Sets.{setsOf, setMissing}
+use Rattle.model.specs.commands.Naming.{user_beyond, role_beyond, session_beyond, set_beyond, user_missing, role_missing, session_missing}
+use Rattle.model.specs.commands.Sets.{sets_of, set_missing}
 use Rattle.model.specs.commands.Sessions.{check}
 use Rattle.model.specs.declared.Kind.{Kind}
 use Rattle.model.specs.declared.Question.{Question}
@@ -21,52 +21,52 @@ abbrev pub holds : Model → ℕ → ℕ → Bool
 holds m roles p = not (is_empty (common roles (m.holders p)))
 
 -- the user is assigned to the role or to one that inherits it
-abbrev pub authorisedBy : Model → ℕ → ℕ → Bool
-authorisedBy m r u = not (is_empty (common (m.assigned u) (atOrAbove m.juniors r)))
+abbrev pub authorised_by : Model → ℕ → ℕ → Bool
+authorised_by m r u = not (is_empty (common (m.assigned u) (at_or_above m.juniors r)))
 
-unfoldable pub assignedUsers : Model → ℕ → List ℕ
-assignedUsers m r = members 256 (λ u. has (m.assigned u) r)
+unfoldable pub assigned_users : Model → ℕ → List ℕ
+assigned_users m r = members 256 (λ u. has (m.assigned u) r)
 
-unfoldable pub assignedRoles : Model → ℕ → List ℕ
-assignedRoles m u = members 64 (has (m.assigned u))
+unfoldable pub assigned_roles : Model → ℕ → List ℕ
+assigned_roles m u = members 64 (has (m.assigned u))
 
-unfoldable pub authUsers : Model → ℕ → List ℕ
-authUsers m r = members 256 (authorisedBy m r)
+unfoldable pub auth_users : Model → ℕ → List ℕ
+auth_users m r = members 256 (authorised_by m r)
 
-unfoldable pub authRoles : Model → ℕ → List ℕ
-authRoles m u = members 64 (has (authorised m u))
+unfoldable pub auth_roles : Model → ℕ → List ℕ
+auth_roles m u = members 64 (has (authorised m u))
 
 -- "`role-perms r`, `user-perms u` (both with inherited ones)"
-unfoldable pub rolePerms : Model → ℕ → List ℕ
-rolePerms m r = members 4096 (holds m (reached m (with none r)))
+unfoldable pub role_perms : Model → ℕ → List ℕ
+role_perms m r = members 4096 (holds m (reached m (with none r)))
 
-unfoldable pub userPerms : Model → ℕ → List ℕ
-userPerms m u = members 4096 (holds m (authorised m u))
+unfoldable pub user_perms : Model → ℕ → List ℕ
+user_perms m u = members 4096 (holds m (authorised m u))
 
 -- "`session-roles s` (active ones), `session-perms s` (of effective roles)"
-unfoldable pub sessionRoles : Model → ℕ → List ℕ
-sessionRoles m s = members 64 (has (m.sessions s).active)
+unfoldable pub session_roles : Model → ℕ → List ℕ
+session_roles m s = members 64 (has (m.sessions s).active)
 
-unfoldable pub sessionPerms : Model → ℕ → List ℕ
-sessionPerms m s = members 4096 (holds m (effective m s))
+unfoldable pub session_perms : Model → ℕ → List ℕ
+session_perms m s = members 4096 (holds m (effective m s))
 
 -- "The schema of RoleOperationsOnObject in document 000 tests the asked role alone; its text includes inherited roles, and the text decides."
-unfoldable pub roleOps : Model → ℕ → ℕ → List ℕ
-roleOps m r obj = members 16 (λ op. holds m (reached m (with none r)) (permission op obj))
+unfoldable pub role_ops : Model → ℕ → ℕ → List ℕ
+role_ops m r obj = members 16 (λ op. holds m (reached m (with none r)) (permission op obj))
 
-unfoldable pub userOps : Model → ℕ → ℕ → List ℕ
-userOps m u obj = members 16 (λ op. holds m (authorised m u) (permission op obj))
+unfoldable pub user_ops : Model → ℕ → ℕ → List ℕ
+user_ops m u obj = members 16 (λ op. holds m (authorised m u) (permission op obj))
 
-unfoldable pub setNames : Kind → Model → List ℕ
-setNames kind m = members 16 (λ n. (setsOf kind m n).there)
+unfoldable pub set_names : Kind → Model → List ℕ
+set_names kind m = members 16 (λ n. (sets_of kind m n).there)
 
-unfoldable pub setRoles : Kind → Model → ℕ → List ℕ
-setRoles kind m name = members 64 (has (setsOf kind m name).roles)
+unfoldable pub set_roles : Kind → Model → ℕ → List ℕ
+set_roles kind m name = members 64 (has (sets_of kind m name).roles)
 
 -- "`ssd-count name` (the cardinality)". Results are sixteen-bit numbers, and so is a cardinality of the engine's own, which is 64 at most: there this is
 -- the cardinality itself (`set-count-cardinality` in reviews/proofs/Listed)
-unfoldable pub setCount : Kind → Model → ℕ → List ℕ
-setCount kind m name = ((setsOf kind m name).card % 65536) ∷ []
+unfoldable pub set_count : Kind → Model → ℕ → List ℕ
+set_count kind m name = ((sets_of kind m name).card % 65536) ∷ []
 
 -- ---- each question, with its refusals: 1, 2, 15
 
@@ -82,16 +82,16 @@ never = false
 -- the question, asked with room for so many results
 unfoldable pub ask : Model → ℕ → Question → Told
 ask m room (Check s op obj) = check m s.number op obj
-ask m room (AssignedUsers r) = review m room (roleBeyond r.number) (roleMissing m r.number) (assignedUsers m r.number)
-ask m room (AssignedRoles u) = review m room (userBeyond u.number) (userMissing m u.number) (assignedRoles m u.number)
-ask m room (AuthUsers r) = review m room (roleBeyond r.number) (roleMissing m r.number) (authUsers m r.number)
-ask m room (AuthRoles u) = review m room (userBeyond u.number) (userMissing m u.number) (authRoles m u.number)
-ask m room (RolePerms r) = review m room (roleBeyond r.number) (roleMissing m r.number) (rolePerms m r.number)
-ask m room (UserPerms u) = review m room (userBeyond u.number) (userMissing m u.number) (userPerms m u.number)
-ask m room (SessionRoles s) = review m room (sessionBeyond s.number) (sessionMissing m s.number) (sessionRoles m s.number)
-ask m room (SessionPerms s) = review m room (sessionBeyond s.number) (sessionMissing m s.number) (sessionPerms m s.number)
-ask m room (RoleOps r obj) = review m room (roleBeyond r.number || leb objects obj) (roleMissing m r.number) (roleOps m r.number obj)
-ask m room (UserOps u obj) = review m room (userBeyond u.number || leb objects obj) (userMissing m u.number) (userOps m u.number obj)
-ask m room (Sets kind) = review m room never never (setNames kind m)
-ask m room (SetRoles kind name) = review m room (setBeyond name.number) (setMissing kind m name.number) (setRoles kind m name.number)
-ask m room (SetCount kind name) = review m room (setBeyond name.number) (setMissing kind m name.number) (setCount kind m name.number)
+ask m room (AssignedUsers r) = review m room (role_beyond r.number) (role_missing m r.number) (assigned_users m r.number)
+ask m room (AssignedRoles u) = review m room (user_beyond u.number) (user_missing m u.number) (assigned_roles m u.number)
+ask m room (AuthUsers r) = review m room (role_beyond r.number) (role_missing m r.number) (auth_users m r.number)
+ask m room (AuthRoles u) = review m room (user_beyond u.number) (user_missing m u.number) (auth_roles m u.number)
+ask m room (RolePerms r) = review m room (role_beyond r.number) (role_missing m r.number) (role_perms m r.number)
+ask m room (UserPerms u) = review m room (user_beyond u.number) (user_missing m u.number) (user_perms m u.number)
+ask m room (SessionRoles s) = review m room (session_beyond s.number) (session_missing m s.number) (session_roles m s.number)
+ask m room (SessionPerms s) = review m room (session_beyond s.number) (session_missing m s.number) (session_perms m s.number)
+ask m room (RoleOps r obj) = review m room (role_beyond r.number || leb objects obj) (role_missing m r.number) (role_ops m r.number obj)
+ask m room (UserOps u obj) = review m room (user_beyond u.number || leb objects obj) (user_missing m u.number) (user_ops m u.number obj)
+ask m room (Sets kind) = review m room never never (set_names kind m)
+ask m room (SetRoles kind name) = review m room (set_beyond name.number) (set_missing kind m name.number) (set_roles kind m name.number)
+ask m room (SetCount kind name) = review m room (set_beyond name.number) (set_missing kind m name.number) (set_count kind m name.number)

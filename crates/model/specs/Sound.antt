@@ -3,8 +3,8 @@
 use Rattle.std.specs.Prelude.{Bool, true, false, ◌≡◌, ℕ, ◌≤◌, ◌<◌, ◌^◌}
 use Rattle.roleset.specs.Roles.{has, common, count}
 use Rattle.hierarchy.specs.Lines.{line, Acyclic}
-use Rattle.model.specs.Model.{Model, RoleSet, Session, absentSet, closedSession}
-use Rattle.model.specs.Words.{authorised, staticBroken, dynamicBroken, assignments, grants, linesStanding}
+use Rattle.model.specs.Model.{Model, RoleSet, Session, absent_set, closed_session}
+use Rattle.model.specs.Words.{authorised, static_broken, dynamic_broken, assignments, grants, lines_standing}
 
 -- every member of the set is a role that exists; a set is a number below 2 ^ 64
 pub record Existing (m : Model) (set : ℕ) : Type 0 where
@@ -14,7 +14,7 @@ pub record Existing (m : Model) (set : ℕ) : Type 0 where
 -- "SSD set: roles and a cardinality n, 2 <= n <= number of its roles."
 pub record SetShape (m : Model) (n : ℕ) (set : RoleSet) : Type 0 where
   -- Of a set that is not there nothing is kept.
-  pub absent : set.there ≡ false → set ≡ absentSet
+  pub absent : set.there ≡ false → set ≡ absent_set
   -- The name n of a set that is there is one of 0 to 15,
   pub named : set.there ≡ true → n < 16
   -- its cardinality is at least 2
@@ -26,7 +26,7 @@ pub record SetShape (m : Model) (n : ℕ) (set : RoleSet) : Type 0 where
 
 -- a session is open for a user that exists, or all zero
 pub record SessionShape (m : Model) (s : ℕ) (session : Session) : Type 0 where
-  pub closed : session.live ≡ false → session ≡ closedSession
+  pub closed : session.live ≡ false → session ≡ closed_session
   pub numbered : session.live ≡ true → s < 64
   pub owned : session.live ≡ true → m.users session.owner ≡ true
   pub active : Existing m session.active
@@ -49,13 +49,13 @@ pub record Shape (m : Model) : Type 0 where
 pub record Limits (m : Model) : Type 0 where
   pub assigned : assignments m ≤ 2048
   pub granted : grants m ≤ 2048
-  pub lined : linesStanding m ≤ 512
+  pub lined : lines_standing m ≤ 512
 
 -- what is kept of how full the tables are is what they hold
 pub record Counted (m : Model) : Type 0 where
-  pub assigned : m.assignmentCount ≡ assignments m
-  pub granted : m.grantCount ≡ grants m
-  pub lined : m.lineCount ≡ linesStanding m
+  pub assigned : m.assignment_count ≡ assignments m
+  pub granted : m.grant_count ≡ grants m
+  pub lined : m.line_count ≡ lines_standing m
 
 -- the rules of demand 3
 pub record Rules (m : Model) : Type 0 where
@@ -64,9 +64,9 @@ pub record Rules (m : Model) : Type 0 where
   -- every active role is one its owner is authorised for
   pub active : (s r : ℕ) → has (m.sessions s).active r ≡ true → has (authorised m (m.sessions s).owner) r ≡ true
   -- no user is authorised for as many roles of a static set as its cardinality
-  pub static : (u : ℕ) → staticBroken m u ≡ false
+  pub static : (u : ℕ) → static_broken m u ≡ false
   -- no session has that many effective roles of a dynamic set
-  pub dynamic : (s : ℕ) → dynamicBroken m s ≡ false
+  pub dynamic : (s : ℕ) → dynamic_broken m s ≡ false
 
 pub record Sound (m : Model) : Type 0 where
   pub shape : Shape m

@@ -3,7 +3,7 @@ use Rattle.std.specs.Prelude.{Bool, true, false, not, ◌&&◌, ◌||◌, List, 
 use Rattle.roleset.specs.Bounded.{some, tally}
 use Rattle.roleset.specs.Roles.{has, common, count, with}
 use Rattle.hierarchy.specs.Walks.{reach}
-use Rattle.model.specs.Model.{Model, RoleSet, Session, withSessions, standing}
+use Rattle.model.specs.Model.{Model, RoleSet, Session, with_sessions, standing}
 
 -- ---- inheritance
 
@@ -26,20 +26,20 @@ unfoldable pub breaks : RoleSet → ℕ → Bool
 breaks set held = set.there && leb set.card (count (common set.roles held))
 
 -- some of the sets is broken by the roles held
-unfoldable pub breaksSome : (ℕ → RoleSet) → ℕ → Bool
-breaksSome sets held = some 16 (λ n. breaks (sets n) held)
+unfoldable pub breaks_some : (ℕ → RoleSet) → ℕ → Bool
+breaks_some sets held = some 16 (λ n. breaks (sets n) held)
 
 -- "SSD set: .. Every user is authorised for fewer than n of them." The static rule is broken for user u
-unfoldable pub staticBroken : Model → ℕ → Bool
-staticBroken m u = breaksSome m.ssd (authorised m u)
+unfoldable pub static_broken : Model → ℕ → Bool
+static_broken m u = breaks_some m.ssd (authorised m u)
 
 -- the roles of a session that a dynamic set counts: "a session may have fewer than n effective roles of a dynamic set" (request 2)
 abbrev pub counted : Model → ℕ → ℕ
 counted m s = effective m s
 
 -- "DSD set: the same shape." The dynamic rule is broken in session s
-unfoldable pub dynamicBroken : Model → ℕ → Bool
-dynamicBroken m s = breaksSome m.dsd (counted m s)
+unfoldable pub dynamic_broken : Model → ℕ → Bool
+dynamic_broken m s = breaks_some m.dsd (counted m s)
 
 -- ---- permissions
 
@@ -58,7 +58,7 @@ unfoldable pub shedded : (ℕ → ℕ) → (ℕ → ℕ) → Session → Session
 shedded juniors assigned s = elim s.live [ true ↦ keeping s (reach juniors (assigned s.owner)) | false ↦ s ]
 
 unfoldable pub shed : Model → Model
-shed m = withSessions m (λ k. shedded m.juniors m.assigned (m.sessions k))
+shed m = with_sessions m (λ k. shedded m.juniors m.assigned (m.sessions k))
 
 -- ---- how full the tables are: their own counts
 
@@ -68,8 +68,8 @@ assignments m = standing 256 m.assigned
 unfoldable pub grants : Model → ℕ
 grants m = standing 4096 m.holders
 
-unfoldable pub linesStanding : Model → ℕ
-linesStanding m = standing 64 m.juniors
+unfoldable pub lines_standing : Model → ℕ
+lines_standing m = standing 64 m.juniors
 
-unfoldable pub sessionsOpen : Model → ℕ
-sessionsOpen m = tally 64 (λ s. (m.sessions s).live)
+unfoldable pub sessions_open : Model → ℕ
+sessions_open m = tally 64 (λ s. (m.sessions s).live)

@@ -1,4 +1,5 @@
 // What the promises of the engine are about. The definitions stand in specs/; this crate has the few types that code and definitions share.
+#![tactic(auto)]
 
 use numbers::{Role, Session, SetName, User};
 

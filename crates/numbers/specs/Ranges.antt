@@ -34,17 +34,17 @@ abbrev pub permissions : ℕ
 permissions = 4096
 
 -- "At most 2,048 assignments .. stand at once."
-abbrev pub mostAssignments : ℕ
-mostAssignments = 2048
+abbrev pub most_assignments : ℕ
+most_assignments = 2048
 
 -- "At most .. 2,048 grants .. stand at once."
-abbrev pub mostGrants : ℕ
-mostGrants = 2048
+abbrev pub most_grants : ℕ
+most_grants = 2048
 
 -- "At most .. 512 direct lines .. stand at once." (The 64 open sessions are `sessions`.)
-abbrev pub mostLines : ℕ
-mostLines = 512
+abbrev pub most_lines : ℕ
+most_lines = 512
 
 -- "a number is beyond its range", of the three that `activate u s r` and `drop u s r` name
-abbrev pub activationBeyond : User → Session → Role → Bool
-activationBeyond u s r = leb users u.number || (leb sessions s.number || leb roles r.number)
+abbrev pub activation_beyond : User → Session → Role → Bool
+activation_beyond u s r = leb users u.number || (leb sessions s.number || leb roles r.number)

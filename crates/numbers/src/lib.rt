@@ -1,7 +1,8 @@
 // Numbers that cannot be mistaken for each other, and the answer sheet.
+#![tactic(auto)]
 ghost use Rattle.std.specs.Prelude.{◌≡◌, eqb, leb};
 ghost use Rattle.numbers.specs.Answers.{number_of, answer_of};
-ghost use Rattle.numbers.specs.Ranges.{users, roles, sessions, sets, activationBeyond};
+ghost use Rattle.numbers.specs.Ranges.{users, roles, sessions, sets, activation_beyond};
 
 // User, role, session and set numbers all start at 0, so each has a type of its own: one given where another belongs does not type-check. Each holds any 16-bit number, since a number beyond its range is refused by an answer.
 #[derive(Drop)]
@@ -136,7 +137,7 @@ pub fn set_beyond(n: SetName) -> bool
 
 // Is one of the three numbers of `activate u s r` or `drop u s r` beyond its range? With the session and the role swapped, neither the calls nor the contract type-check.
 pub fn activation_beyond(u: User, s: Session, r: Role) -> bool
-    ensures { result ≡ activationBeyond u s r }
+    ensures { result ≡ activation_beyond u s r }
 {
     user_beyond(u) || (session_beyond(s) || role_beyond(r))
 }

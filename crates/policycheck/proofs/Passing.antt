@@ -12,7 +12,7 @@ use Rattle.roleset.specs.Roles.{has}
 use Rattle.roleset.proofs.BoundedLaws.{clash, some-start, some_more, some-intro}
 use Rattle.roleset.proofs.Laws.{has-none}
 use Rattle.hierarchy.specs.Lines.{table_of}
-use Rattle.model.specs.Model.{absentSet, closedSession}
+use Rattle.model.specs.Model.{absent_set, closed_session}
 use Rattle.state.specs.Stores.{Table}
 use Rattle.policycheck.specs.Tests.{Tells, Inside, Backed, SetFine, SessionFine}
 
@@ -43,11 +43,11 @@ module _ {P : ℕ → Type 0} {n : ℕ} where
   pub passed_none : Passed P n 0
   passed_none = record { few = omega arith; each = λ j h. absurd (omega arith) }
 
-  pub passed-more : {k : ℕ} → k < n → Passed P n k → P k → Passed P n (k + 1)
+  pub passed_more : {k : ℕ} → k < n → Passed P n k → P k → Passed P n (k + 1)
   passed-more h t p = record { few = omega arith; each = below_more _ _ t.each p }
 
   -- at the end it holds everywhere, since it holds past the end
-  pub passed-all : {k : ℕ} → n ≤ k → Passed P n k → ((j : ℕ) → n ≤ j → P j) → Tells true ((j : ℕ) → P j)
+  pub passed_all : {k : ℕ} → n ≤ k → Passed P n k → ((j : ℕ) → n ≤ j → P j) → Tells true ((j : ℕ) → P j)
   passed-all {k} h t past = record { holds = λ e j. go j (dec_lt j k); says = λ p. refl }
     where
       go : (j : ℕ) → Dec (j < k) → P j
@@ -66,13 +66,13 @@ pub record Unmet (f : ℕ → Bool) (n k : ℕ) : Type 0 where
   pub none : some k f ≡ false
 
 module _ {f : ℕ → Bool} {n : ℕ} where
-  pub unmet-start : Unmet f n 0
-  unmet-start = record { few = omega arith; none = some-start f }
+  pub unmet_start : Unmet f n 0
+  unmet_start = record { few = omega arith; none = some-start f }
 
-  pub unmet-more : {k : ℕ} {b : Bool} → k < n → b ≡ f k → b ≡ false → Unmet f n k → Unmet f n (k + 1)
+  pub unmet_more : {k : ℕ} {b : Bool} → k < n → b ≡ f k → b ≡ false → Unmet f n k → Unmet f n (k + 1)
   unmet-more {k} h e left u = record { few = omega arith; none = some_more k f u.none (sym e ∙ left) }
 
-  pub unmet-end : {k : ℕ} → n ≤ k → Unmet f n k → false ≡ some n f
+  pub unmet_end : {k : ℕ} → n ≤ k → Unmet f n k → false ≡ some n f
   unmet-end {k} h u = let whole : k ≡ n = omega (arith, u.few) in sym (rw whole at u.none)
 
 -- a place that passes it
@@ -87,8 +87,8 @@ backed-none there r e = clash (has 0 r) e (has-none r)
 pub inside-none : (roles : ℕ) → Inside roles 0
 inside-none roles = record { small = omega arith; each = λ r e. clash (has 0 r) e (has-none r) }
 
-pub set-none : (roles : ℕ) → SetFine roles absentSet
+pub set-none : (roles : ℕ) → SetFine roles absent_set
 set-none roles = record { absent = λ e. refl; small = omega arith; members = inside-none roles }
 
-pub session-none : (users : ℕ → Bool) (roles : ℕ) → SessionFine users roles closedSession
+pub session-none : (users : ℕ → Bool) (roles : ℕ) → SessionFine users roles closed_session
 session-none users roles = record { closed = λ e. refl; owned = λ e. clash false e refl; active = inside-none roles }

@@ -8,39 +8,39 @@ use native.Mathlib.Omega.{arith}
 use Rattle.roleset.specs.Roles.{has}
 use Rattle.roleset.proofs.BoundedLaws.{clash}
 use Rattle.roleset.proofs.Laws.{has-none}
-use Rattle.model.specs.Model.{RoleSet, Session, absentSet, closedSession}
-use Rattle.model.specs.commands.Sets.{setsOf}
+use Rattle.model.specs.Model.{RoleSet, Session, absent_set, closed_session}
+use Rattle.model.specs.commands.Sets.{sets_of}
 use Rattle.model.specs.declared.Kind.{Kind}
 use Rattle.model.specs.declared.Kind.TheVariants.{Static, Dynamic}
-use Rattle.state.specs.Places.{holdersAt, assignedAt, juniorsAt, setsAt, ownersAt, activeAt, usersAt}
-use Rattle.state.specs.View.{setOf, sessionOf, view}
+use Rattle.state.specs.Places.{holders_at, assigned_at, juniors_at, sets_at, owners_at, active_at, users_at}
+use Rattle.state.specs.View.{set_of, session_of, view}
 use Rattle.state.proofs.Slots.{part_none}
 use Rattle.state.proofs.Stored.{set_at}
 use Rattle.policycheck.specs.Tests.{Ranged}
 
 module _ (l : List ℕ) where
-  pub no-user : (u : ℕ) → 256 ≤ u → (view l).users u ≡ false
+  pub no_user : (u : ℕ) → 256 ≤ u → (view l).users u ≡ false
   unfolding view
-  no-user u h = ap (λ (w : ℕ). has w (u % 64)) (part_none l usersAt 4 _ (omega arith)) ∙ has-none (u % 64)
+  no-user u h = ap (λ (w : ℕ). has w (u % 64)) (part_none l users_at 4 _ (omega arith)) ∙ has-none (u % 64)
 
-  pub no-juniors : (s : ℕ) → 64 ≤ s → (view l).juniors s ≡ 0
+  pub no_juniors : (s : ℕ) → 64 ≤ s → (view l).juniors s ≡ 0
   unfolding view
-  no-juniors s h = part_none l juniorsAt 64 s h
+  no-juniors s h = part_none l juniors_at 64 s h
 
-  pub no-assigned : (u : ℕ) → 256 ≤ u → (view l).assigned u ≡ 0
+  pub no_assigned : (u : ℕ) → 256 ≤ u → (view l).assigned u ≡ 0
   unfolding view
-  no-assigned u h = part_none l assignedAt 256 u h
+  no-assigned u h = part_none l assigned_at 256 u h
 
-  no-holders : (p : ℕ) → 4096 ≤ p → (view l).holders p ≡ 0
+  no_holders : (p : ℕ) → 4096 ≤ p → (view l).holders p ≡ 0
   unfolding view
-  no-holders p h = part_none l holdersAt 4096 p h
+  no-holders p h = part_none l holders_at 4096 p h
 
-  pub no-set : (kind : Kind) (n : ℕ) → 16 ≤ n → setsOf kind (view l) n ≡ absentSet
-  no-set kind n h = sym (set_at kind l n) ∙ ap₂ setOf (part_none l (setsAt kind) 16 n h) (part_none l (setsAt kind + 16) 16 n h)
+  pub no_set : (kind : Kind) (n : ℕ) → 16 ≤ n → sets_of kind (view l) n ≡ absent_set
+  no-set kind n h = sym (set_at kind l n) ∙ ap₂ set_of (part_none l (sets_at kind) 16 n h) (part_none l (sets_at kind + 16) 16 n h)
 
-  pub no-session : (s : ℕ) → 64 ≤ s → (view l).sessions s ≡ closedSession
+  pub no_session : (s : ℕ) → 64 ≤ s → (view l).sessions s ≡ closed_session
   unfolding view
-  no-session s h = ap₂ sessionOf (part_none l ownersAt 64 s h) (part_none l activeAt 64 s h)
+  no-session s h = ap₂ session_of (part_none l owners_at 64 s h) (part_none l active_at 64 s h)
 
   -- a place where a test is passed is below n, where no place from n on passes it
   below : (n k : ℕ) (b : Bool) → (n ≤ k → b ≡ false) → b ≡ true → k < n

@@ -1,7 +1,7 @@
 -- What the tests of a state find. Assumes nothing.
 use Rattle.std.specs.Prelude.{Bool, true, false, ◌≡◌, ℕ, ◌<◌, ◌≤◌, ◌^◌}
 use Rattle.roleset.specs.Roles.{has}
-use Rattle.model.specs.Model.{Model, RoleSet, Session, absentSet, closedSession}
+use Rattle.model.specs.Model.{Model, RoleSet, Session, absent_set, closed_session}
 
 -- b says whether the statement holds
 pub record Tells (b : Bool) (P : Type 0) : Type 0 where
@@ -19,13 +19,13 @@ Backed there set = (r : ℕ) → has set r ≡ true → there ≡ true
 
 -- a set of existing roles with any sixteen-bit cardinality, or all zero
 pub record SetFine (roles : ℕ) (set : RoleSet) : Type 0 where
-  pub absent : set.there ≡ false → set ≡ absentSet
+  pub absent : set.there ≡ false → set ≡ absent_set
   pub small : set.card < 65536
   pub members : Inside roles set.roles
 
 -- a session of an existing user with existing roles, or all zero
 pub record SessionFine (users : ℕ → Bool) (roles : ℕ) (session : Session) : Type 0 where
-  pub closed : session.live ≡ false → session ≡ closedSession
+  pub closed : session.live ≡ false → session ≡ closed_session
   pub owned : session.live ≡ true → users session.owner ≡ true
   pub active : Inside roles session.active
 
@@ -48,9 +48,9 @@ pub record Ranged (m : Model) : Type 0 where
 
 -- by what is kept of how full the tables are, none has more than its limit
 pub record Few (m : Model) : Type 0 where
-  pub lines : m.lineCount ≤ 512
-  pub assignments : m.assignmentCount ≤ 2048
-  pub grants : m.grantCount ≤ 2048
+  pub lines : m.line_count ≤ 512
+  pub assignments : m.assignment_count ≤ 2048
+  pub grants : m.grant_count ≤ 2048
 
 -- What a policy file may hold, where the kept counts are the tables' own (proofs/Forming): it is `Formed` with the limits asked of those counts.
 pub record Fits (m : Model) : Type 0 where

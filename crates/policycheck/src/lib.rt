@@ -1,13 +1,14 @@
 // Asks a state whether it is of the form of the policy file, and which rule it breaks.
+#![tactic(auto)]
 ghost use Rattle.std.specs.Prelude.{true, not, ◌&&◌, ◌≡◌, ℕ};
 ghost use Rattle.roleset.specs.Roles.{has, subset};
 ghost use Rattle.hierarchy.specs.Lines.{table_of};
 ghost use Rattle.numbers.specs.Answers.{number_of};
 ghost use Rattle.model.specs.Sheet.{verdict};
 ghost use Rattle.model.specs.Words.{authorised};
-ghost use Rattle.model.specs.commands.Sets.{setsOf, badCardinality};
+ghost use Rattle.model.specs.commands.Sets.{sets_of, bad_cardinality};
 ghost use Rattle.state.specs.View.{view};
-ghost use Rattle.policyform.specs.Rules.{badSet, unauthorised, rulesBroken};
+ghost use Rattle.policyform.specs.Rules.{bad_set, unauthorised, rules_broken};
 ghost use Rattle.policycheck.specs.Tests.{Tells, Inside, Backed, SetFine, SessionFine, TablesFine, Few, Fits};
 
 use model::{Kind, RoleSet, SessionRecord};
@@ -108,7 +109,7 @@ fn set_fine(set: RoleSet, roles: u64) -> bool
 
 // Has every set of one kind the form that a file may list?
 fn sets_fine(state: &[u64; PLACES], kind: Kind) -> bool
-    ensures { Tells result ((n : ℕ) → SetFine (view state.now).roles (setsOf kind (view state.now) n)) }
+    ensures { Tells result ((n : ℕ) → SetFine (view state.now).roles (sets_of kind (view state.now) n)) }
 {
     let mut k: u16 = 0;
     while k < 16 {
@@ -200,7 +201,7 @@ pub fn formed(state: &[u64; PLACES]) -> bool
 
 // Is the cardinality of a set that is there below 2, or above the number of its roles?
 fn bad_cardinality(set: RoleSet) -> bool
-    ensures { result ≡ (set.there && badCardinality set.card set.roles) }
+    ensures { result ≡ (set.there && bad_cardinality set.card set.roles) }
 {
     if set.there {
         separation::bad_cardinality(set.card, set.roles)
@@ -211,7 +212,7 @@ fn bad_cardinality(set: RoleSet) -> bool
 
 // Is the cardinality of some set of the kind so?
 fn bad_set(state: &[u64; PLACES], kind: Kind) -> bool
-    ensures { result ≡ badSet (setsOf kind (view state.now)) }
+    ensures { result ≡ bad_set (sets_of kind (view state.now)) }
 {
     let mut k: u16 = 0;
     while k < 16 {
@@ -263,7 +264,7 @@ fn unauthorised(state: &[u64; PLACES]) -> bool
 
 // The lowest rule that the state breaks, or that it breaks none.
 pub fn broken(state: &[u64; PLACES]) -> Answer
-    ensures { number_of result ≡ verdict (rulesBroken (view state.now)) }
+    ensures { number_of result ≡ verdict (rules_broken (view state.now)) }
 {
     let lines = juniors_table(state);
     if hierarchy::circular(&lines) {

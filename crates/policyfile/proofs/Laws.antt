@@ -18,9 +18,9 @@ use Rattle.model.specs.Sheet.{Told, verdict, settle, done}
 use Rattle.model.specs.Sound.{Sound}
 use Rattle.sound.proofs.Sheet.{settle-done, settle-answer, settle-kept, refusal-changes-nothing}
 use Rattle.text.specs.Bytes.{two, flat, section}
-use Rattle.policyform.specs.Encode.{pairIn, grantIn, encode}
+use Rattle.policyform.specs.Encode.{pair_in, grant_in, encode}
 use Rattle.policyform.specs.Form.{Formed}
-use Rattle.policyform.specs.Rules.{rulesBroken}
+use Rattle.policyform.specs.Rules.{rules_broken}
 use Rattle.policyform.specs.Promises.{Saves, SaveDone, Loads}
 use Rattle.policyform.proofs.Size.{encode-size}
 use Rattle.policyread.proofs.Whole.{file-one}
@@ -31,9 +31,9 @@ use Rattle.policyfile.proofs.Sounding.{sound-formed, formed-sound, sound-clear}
 -- Two outcomes of one load are equal.
 pub loads-one : (before : Model) (bytes : List ℕ) (t t' : Told) → Loads before bytes t → Loads before bytes t' → t ≡ t'
 loads-one before bytes t t' (inl x) (inl y) = x.tells ∙ sym y.tells
-loads-one before bytes t t' (inl x) (inr y) = absurd (x.no-file y.model y.file)
-loads-one before bytes t t' (inr x) (inl y) = absurd (y.no-file x.model x.file)
-loads-one before bytes t t' (inr x) (inr y) = x.tells ∙ ap (λ (m : Model). settle (rulesBroken m) before [] m) (file-one bytes x.model y.model x.file y.file) ∙ sym y.tells
+loads-one before bytes t t' (inl x) (inr y) = absurd (x.no_file y.model y.file)
+loads-one before bytes t t' (inr x) (inl y) = absurd (y.no_file x.model x.file)
+loads-one before bytes t t' (inr x) (inr y) = x.tells ∙ ap (λ (m : Model). settle (rules_broken m) before [] m) (file-one bytes x.model y.model x.file y.file) ∙ sym y.tells
 
 -- Two outcomes of one save have the same answer, the same length and the same buffer.
 pub saves-one : (m : Model) (out after after' : List ℕ) (a a' n n' : ℕ) → Saves m out after a n → Saves m out after' a' n' → (a ≡ a') × ((n ≡ n') × (after ≡ after'))
@@ -61,24 +61,24 @@ save-fits m out after a n s h (inr x) = x.answered
 -- ---- round trips
 
 -- Load after save: the file of a model that may stand in one tells what this model breaks, or is this model;
-pub load-file : (before m : Model) (t : Told) → Formed m → Loads before (encode m) t → t ≡ settle (rulesBroken m) before [] m
-load-file before m t f (inl x) = absurd (x.no-file m (record { formed = f; written = refl }))
-load-file before m t f (inr x) = x.tells ∙ ap (λ (n : Model). settle (rulesBroken n) before [] n) (file-one (encode m) x.model m x.file (record { formed = f; written = refl }))
+pub load-file : (before m : Model) (t : Told) → Formed m → Loads before (encode m) t → t ≡ settle (rules_broken m) before [] m
+load-file before m t f (inl x) = absurd (x.no_file m (record { formed = f; written = refl }))
+load-file before m t f (inr x) = x.tells ∙ ap (λ (n : Model). settle (rules_broken n) before [] n) (file-one (encode m) x.model m x.file (record { formed = f; written = refl }))
 
 -- the file of a sound model is loaded as this model.
 pub load-after-save : (before m : Model) (t : Told) → Sound m → Loads before (encode m) t → t ≡ done [] m
-load-after-save before m t s l = load-file before m t (sound-formed m s) l ∙ settle-done (rulesBroken m) before [] m (sound-clear m s)
+load-after-save before m t s l = load-file before m t (sound-formed m s) l ∙ settle-done (rules_broken m) before [] m (sound-clear m s)
 
 -- What a load that was done hands back: a sound model, and the bytes are its file.
 pub loaded : (before : Model) (bytes : List ℕ) (t : Told) → Loads before bytes t → t.answer ≡ 0 → (Sound t.after) × (encode t.after ≡ bytes)
 loaded before bytes t (inl x) e = absurd (let z : ◌≡◌ {A = ℕ} 14 0 = sym (ap (λ (y : Told). y.answer) x.tells) ∙ e in omega arith)
 loaded before bytes t (inr x) e = subst (λ (m : Model). (Sound m) × (encode m ≡ bytes)) (sym same) (formed-sound x.model x.file.formed zero, x.file.written)
   where
-    zero : verdict (rulesBroken x.model) ≡ 0
-    zero = sym (settle-answer (rulesBroken x.model) before [] x.model) ∙ sym (ap (λ (y : Told). y.answer) x.tells) ∙ e
+    zero : verdict (rules_broken x.model) ≡ 0
+    zero = sym (settle-answer (rules_broken x.model) before [] x.model) ∙ sym (ap (λ (y : Told). y.answer) x.tells) ∙ e
 
     same : t.after ≡ x.model
-    same = ap (λ (y : Told). y.after) (x.tells ∙ settle-done (rulesBroken x.model) before [] x.model zero)
+    same = ap (λ (y : Told). y.after) (x.tells ∙ settle-done (rules_broken x.model) before [] x.model zero)
 
 -- Save after load: what a load accepted is saved as the bytes that were loaded.
 pub save-after-load : (before : Model) (bytes : List ℕ) (t : Told) → Loads before bytes t → t.answer ≡ 0 → encode t.after ≡ bytes
@@ -89,12 +89,12 @@ save-after-load before bytes t l e = (loaded before bytes t l e).1
 -- A refused load changes nothing.
 pub load-refused : (before : Model) (bytes : List ℕ) (t : Told) → Loads before bytes t → (t.answer ≡ 0 → ⊥) → t.after ≡ before
 load-refused before bytes t (inl x) h = ap (λ (y : Told). y.after) x.tells
-load-refused before bytes t (inr x) h = ap (λ (y : Told). y.after) x.tells ∙ (refusal-changes-nothing (rulesBroken x.model) before [] x.model (λ z. h (ap (λ (y : Told). y.answer) x.tells ∙ z))).0
+load-refused before bytes t (inr x) h = ap (λ (y : Told). y.after) x.tells ∙ (refusal-changes-nothing (rules_broken x.model) before [] x.model (λ z. h (ap (λ (y : Told). y.answer) x.tells ∙ z))).0
 
 -- A load keeps a sound model sound, whatever the bytes.
 pub load-sound : (before : Model) (bytes : List ℕ) (t : Told) → Sound before → Loads before bytes t → Sound t.after
 load-sound before bytes t s (inl x) = subst (λ (y : Told). Sound y.after) (sym x.tells) s
-load-sound before bytes t s (inr x) = subst (λ (y : Told). Sound y.after) (sym x.tells) (settle-kept Sound (rulesBroken x.model) before [] x.model s (formed-sound x.model x.file.formed))
+load-sound before bytes t s (inr x) = subst (λ (y : Told). Sound y.after) (sym x.tells) (settle-kept Sound (rules_broken x.model) before [] x.model s (formed-sound x.model x.file.formed))
 
 -- ---- P12
 
@@ -117,9 +117,9 @@ empty-file =
     rw (
       no-section two 256 (λ u. false) (λ k. refl),
       no-section two 64 (has 0) has-none,
-      no-section _ 4096 (pairIn (λ s. 0)) (λ k. has-none _),
-      no-section _ 16384 (pairIn (λ s. 0)) (λ k. has-none _),
-      no-section _ 262144 (grantIn (λ s. 0)) (λ k. has-none _),
+      no-section _ 4096 (pair_in (λ s. 0)) (λ k. has-none _),
+      no-section _ 16384 (pair_in (λ s. 0)) (λ k. has-none _),
+      no-section _ 262144 (grant_in (λ s. 0)) (λ k. has-none _),
       no-section _ 16 (λ n. false) (λ k. refl),
       no-section _ 64 (λ n. false) (λ k. refl),
     )

@@ -11,7 +11,7 @@ use Rattle.roleset.specs.Roles.{has, count}
 use Rattle.roleset.proofs.BoundedLaws.{tally-ext, total_ext}
 use Rattle.roleset.proofs.MembersLaws.{members-length}
 use Rattle.model.specs.Model.{standing}
-use Rattle.policyform.specs.Encode.{pairIn, grantIn}
+use Rattle.policyform.specs.Encode.{pair_in, grant_in}
 
 tally-add : (a b : ℕ) (f : ℕ → Bool) → tally (a + b) f ≡ tally a f + tally b (λ j. f (a + j))
 unfolding tally
@@ -40,17 +40,17 @@ unfolding tally total
 turn zero m g = sym (total-none m)
 turn (suc n) m g = ap (λ (k : ℕ). tally m (λ p. g p n) + k) (turn n m g) ∙ sym (total-bits m (λ p. g p n) (λ p. tally n (g p)))
 
-pub pairs-count : (n : ℕ) (table : ℕ → ℕ) → length (members (64 * n) (pairIn table)) ≡ standing n table
+pub pairs-count : (n : ℕ) (table : ℕ → ℕ) → length (members (64 * n) (pair_in table)) ≡ standing n table
 unfolding standing count
 pairs-count n table =
-    members-length (64 * n) (pairIn table)
-    ∙ grid-tally 64 n (pairIn table)
-    ∙ total_ext n (λ i. tally 64 (λ j. pairIn table (64 * i + j))) (λ i. count (table i)) (λ i h. tally-ext 64 (λ j. pairIn table (64 * i + j)) (has (table i)) (λ j l. ap₂ (λ (a b : ℕ). has (table a) b) (omega arith) (omega arith)))
+    members-length (64 * n) (pair_in table)
+    ∙ grid-tally 64 n (pair_in table)
+    ∙ total_ext n (λ i. tally 64 (λ j. pair_in table (64 * i + j))) (λ i. count (table i)) (λ i h. tally-ext 64 (λ j. pair_in table (64 * i + j)) (has (table i)) (λ j l. ap₂ (λ (a b : ℕ). has (table a) b) (omega arith) (omega arith)))
 
-pub grants-count : (holders : ℕ → ℕ) → length (members 262144 (grantIn holders)) ≡ standing 4096 holders
+pub grants-count : (holders : ℕ → ℕ) → length (members 262144 (grant_in holders)) ≡ standing 4096 holders
 unfolding standing count
 grants-count holders =
-    members-length 262144 (grantIn holders)
-    ∙ grid-tally 4096 64 (grantIn holders)
-    ∙ total_ext 64 (λ r. tally 4096 (λ p. grantIn holders (4096 * r + p))) (λ r. tally 4096 (λ p. has (holders p) r)) (λ r h. tally-ext 4096 (λ p. grantIn holders (4096 * r + p)) (λ p. has (holders p) r) (λ p l. ap₂ (λ (a b : ℕ). has (holders a) b) (omega arith) (omega arith)))
+    members-length 262144 (grant_in holders)
+    ∙ grid-tally 4096 64 (grant_in holders)
+    ∙ total_ext 64 (λ r. tally 4096 (λ p. grant_in holders (4096 * r + p))) (λ r. tally 4096 (λ p. has (holders p) r)) (λ r h. tally-ext 4096 (λ p. grant_in holders (4096 * r + p)) (λ p. has (holders p) r) (λ p l. ap₂ (λ (a b : ℕ). has (holders a) b) (omega arith) (omega arith)))
     ∙ turn 64 4096 (λ p r. has (holders p) r)

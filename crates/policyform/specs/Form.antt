@@ -3,13 +3,13 @@
 use Rattle.std.specs.Prelude.{true, false, List, ◌≡◌, ℕ, ◌<◌, ◌^◌}
 use Rattle.roleset.specs.Roles.{has}
 use Rattle.hierarchy.specs.Lines.{line}
-use Rattle.model.specs.Model.{Model, RoleSet, absentSet}
+use Rattle.model.specs.Model.{Model, RoleSet, absent_set}
 use Rattle.model.specs.Sound.{Existing, SessionShape, Limits, Counted}
 use Rattle.policyform.specs.Encode.{encode}
 
 -- a set with any sixteen-bit cardinality, or all zero
 pub record SetForm (m : Model) (n : ℕ) (set : RoleSet) : Type 0 where
-  pub absent : set.there ≡ false → set ≡ absentSet
+  pub absent : set.there ≡ false → set ≡ absent_set
   pub named : set.there ≡ true → n < 16
   pub small : set.card < 65536
   pub members : Existing m set.roles

@@ -5,7 +5,7 @@ use Rattle.model.specs.Model.{Model}
 use Rattle.model.specs.Sheet.{Told, refused, settle}
 use Rattle.policyform.specs.Encode.{encode}
 use Rattle.policyform.specs.Form.{FileOf}
-use Rattle.policyform.specs.Rules.{rulesBroken}
+use Rattle.policyform.specs.Rules.{rules_broken}
 
 -- "Saving answers 15 or 0 with the length, and bytes past that length are untouched." `out` is the lent buffer.
 pub record SaveRefused (m : Model) (out after : List ℕ) (answer size : ℕ) : Type 0 where
@@ -27,13 +27,13 @@ Saves m out after answer size = SaveRefused m out after answer size ⊎ SaveDone
 -- Loading any bytes: they are not of the form, which is 14 and changes nothing; or they are the file of a model, and then the load is refused
 -- with the lowest rule that this model breaks, or it replaces the policy and sessions whole.
 pub record NotOfForm (before : Model) (bytes : List ℕ) (told : Told) : Type 0 where
-  pub no-file : (m : Model) → FileOf m bytes → ⊥
+  pub no_file : (m : Model) → FileOf m bytes → ⊥
   pub tells : told ≡ refused 14 before
 
 pub record OfForm (before : Model) (bytes : List ℕ) (told : Told) : Type 0 where
   pub model : Model
   pub file : FileOf model bytes
-  pub tells : told ≡ settle (rulesBroken model) before [] model
+  pub tells : told ≡ settle (rules_broken model) before [] model
 
 abbrev pub Loads : Model → List ℕ → Told → Type 0
 Loads before bytes told = NotOfForm before bytes told ⊎ OfForm before bytes told

@@ -18,7 +18,7 @@ use Rattle.model.proofs.Puts.{put_same, put_other}
 
 -- entry by entry, in the order of the numbers
 module _ {A : Type 0} (act : A → ℕ → A) (test : ℕ → Bool) (P : ℕ → A → Type 0) (taken : (n : ℕ) (a : A) → test n ≡ true → P n a → P (n + 1) (act a n)) (left : (n : ℕ) (a : A) → test n ≡ false → P n a → P (n + 1) a) where
-  pub fold-members : (n : ℕ) (a : A) → P 0 a → P n (foldl act a (members n test))
+  pub fold_members : (n : ℕ) (a : A) → P 0 a → P n (foldl act a (members n test))
   unfolding members
   fold-members zero a p = p
   fold-members (suc n) a p = rw (foldl-append act a (members n test) (only_if (test n) n), ← add-one n) (go (test n) refl (fold-members n a p))
@@ -37,22 +37,22 @@ module _ {A : Type 0} (d : A) (g : ℕ → A) (test : ℕ → Bool) (size : ℕ)
     pub done : (k : ℕ) → k < n → t k ≡ g k
     pub left : (k : ℕ) → n ≤ k → t k ≡ d
 
-  placed-taken : (n : ℕ) (t : ℕ → A) → test n ≡ true → Placed n t → Placed (n + 1) (placing t n)
+  placed_taken : (n : ℕ) (t : ℕ → A) → test n ≡ true → Placed n t → Placed (n + 1) (placing t n)
   placed-taken n t e p = record { done = λ k h. go k (last-or-below k n (omega arith)); left = λ k h. put_other t n (g n) k (λ q. omega arith) ∙ p.left k (omega arith) }
     where
       go : (k : ℕ) → (k ≡ n) ⊎ (k < n) → put t n (g n) k ≡ g k
       go k (inl q) = rw q (put_same t n (g n))
       go k (inr q) = put_other t n (g n) k (λ r. omega arith) ∙ p.done k q
 
-  placed-left : (n : ℕ) (t : ℕ → A) → test n ≡ false → Placed n t → Placed (n + 1) t
+  placed_left : (n : ℕ) (t : ℕ → A) → test n ≡ false → Placed n t → Placed (n + 1) t
   placed-left n t e p = record { done = λ k h. go k (last-or-below k n (omega arith)); left = λ k h. p.left k (omega arith) }
     where
       go : (k : ℕ) → (k ≡ n) ⊎ (k < n) → t k ≡ g k
       go k (inl q) = rw q (p.left n (omega arith) ∙ sym (absent n e))
       go k (inr q) = p.done k q
 
-  pub records-back : foldl placing (λ k. d) (members size test) ≡ g
-  records-back = fun_ext (λ k. go k (dec_lt k size))
+  pub records_back : foldl placing (λ k. d) (members size test) ≡ g
+  records_back = fun_ext (λ k. go k (dec_lt k size))
     where
       all : Placed size (foldl placing (λ k. d) (members size test))
       all = fold-members placing test Placed placed-taken placed-left size (λ k. d) (record { done = λ k h. absurd (omega arith); left = λ k h. refl })
@@ -144,7 +144,7 @@ module _ (size all : ℕ) (row col : ℕ → ℕ) (num : ℕ → ℕ → ℕ) (f
   other : (n i r : ℕ) → i < size → r < 64 → (row n ≡ i → col n ≡ r → ⊥) → num i r ≡ n → ⊥
   other n i r h l x e = x (ap row (sym e) ∙ fit.place i r h l) (ap col (sym e) ∙ fit.role i r h l)
 
-  marked-taken : (n : ℕ) (t : ℕ → ℕ) → has (table (row n)) (col n) ≡ true → Marked n t → Marked (n + 1) (marking t n)
+  marked_taken : (n : ℕ) (t : ℕ → ℕ) → has (table (row n)) (col n) ≡ true → Marked n t → Marked (n + 1) (marking t n)
   marked-taken n t e m = record { past = λ i h. put_other t (row n) new i (λ e. omega (arith, inside)) ∙ m.past i h; fine = λ i h. fine i h (eqb i (row n)) refl; each = λ i r h l. each i r h l (eqb i (row n)) refl }
     where
       within : Dec (row n < size) → row n < size
@@ -169,7 +169,7 @@ module _ (size all : ℕ) (row col : ℕ → ℕ) (num : ℕ → ℕ → ℕ) (f
       each i r h l true q = rw (eqb-true i (row n) q, put_same t (row n) new) (has-with (t (row n)) (col n) r l ∙ here r l (eqb r (col n)) refl)
       each i r h l false q = rw (put_other t (row n) new i (eqb-false i (row n) q)) (m.each i r h l ∙ sym (below_next (num i r) n (has (table i) r) (other n i r h l (λ a b. eqb-false i (row n) q (sym a)))))
 
-  marked-left : (n : ℕ) (t : ℕ → ℕ) → has (table (row n)) (col n) ≡ false → Marked n t → Marked (n + 1) t
+  marked_left : (n : ℕ) (t : ℕ → ℕ) → has (table (row n)) (col n) ≡ false → Marked n t → Marked (n + 1) t
   marked-left n t e m = record { past = m.past; fine = m.fine; each = λ i r h l. m.each i r h l ∙ sym (go i r h l (eqb (num i r) n) refl) }
     where
       go : (i r : ℕ) → i < size → r < 64 → (b : Bool) → eqb (num i r) n ≡ b → (ltb (num i r) (n + 1) && has (table i) r) ≡ (ltb (num i r) n && has (table i) r)
@@ -178,8 +178,8 @@ module _ (size all : ℕ) (row col : ℕ → ℕ) (num : ℕ → ℕ → ℕ) (f
           below-same (num i r) n (has (table i) r) (ap₂ (λ (a b : ℕ). has (table a) b) (sym (fit.place i r h l) ∙ ap row p) (sym (fit.role i r h l) ∙ ap col p) ∙ e)
       go i r h l false q = below_next (num i r) n (has (table i) r) (eqb-false (num i r) n q)
 
-  pub grid-back : foldl marking (λ i. 0) (members all (λ k. has (table (row k)) (col k))) ≡ table
-  grid-back = fun_ext (λ i. go i (dec_lt i size))
+  pub grid_back : foldl marking (λ i. 0) (members all (λ k. has (table (row k)) (col k))) ≡ table
+  grid_back = fun_ext (λ i. go i (dec_lt i size))
     where
       done : Marked all (foldl marking (λ i. 0) (members all (λ k. has (table (row k)) (col k))))
       done = fold-members marking (λ k. has (table (row k)) (col k)) Marked marked-taken marked-left all (λ i. 0)

@@ -1,11 +1,12 @@
 // Gathers a state from the bytes of a file without asking whether they are one: bytes past the end are 0, what is out of range is dropped, and no count is taken as larger than its limit.
+#![tactic(auto)]
 ghost use Rattle.std.specs.Prelude.{◌≡◌, ◌<◌, ◌≤◌, ◌+◌, ◌*◌, ◌^◌, length};
 ghost use Rattle.hierarchy.specs.Lines.{table_of};
 ghost use Rattle.model.specs.Model.{standing};
 ghost use Rattle.state.specs.View.{view};
-ghost use Rattle.text.specs.Places.{word_at, at_most, readSection};
+ghost use Rattle.text.specs.Places.{word_at, at_most, read_section};
 ghost use Rattle.policyread.specs.Gathered.{counted, gathered};
-ghost use Rattle.policyread.specs.Steps.{pairAdded, readUser, pairsMost, readPair, readGrant, readRoles, readSet, readSession, Got, GotEntry};
+ghost use Rattle.policyread.specs.Steps.{pair_added, read_user, pairs_most, read_pair, read_grant, read_roles, read_set, read_session, Got, GotEntry};
 
 use model::Kind;
 use numbers::{Role, Session, SetName, User};
@@ -50,7 +51,7 @@ fn count_at(bytes: &[u8], at: usize, most: u16) -> u16
 // The users.
 fn read_users(bytes: &[u8], at: usize, state: &mut [u64; PLACES]) -> usize
     requires { at < 2 ^ 32 }
-    ensures { Got (readSection bytes.now 256 (readUser bytes.now) at (view state.old)) at 514 result (view state.new) }
+    ensures { Got (read_section bytes.now 256 (read_user bytes.now) at (view state.old)) at 514 result (view state.new) }
 {
     let mut next = at + 2;
     let mut left = count_at(bytes, at, 256);
@@ -66,7 +67,7 @@ fn read_users(bytes: &[u8], at: usize, state: &mut [u64; PLACES]) -> usize
 // A list of roles: the section of roles, or the roles of a set or a session.
 fn read_roles(bytes: &[u8], at: usize) -> Roles
     requires { at < 2 ^ 34 }
-    ensures { Got (readRoles bytes.now at) at 130 result.at result.roles }
+    ensures { Got (read_roles bytes.now at) at 130 result.at result.roles }
 {
     let mut roles: u64 = 0;
     let mut next = at + 2;
@@ -81,7 +82,7 @@ fn read_roles(bytes: &[u8], at: usize) -> Roles
 
 // How many pairs may stand.
 fn most_pairs(pairs: Pairs) -> u16
-    ensures { result ≡ pairsMost pairs }
+    ensures { result ≡ pairs_most pairs }
 {
     match pairs {
         Pairs::Lines => 512,
@@ -91,7 +92,7 @@ fn most_pairs(pairs: Pairs) -> u16
 
 // A line or an assignment is added. How many stand is counted at the end.
 fn add_pair(state: &mut [u64; PLACES], pairs: Pairs, number: u16, r: u16)
-    ensures { view state.new ≡ pairAdded pairs (view state.old) number r }
+    ensures { view state.new ≡ pair_added pairs (view state.old) number r }
 {
     match pairs {
         Pairs::Lines => {
@@ -110,7 +111,7 @@ fn add_pair(state: &mut [u64; PLACES], pairs: Pairs, number: u16, r: u16)
 // The lines, or the assignments.
 fn read_pairs(bytes: &[u8], at: usize, pairs: Pairs, state: &mut [u64; PLACES]) -> usize
     requires { at < 2 ^ 32 }
-    ensures { Got (readSection bytes.now (pairsMost pairs) (readPair pairs bytes.now) at (view state.old)) at (2 + 4 * pairsMost pairs) result (view state.new) }
+    ensures { Got (read_section bytes.now (pairs_most pairs) (read_pair pairs bytes.now) at (view state.old)) at (2 + 4 * pairs_most pairs) result (view state.new) }
 {
     let mut next = at + 2;
     let mut left = count_at(bytes, at, most_pairs(pairs));
@@ -127,7 +128,7 @@ fn read_pairs(bytes: &[u8], at: usize, pairs: Pairs, state: &mut [u64; PLACES]) 
 // The grants.
 fn read_grants(bytes: &[u8], at: usize, state: &mut [u64; PLACES]) -> usize
     requires { at < 2 ^ 32 }
-    ensures { Got (readSection bytes.now 2048 (readGrant bytes.now) at (view state.old)) at 12290 result (view state.new) }
+    ensures { Got (read_section bytes.now 2048 (read_grant bytes.now) at (view state.old)) at 12290 result (view state.new) }
 {
     let mut next = at + 2;
     let mut left = count_at(bytes, at, 2048);
@@ -163,7 +164,7 @@ fn read_entry(bytes: &[u8], at: usize) -> Entry
 // The sets of one kind, each with any cardinality.
 fn read_sets(bytes: &[u8], at: usize, kind: Kind, state: &mut [u64; PLACES]) -> usize
     requires { at < 2 ^ 32 }
-    ensures { Got (readSection bytes.now 16 (readSet kind bytes.now) at (view state.old)) at 2146 result (view state.new) }
+    ensures { Got (read_section bytes.now 16 (read_set kind bytes.now) at (view state.old)) at 2146 result (view state.new) }
 {
     let mut next = at + 2;
     let mut left = count_at(bytes, at, 16);
@@ -182,7 +183,7 @@ fn read_sets(bytes: &[u8], at: usize, kind: Kind, state: &mut [u64; PLACES]) -> 
 // The sessions, each with any owner.
 fn read_sessions(bytes: &[u8], at: usize, state: &mut [u64; PLACES]) -> usize
     requires { at < 2 ^ 32 }
-    ensures { Got (readSection bytes.now 64 (readSession bytes.now) at (view state.old)) at 8578 result (view state.new) }
+    ensures { Got (read_section bytes.now 64 (read_session bytes.now) at (view state.old)) at 8578 result (view state.new) }
 {
     let mut next = at + 2;
     let mut left = count_at(bytes, at, 64);

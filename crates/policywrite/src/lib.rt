@@ -1,13 +1,14 @@
 // Writes the file of a state, section by section. What would stand past the buffer's end is dropped, so that a buffer too short tells the length all the same.
+#![tactic(auto)]
 ghost use Rattle.std.specs.Prelude.{ℕ, ◌+◌, ◌<◌, ◌≤◌, ◌*◌, ◌^◌, ◌++◌, ◌≡◌, length, replicate};
 ghost use Rattle.roleset.specs.Bounded.{members};
 ghost use Rattle.roleset.specs.Roles.{has};
 ghost use Rattle.hierarchy.specs.Lines.{table_of};
-ghost use Rattle.model.specs.commands.Sets.{setsOf};
+ghost use Rattle.model.specs.commands.Sets.{sets_of};
 ghost use Rattle.state.specs.View.{view};
 ghost use Rattle.text.specs.Bytes.{two, flat, section};
 ghost use Rattle.text.specs.Places.{Wrote};
-ghost use Rattle.policyform.specs.Encode.{roleList, pairEntry, pairIn, grantEntry, grantIn, grantsPart, usersPart, setsPart, sessionsPart, encode};
+ghost use Rattle.policyform.specs.Encode.{role_list, pair_entry, pair_in, grant_entry, grant_in, grants_part, users_part, sets_part, sessions_part, encode};
 ghost use Rattle.policywrite.specs.Parts.{Part, Marked};
 
 use model::Kind;
@@ -50,7 +51,7 @@ fn put_three(first: usize, second: usize, third: usize, out: &mut [u8], at: usiz
 // The users that exist.
 fn put_users(state: &[u64; PLACES], out: &mut [u8], at: usize) -> usize
     requires { at < 2 ^ 32 }
-    ensures { Part out.old out.new at result 514 (usersPart (view state.now).users) }
+    ensures { Part out.old out.new at result 514 (users_part (view state.now).users) }
 {
     let mut n: usize = 0;
     let mut next = at + 2;
@@ -70,7 +71,7 @@ fn put_users(state: &[u64; PLACES], out: &mut [u8], at: usize) -> usize
 // The roles of a set. It takes the lowest role and drops it, as long as there is one.
 fn put_roles(set: u64, out: &mut [u8], at: usize) -> usize
     requires { at < 2 ^ 32 }
-    ensures { Part out.old out.new at result 130 (roleList set) }
+    ensures { Part out.old out.new at result 130 (role_list set) }
 {
     let mut next = put_word(out, at, roleset::count(set) as usize);
     let mut rest = set;
@@ -85,7 +86,7 @@ fn put_roles(set: u64, out: &mut [u8], at: usize) -> usize
 // The pairs of one place of a table: the place and each member of the set there.
 fn put_row(place: usize, set: u64, out: &mut [u8], at: usize) -> usize
     requires { at < 2 ^ 34 }
-    ensures { Wrote out.old out.new at result (flat (λ r. pairEntry (64 * place + r)) (members 64 (has set))) }
+    ensures { Wrote out.old out.new at result (flat (λ r. pair_entry (64 * place + r)) (members 64 (has set))) }
 {
     let mut next = at;
     let mut rest = set;
@@ -100,7 +101,7 @@ fn put_row(place: usize, set: u64, out: &mut [u8], at: usize) -> usize
 // The lines, or the assignments: each pair of a place and a member of the set there. A pair takes four bytes, so that the place past the last one tells how many there are.
 fn put_pairs(table: &[u64], out: &mut [u8], at: usize) -> usize
     requires { (at < 2 ^ 32) × (length table.now ≤ 256) }
-    ensures { Part out.old out.new at result 65538 (section pairEntry (members (64 * length table.now) (pairIn (table_of table.now)))) }
+    ensures { Part out.old out.new at result 65538 (section pair_entry (members (64 * length table.now) (pair_in (table_of table.now)))) }
 {
     let mut next = at + 2;
     let mut k: usize = 0;
@@ -133,7 +134,7 @@ fn mark(rows: &mut [u64; 4096], set: u64, p: usize)
 // The grants by number, 64 to a row: the table of holders turned round, from permission and role to role and permission.
 fn turn(holders: &[u64], rows: &mut [u64; 4096])
     requires { (length holders.now ≡ 4096) × (rows.old ≡ replicate 4096 0) }
-    ensures { (k : ℕ) → k < 262144 → pairIn (table_of rows.new) k ≡ grantIn (table_of holders.now) k }
+    ensures { (k : ℕ) → k < 262144 → pair_in (table_of rows.new) k ≡ grant_in (table_of holders.now) k }
 {
     let mut p: usize = 0;
     while p < 4096 {
@@ -146,7 +147,7 @@ fn turn(holders: &[u64], rows: &mut [u64; 4096])
 // The grants of one row. Grant 64 * row + k is of role row / 64, and of the permission whose operation is row % 64 / 4 and whose object is row % 4 * 64 + k.
 fn put_grant_row(row: usize, set: u64, out: &mut [u8], at: usize) -> usize
     requires { at < 2 ^ 34 }
-    ensures { Wrote out.old out.new at result (flat (λ k. grantEntry (64 * row + k)) (members 64 (has set))) }
+    ensures { Wrote out.old out.new at result (flat (λ k. grant_entry (64 * row + k)) (members 64 (has set))) }
 {
     let mut next = at;
     let mut rest = set;
@@ -161,7 +162,7 @@ fn put_grant_row(row: usize, set: u64, out: &mut [u8], at: usize) -> usize
 // The grants, row by row. A grant takes six bytes.
 fn put_grant_rows(rows: &[u64; 4096], out: &mut [u8], at: usize) -> usize
     requires { at < 2 ^ 32 }
-    ensures { Part out.old out.new at result 1572866 (section grantEntry (members 262144 (pairIn (table_of rows.now)))) }
+    ensures { Part out.old out.new at result 1572866 (section grant_entry (members 262144 (pair_in (table_of rows.now)))) }
 {
     let mut next = at + 2;
     let mut k: usize = 0;
@@ -180,7 +181,7 @@ fn put_grant_rows(rows: &[u64; 4096], out: &mut [u8], at: usize) -> usize
 // The grants, role by role.
 fn put_grants(holders: &[u64], out: &mut [u8], at: usize) -> usize
     requires { (at < 2 ^ 32) × (length holders.now ≡ 4096) }
-    ensures { Part out.old out.new at result 1572866 (grantsPart (table_of holders.now)) }
+    ensures { Part out.old out.new at result 1572866 (grants_part (table_of holders.now)) }
 {
     let mut rows = [0u64; 4096];
     turn(holders, &mut rows);
@@ -190,7 +191,7 @@ fn put_grants(holders: &[u64], out: &mut [u8], at: usize) -> usize
 // Two numbers and the roles of a set, as sets and sessions are written.
 fn put_entry(first: usize, second: usize, roles: u64, out: &mut [u8], at: usize) -> usize
     requires { at < 2 ^ 31 }
-    ensures { Part out.old out.new at result 134 (two first ++ (two second ++ roleList roles)) }
+    ensures { Part out.old out.new at result 134 (two first ++ (two second ++ role_list roles)) }
 {
     let list = put_pair(first, second, out, at);
     put_roles(roles, out, list)
@@ -199,7 +200,7 @@ fn put_entry(first: usize, second: usize, roles: u64, out: &mut [u8], at: usize)
 // The sets of one kind.
 fn put_sets(state: &[u64; PLACES], kind: Kind, out: &mut [u8], at: usize) -> usize
     requires { at < 2 ^ 30 }
-    ensures { Part out.old out.new at result 2146 (setsPart (setsOf kind (view state.now))) }
+    ensures { Part out.old out.new at result 2146 (sets_part (sets_of kind (view state.now))) }
 {
     let mut n: usize = 0;
     let mut next = at + 2;
@@ -226,7 +227,7 @@ fn put_sets(state: &[u64; PLACES], kind: Kind, out: &mut [u8], at: usize) -> usi
 // The sessions.
 fn put_sessions(state: &[u64; PLACES], out: &mut [u8], at: usize) -> usize
     requires { at < 2 ^ 30 }
-    ensures { Part out.old out.new at result 8578 (sessionsPart (view state.now).sessions) }
+    ensures { Part out.old out.new at result 8578 (sessions_part (view state.now).sessions) }
 {
     let mut n: usize = 0;
     let mut next = at + 2;

@@ -10,20 +10,20 @@ use lib.Seq.{length-take-le, take_at, drop_at, drop-drop}
 use Rattle.text.proofs.Putting.{put-length, put-within}
 use Rattle.model.specs.Model.{Model}
 use Rattle.state.specs.View.{view}
-use Rattle.script.specs.Script.{run_from, afterScript}
+use Rattle.script.specs.Script.{run_from, after_script}
 use Rattle.program.specs.Printing.{Prints, at_start}
 use Rattle.program.specs.declared.Run.{Run}
 use Rattle.program.specs.declared.Printed.{Printed}
-use Rattle.program.proofs.Whole.{left, last, callsLeft, Few, Goes, calls-on, goes_on, left-all, left-none, last-all, last_none, starts-few}
+use Rattle.program.proofs.Whole.{left, last, calls_left, Few, Goes, calls-on, goes_on, left-all, left-none, last-all, last_none, starts-few}
 
 -- Of what the script prints from the policy m on, so many bytes were handed out, and the rest is left; the calls that are left will leave what the
 -- script leaves of m.
 pub record Handing (m : Model) (script l : List ℕ) (r : Run) (count : ℕ) : Type 0 where
   pub few : Few r
   pub rest : drop count (run_from m script) ≡ left script l r
-  pub leaves : last script l r ≡ afterScript m script
+  pub leaves : last script l r ≡ after_script m script
   pub within : count ≤ length (run_from m script)
-  pub small : count + 24582 * callsLeft script r ≤ 24582 * (length script + 1)
+  pub small : count + 24582 * calls_left script r ≤ 24582 * (length script + 1)
 
 pub hands-all : (m : Model) (script l : List ℕ) (r : Run) → view l ≡ m → r ≡ at_start → Handing m script l r 0
 hands-all m script l r v b =
@@ -40,25 +40,25 @@ pub hands_none : (m : Model) (script l : List ℕ) (r : Run) (count : ℕ) → H
 hands_none m script l r count h e = omega (arith, h.within, length-drop count (run_from m script), ap length (h.rest ∙ left-none script l r e))
 
 -- and the state holds what the script leaves
-pub hands-last : (m : Model) (script l : List ℕ) (r : Run) (count : ℕ) → Handing m script l r count → r.over ≡ true → view l ≡ afterScript m script
+pub hands-last : (m : Model) (script l : List ℕ) (r : Run) (count : ℕ) → Handing m script l r count → r.over ≡ true → view l ≡ after_script m script
 hands-last m script l r count h e = sym (last_none script l r e) ∙ h.leaves
 
 module _ (m : Model) (script l : List ℕ) (r : Run) (before after : List ℕ) (x : Printed) (next : List ℕ) (count : ℕ) (room : 24582 ≤ length before) (h : Handing m script l r count) (e : r.over ≡ false) (t : Prints script l r before after x next) where
   goes : Goes script l r after x next
   goes = goes_on script l r before after x next room h.few e t
 
-  pub piece-within : x.len ≤ length after
-  piece-within = omega (arith, put-within t.puts.text (omega arith), put-length t.puts.text)
+  pub piece_within : x.len ≤ length after
+  piece_within = omega (arith, put-within t.puts.text (omega arith), put-length t.puts.text)
 
-  piece-long : length (take x.len after) ≡ x.len
-  piece-long = length-take-le x.len after piece-within
+  piece_long : length (take x.len after) ≡ x.len
+  piece_long = length-take-le x.len after piece-within
 
   splits : drop count (run_from m script) ≡ take x.len after ++ left script next x.run
   splits = h.rest ∙ sym goes.joins
 
   -- the piece stands next in what the script prints
-  pub piece-next : take x.len after ≡ take (length (take x.len after)) (drop count (run_from m script))
-  piece-next = rw splits (sym (take_at (take x.len after) (left script next x.run) _ refl))
+  pub piece_next : take x.len after ≡ take (length (take x.len after)) (drop count (run_from m script))
+  piece_next = rw splits (sym (take_at (take x.len after) (left script next x.run) _ refl))
 
   pub hands_on : Handing m script next x.run (count + x.len)
   hands_on =
@@ -70,8 +70,8 @@ module _ (m : Model) (script l : List ℕ) (r : Run) (before after : List ℕ) (
         small = omega (arith, h.small, goes.short, goes.fewer);
       }
 
-  pub calls-fewer : callsLeft script x.run < callsLeft script r
-  calls-fewer = goes.fewer
+  pub calls_fewer : calls_left script x.run < calls_left script r
+  calls_fewer = goes.fewer
 
   pub count_small : count + x.len ≤ 24582 * (length script + 1)
   count_small = omega (arith, h.small, goes.short, goes.fewer)

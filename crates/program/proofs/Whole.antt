@@ -12,15 +12,15 @@ use Rattle.text.proofs.Putting.{put_front}
 use Rattle.decimal.specs.Decimal.{numbered}
 use Rattle.decimal.proofs.Laws.{numbered-short}
 use Rattle.words.specs.Bytes.{bytes}
-use Rattle.textlines.specs.Parts.{placePast, partAt}
-use Rattle.textlines.specs.Tallies.{counted, oneMore}
+use Rattle.textlines.specs.Parts.{place_past, part_at}
+use Rattle.textlines.specs.Tallies.{counted, one_more}
 use Rattle.textlines.proofs.Laws.{past_more}
-use Rattle.script.specs.Script.{answerText, totalText, run_from, runScript, afterScript, lineFeed}
-use Rattle.script.specs.LineAnswers.{Turns, toldAt}
+use Rattle.script.specs.Script.{answer_text, total_text, run_from, run_script, after_script, line_feed}
+use Rattle.script.specs.LineAnswers.{Turns, told_at}
 use Rattle.script.specs.declared.Progress.{Progress}
 use Rattle.script.specs.declared.Turned.{Turned}
-use Rattle.script.proofs.Turning.{toPrint, toLeave, turn-prints, turn-counts, turn-leaves, answer-short, obey-few, at-end, after-end, from-policy, too-long-from, leaves_lines, leaves-it}
-use Rattle.program.specs.Printing.{Stage, stageOf, over, total, tooLong, line, Piece, piece, Puts, Prints, at_start, Begins, Runs, ends, goes}
+use Rattle.script.proofs.Turning.{to_print, to_leave, turn-prints, turn-counts, turn-leaves, answer-short, obey-few, at-end, after-end, from-policy, too-long-from, leaves_lines, leaves-it}
+use Rattle.program.specs.Printing.{Stage, stage_of, over, total, tooLong, line, Piece, piece, Puts, Prints, at_start, Begins, Runs, ends, goes}
 use Rattle.program.specs.declared.Run.{Run}
 use Rattle.program.specs.declared.Printed.{Printed}
 use Rattle.program.proofs.Stages.{at-over, at-total, at-too-long, at-line}
@@ -29,34 +29,34 @@ use Rattle.program.proofs.Stages.{at-over, at-total, at-too-long, at-line}
 
 left_at : Stage → List ℕ → List ℕ → Progress → List ℕ
 left_at over script l p = []
-left_at total script l p = totalText p.tally.done p.tally.others
-left_at tooLong script l p = answerText 14 [] ++ totalText (counted p.tally false).done (counted p.tally false).others
-left_at line script l p = toPrint script l p
+left_at total script l p = total_text p.tally.done p.tally.others
+left_at tooLong script l p = answer_text 14 [] ++ total_text (counted p.tally false).done (counted p.tally false).others
+left_at line script l p = to_print script l p
 
 pub left : List ℕ → List ℕ → Run → List ℕ
-left script l r = left_at (stageOf script r) script l r.progress
+left script l r = left_at (stage_of script r) script l r.progress
 
 -- and the policy and sessions that the calls will leave
 last_at : Stage → List ℕ → List ℕ → Progress → Model
 last_at over script l p = view l
 last_at total script l p = view l
 last_at tooLong script l p = view l
-last_at line script l p = toLeave script l p
+last_at line script l p = to_leave script l p
 
 pub last : List ℕ → List ℕ → Run → Model
-last script l r = last_at (stageOf script r) script l r.progress
+last script l r = last_at (stage_of script r) script l r.progress
 
 -- how many calls are left at most
-pub callsLeft : List ℕ → Run → ℕ
-callsLeft script r = elim r.over [ true ↦ 0 | false ↦ length script - r.progress.at + 1 ]
+pub calls_left : List ℕ → Run → ℕ
+calls_left script r = elim r.over [ true ↦ 0 | false ↦ length script - r.progress.at + 1 ]
 
 -- no more lines were counted than bytes were passed, so no counter is at its most
 abbrev pub Few : Run → Type 0
 Few r = r.progress.tally.done + r.progress.tally.others ≤ r.progress.at
 
-total-short : (done others : ℕ) → length (totalText done others) ≤ 18
-unfolding totalText
-total-short done others = omega (arith, length-append (bytes "total") (numbered (done ∷ others ∷ []) ++ (lineFeed ∷ [])), length-append (numbered (done ∷ others ∷ [])) (lineFeed ∷ []), numbered-short (done ∷ others ∷ []))
+total-short : (done others : ℕ) → length (total_text done others) ≤ 18
+unfolding total_text
+total-short done others = omega (arith, length-append (bytes "total") (numbered (done ∷ others ∷ []) ++ (line_feed ∷ [])), length-append (numbered (done ∷ others ∷ [])) (line_feed ∷ []), numbered-short (done ∷ others ∷ []))
 
 -- ---- one call
 
@@ -66,57 +66,57 @@ pub record Goes (script l : List ℕ) (r : Run) (after : List ℕ) (x : Printed)
   pub leaves : last script next x.run ≡ last script l r
   pub few : Few x.run
   pub short : x.len ≤ 24582
-  pub fewer : callsLeft script x.run < callsLeft script r
+  pub fewer : calls_left script x.run < calls_left script r
 
-left-at : (script l : List ℕ) (r : Run) {s : Stage} → stageOf script r ≡ s → left script l r ≡ left_at s script l r.progress
+left-at : (script l : List ℕ) (r : Run) {s : Stage} → stage_of script r ≡ s → left script l r ≡ left_at s script l r.progress
 unfolding left
 left-at script l r e = ap (λ (s : Stage). left_at s script l r.progress) e
 
-last-at : (script l : List ℕ) (r : Run) {s : Stage} → stageOf script r ≡ s → last script l r ≡ last_at s script l r.progress
+last-at : (script l : List ℕ) (r : Run) {s : Stage} → stage_of script r ≡ s → last script l r ≡ last_at s script l r.progress
 unfolding last
 last-at script l r e = ap (λ (s : Stage). last_at s script l r.progress) e
 
 -- while no line is too long, what is left is what the lines are still to print
-left-lines : (script l : List ℕ) (r : Run) → r.over ≡ false → length script ≤ 32768 → left script l r ≡ toPrint script l r.progress
+left-lines : (script l : List ℕ) (r : Run) → r.over ≡ false → length script ≤ 32768 → left script l r ≡ to_print script l r.progress
 unfolding left_at
 left-lines script l r e k = go (dec_lt r.progress.at (length script))
   where
-    go : Dec (r.progress.at < length script) → left script l r ≡ toPrint script l r.progress
+    go : Dec (r.progress.at < length script) → left script l r ≡ to_print script l r.progress
     go (yes h) = left-at script l r (at-line script r e h k)
     go (no h) = let n : length script ≤ r.progress.at = omega arith in left-at script l r (at-total script r e n) ∙ sym (at-end script (view l) r.progress.tally.done r.progress.tally.others r.progress.at n)
 
-last-lines : (script l : List ℕ) (r : Run) → r.over ≡ false → length script ≤ 32768 → last script l r ≡ toLeave script l r.progress
+last-lines : (script l : List ℕ) (r : Run) → r.over ≡ false → length script ≤ 32768 → last script l r ≡ to_leave script l r.progress
 unfolding last_at
 last-lines script l r e k = go (dec_lt r.progress.at (length script))
   where
-    go : Dec (r.progress.at < length script) → last script l r ≡ toLeave script l r.progress
+    go : Dec (r.progress.at < length script) → last script l r ≡ to_leave script l r.progress
     go (yes h) = last-at script l r (at-line script r e h k)
     go (no h) = let n : length script ≤ r.progress.at = omega arith in last-at script l r (at-total script r e n) ∙ sym (after-end script (view l) r.progress.at n)
 
-calls-over : (script : List ℕ) (r : Run) → r.over ≡ true → callsLeft script r ≡ 0
-unfolding callsLeft
+calls-over : (script : List ℕ) (r : Run) → r.over ≡ true → calls_left script r ≡ 0
+unfolding calls_left
 calls-over script r e = rw e
 
-pub calls-on : (script : List ℕ) (r : Run) → r.over ≡ false → callsLeft script r ≡ length script - r.progress.at + 1
-unfolding callsLeft
+pub calls-on : (script : List ℕ) (r : Run) → r.over ≡ false → calls_left script r ≡ length script - r.progress.at + 1
+unfolding calls_left
 calls-on script r e = rw e
 
 module _ (script l : List ℕ) (r : Run) (before after : List ℕ) (x : Printed) (next : List ℕ) (room : 24582 ≤ length before) (few : Few r) (e : r.over ≡ false) (t : Prints script l r before after x next) where
   abbrev told : Stage → Piece
   told s = piece s script l r.progress
 
-  puts-at : {s : Stage} → stageOf script r ≡ s → Puts (told s) before after x
+  puts_at : {s : Stage} → stage_of script r ≡ s → Puts (told s) before after x
   puts-at is = rw is at t.puts
 
-  state-at : {s : Stage} → stageOf script r ≡ s → view next ≡ (told s).after
+  state_at : {s : Stage} → stage_of script r ≡ s → view next ≡ (told s).after
   state-at is = rw is at t.state
 
   -- the piece stands at the front of the buffer
-  stands : {s : Stage} → stageOf script r ≡ s → length (told s).text ≤ 24582 → (take x.len after ≡ (told s).text) × (x.len ≤ 24582)
+  stands : {s : Stage} → stage_of script r ≡ s → length (told s).text ≤ 24582 → (take x.len after ≡ (told s).text) × (x.len ≤ 24582)
   stands is h = (put_front (puts-at is).text (omega arith), omega (arith, (puts-at is).text.ends))
 
   -- the total is the last piece
-  goes-total : length script ≤ r.progress.at → Goes script l r after x next
+  goes_total : length script ≤ r.progress.at → Goes script l r after x next
   unfolding left_at last_at
   goes-total h =
       let is = at-total script r e h in
@@ -132,8 +132,8 @@ module _ (script l : List ℕ) (r : Run) (before after : List ℕ) (x : Printed)
       }
 
   -- after the answer to a script that is too long comes the total
-  goes-too-long : r.progress.at < length script → 32768 < length script → Goes script l r after x next
-  unfolding left_at last_at counted oneMore
+  goes_too_long : r.progress.at < length script → 32768 < length script → Goes script l r after x next
+  unfolding left_at last_at counted one_more
   goes-too-long h k =
       let is = at-too-long script r e h k in
       let p = stands is (omega (arith, answer-short 14 [] (omega arith))) in
@@ -149,14 +149,14 @@ module _ (script l : List ℕ) (r : Run) (before after : List ℕ) (x : Printed)
       }
 
   -- after a line's answer comes what the lines after it print
-  goes-line : r.progress.at < length script → length script ≤ 32768 → Goes script l r after x next
+  goes_line : r.progress.at < length script → length script ≤ 32768 → Goes script l r after x next
   unfolding left_at
   goes-line h k =
       let is = at-line script r e h k in
-      let p = stands is (answer-short (toldAt script l r.progress).answer (toldAt script l r.progress).results (obey-few (view l) (partAt lineFeed script r.progress.at))) in
+      let p = stands is (answer-short (told_at script l r.progress).answer (told_at script l r.progress).results (obey-few (view l) (part_at line_feed script r.progress.at))) in
       let n = (puts-at is).run in
       let o : x.run.over ≡ false = ap (λ (q : Run). q.over) n in
-      let a : x.run.progress.at ≡ placePast lineFeed script r.progress.at = ap (λ (q : Run). q.progress.at) n in
+      let a : x.run.progress.at ≡ place_past line_feed script r.progress.at = ap (λ (q : Run). q.progress.at) n in
       let turned : Turned = record { len = x.len; next = x.run.progress } in
       let turns : Turns script l r.progress before after turned next = record { text = (puts-at is).text; place = a; tally = ap (λ (q : Run). q.progress.tally) n; state = state-at is } in
       record {
@@ -164,7 +164,7 @@ module _ (script l : List ℕ) (r : Run) (before after : List ℕ) (x : Printed)
         leaves = last-lines script next x.run o k ∙ turn-leaves script l r.progress before after turned next turns h room k few ∙ sym (last-lines script l r e k);
         few = turn-counts script l r.progress before after turned next turns h room k few;
         short = p.1;
-        fewer = omega (arith, calls-on script x.run o, calls-on script r e, past_more lineFeed script r.progress.at h);
+        fewer = omega (arith, calls-on script x.run o, calls-on script r e, past_more line_feed script r.progress.at h);
       }
 
   pub goes_on : Goes script l r after x next
@@ -191,24 +191,24 @@ module _ (script l : List ℕ) (r : Run) (b : r ≡ at_start) where
   fresh : (r.over ≡ false) × (r.progress.at ≡ 0)
   fresh = (ap (λ (q : Run). q.over) b, ap (λ (q : Run). q.progress.at) b)
 
-  pub left-all : left script l r ≡ run_from (view l) script
-  unfolding left_at counted oneMore
-  left-all = go (dec_lt 32768 (length script))
+  pub left_all : left script l r ≡ run_from (view l) script
+  unfolding left_at counted one_more
+  left_all = go (dec_lt 32768 (length script))
     where
       go : Dec (32768 < length script) → left script l r ≡ run_from (view l) script
       go (yes h) = left-at script l r (at-too-long script r fresh.0 (omega (arith, fresh.1)) h) ∙ rw b (sym (too-long-from (view l) script h))
       go (no h) = left-lines script l r fresh.0 (omega arith) ∙ rw b (sym (from-policy (view l) script (omega arith)))
 
-  pub last-all : last script l r ≡ afterScript (view l) script
+  pub last_all : last script l r ≡ after_script (view l) script
   unfolding last_at
-  last-all = go (dec_lt 32768 (length script))
+  last_all = go (dec_lt 32768 (length script))
     where
-      go : Dec (32768 < length script) → last script l r ≡ afterScript (view l) script
+      go : Dec (32768 < length script) → last script l r ≡ after_script (view l) script
       go (yes h) = last-at script l r (at-too-long script r fresh.0 (omega (arith, fresh.1)) h) ∙ sym (leaves-it (view l) script h)
       go (no h) = last-lines script l r fresh.0 (omega arith) ∙ rw b (sym (leaves_lines (view l) script (omega arith)))
 
-  pub starts-few : Few r
-  starts-few = rw b (omega arith)
+  pub starts_few : Few r
+  starts_few = rw b (omega arith)
 
 joined : {script out l last' : List ℕ} {r : Run} → Few r → Runs script l r out last' → (out ≡ left script l r) × (view last' ≡ last script l r)
 joined {script} few (ends l r e) = (sym (left-none script l r e), sym (last_none script l r e))
@@ -219,11 +219,11 @@ joined {script} few (goes l r before after x next rest end e room t runs) =
 
 -- The program's calls, from the first one until the total was handed out, hand out what the script prints from that policy on, whatever its length,
 -- and leave what the script leaves of it.
-pub whole_from : (script out l end : List ℕ) (r : Run) → r ≡ at_start → Runs script l r out end → (out ≡ run_from (view l) script) × (view end ≡ afterScript (view l) script)
+pub whole_from : (script out l end : List ℕ) (r : Run) → r ≡ at_start → Runs script l r out end → (out ≡ run_from (view l) script) × (view end ≡ after_script (view l) script)
 whole_from script out l end r b runs =
     let j = joined (starts-few script l r b) runs in
     (j.0 ∙ left-all script l r b, j.1 ∙ last-all script l r b)
 
-pub whole : (script out l end : List ℕ) (r : Run) → Begins l r → Runs script l r out end → out ≡ runScript script
-unfolding runScript
+pub whole : (script out l end : List ℕ) (r : Run) → Begins l r → Runs script l r out end → out ≡ run_script script
+unfolding run_script
 whole script out l end r b runs = (whole_from script out l end r b.run runs).0 ∙ ap (λ (m : Model). run_from m script) b.state

@@ -3,10 +3,10 @@ use Rattle.std.specs.Prelude.{Bool, true, false, List, [], ◌++◌, ◌≡◌, 
 use Rattle.model.specs.Model.{Model, empty}
 use Rattle.state.specs.View.{view}
 use Rattle.text.specs.Putting.{Put}
-use Rattle.textlines.specs.Parts.{placePast}
+use Rattle.textlines.specs.Parts.{place_past}
 use Rattle.textlines.specs.Tallies.{counted}
-use Rattle.script.specs.Script.{answerText, totalText, lineFeed, longestScript}
-use Rattle.script.specs.LineAnswers.{toldAt}
+use Rattle.script.specs.Script.{answer_text, total_text, line_feed, longest_script}
+use Rattle.script.specs.LineAnswers.{told_at}
 use Rattle.script.specs.declared.Progress.{Progress}
 use Rattle.program.specs.declared.Run.{Run}
 use Rattle.program.specs.declared.Printed.{Printed}
@@ -24,18 +24,18 @@ pub record Begins (l : List ℕ) (r : Run) : Type 0 where
 pub data Stage : Type 0 where
   over : Stage
   total : Stage
-  tooLong : Stage
+  too_long : Stage
   line : Stage
 
 -- by three tests: whether the total was handed out, whether a line is left to answer, whether the script is too long
-abbrev pub stageBy : Bool → Bool → Bool → Stage
-stageBy true left long = over
-stageBy false false long = total
-stageBy false true true = tooLong
-stageBy false true false = line
+abbrev pub stage_by : Bool → Bool → Bool → Stage
+stage_by true left long = over
+stage_by false false long = total
+stage_by false true true = tooLong
+stage_by false true false = line
 
-unfoldable pub stageOf : List ℕ → Run → Stage
-stageOf script r = stageBy r.over (ltb r.progress.at (length script)) (ltb longestScript (length script))
+unfoldable pub stage_of : List ℕ → Run → Stage
+stage_of script r = stage_by r.over (ltb r.progress.at (length script)) (ltb longest_script (length script))
 
 -- what a call hands to the output, how far the program has run then, and the policy with its sessions after it
 pub record Piece : Type 0 where
@@ -45,13 +45,13 @@ pub record Piece : Type 0 where
 
 abbrev pub piece : Stage → List ℕ → List ℕ → Progress → Piece
 piece over script l p = record { text = []; run = record { progress = p; over = true }; after = view l }
-piece total script l p = record { text = totalText p.tally.done p.tally.others; run = record { progress = p; over = true }; after = view l }
-piece tooLong script l p = record { text = answerText 14 []; run = record { progress = record { at = length script; tally = counted p.tally false }; over = false }; after = view l }
+piece total script l p = record { text = total_text p.tally.done p.tally.others; run = record { progress = p; over = true }; after = view l }
+piece tooLong script l p = record { text = answer_text 14 []; run = record { progress = record { at = length script; tally = counted p.tally false }; over = false }; after = view l }
 piece line script l p =
     record {
-      text = answerText (toldAt script l p).answer (toldAt script l p).results;
-      run = record { progress = record { at = placePast lineFeed script p.at; tally = counted p.tally (eqb (toldAt script l p).answer 0) }; over = false };
-      after = (toldAt script l p).after;
+      text = answer_text (told_at script l p).answer (told_at script l p).results;
+      run = record { progress = record { at = place_past line_feed script p.at; tally = counted p.tally (eqb (told_at script l p).answer 0) }; over = false };
+      after = (told_at script l p).after;
     }
 
 -- The piece's text stands at the front of the buffer and ends there at `len`.
@@ -65,15 +65,15 @@ Refuses script p before after x = Puts (piece tooLong script [] p) before after 
 
 -- One call: the piece that it hands to the output, and the state after it.
 pub record Prints (script l : List ℕ) (r : Run) (before after : List ℕ) (x : Printed) (next : List ℕ) : Type 0 where
-  pub puts : Puts (piece (stageOf script r) script l r.progress) before after x
-  pub state : view next ≡ (piece (stageOf script r) script l r.progress).after
+  pub puts : Puts (piece (stage_of script r) script l r.progress) before after x
+  pub state : view next ≡ (piece (stage_of script r) script l r.progress).after
 
 -- "Its buffers hold the longest result": the buffer that the program lends to each call
-abbrev pub bufferLength : ℕ
-bufferLength = 32768
+abbrev pub buffer_length : ℕ
+buffer_length = 32768
 
 -- The calls of the program, one after another until the total was handed out, with a buffer of that length each: from the state l and so far on,
 -- this is handed to the output, piece after piece, and this state is left.
 pub data Runs (script : List ℕ) : List ℕ → Run → List ℕ → List ℕ → Type 0 where
   ends : (l : List ℕ) (r : Run) → r.over ≡ true → Runs script l r [] l
-  goes : (l : List ℕ) (r : Run) (before after : List ℕ) (x : Printed) (next rest last : List ℕ) → r.over ≡ false → length before ≡ bufferLength → Prints script l r before after x next → Runs script next x.run rest last → Runs script l r (take x.len after ++ rest) last
+  goes : (l : List ℕ) (r : Run) (before after : List ℕ) (x : Printed) (next rest last : List ℕ) → r.over ≡ false → length before ≡ buffer_length → Prints script l r before after x next → Runs script next x.run rest last → Runs script l r (take x.len after ++ rest) last

@@ -9,14 +9,14 @@ use lib.Dec.{eqb, leb, ltb}
 use lib.ListN.{length, drop}
 use lib.Seq.{drop-append-add}
 use borrow.Author.Tests.{ne_eqb, le-leb, leb-true, lt-ltb, ltb-true, not-true}
-use Rattle.decimal.specs.Decimal.{digit, lead, decimal, numbered, value, taken, takenFrom, space}
+use Rattle.decimal.specs.Decimal.{digit, lead, decimal, numbered, value, taken, taken_from, space}
 use Rattle.decimal.proofs.Laws.{value-decimal, decimal-long}
-use Rattle.words.specs.ScriptWords.{spelling, which, wordCount, words}
+use Rattle.words.specs.ScriptWords.{spelling, which, word_count, words}
 use Rattle.words.proofs.Laws.{and-true, same-equal, same_refl}
 use Rattle.words.proofs.Tables.{which-spelling, lengths, over-words}
-use Rattle.textlines.specs.Parts.{joined, parts_of, up_to, placePast}
+use Rattle.textlines.specs.Parts.{joined, parts_of, up_to, place_past}
 use Rattle.textlines.proofs.Laws.{after, at-stop, before-stop, cut, kept}
-use Rattle.reading.specs.Form.{render, Small, Written, line, noLine, word_in, numbersIn, shaped, again, parse}
+use Rattle.reading.specs.Form.{render, Small, Written, line, noLine, word_in, numbers_in, shaped, again, parse}
 
 -- ---- a text without spaces
 
@@ -53,7 +53,7 @@ unfolding decimal
 free-decimal n =
     free-append _ _ (free-lead 10000 n) (free-append _ _ (free-lead 1000 n) (free-append _ _ (free-lead 100 n) (free-append _ _ (free-lead 10 n) (free-byte (digit 1 n) (omega arith)))))
 
-free-spelling : (k : ℕ) → k < wordCount → free (spelling k) ≡ true
+free-spelling : (k : ℕ) → k < word_count → free (spelling k) ≡ true
 unfolding spelling words free lengths
 free-spelling k h = over-words (λ k. free (spelling k)) tt k h
 
@@ -106,7 +106,7 @@ drop-one (n ∷ ns) = refl
 
 -- ---- a line
 
-module _ (k : ℕ) (ns : List ℕ) (h : k < wordCount) where
+module _ (k : ℕ) (ns : List ℕ) (h : k < word_count) where
   first : up_to space (render k ns) ≡ spelling k
   unfolding render
   first = up-free (spelling k) (numbered ns) (free-spelling k h) ∙ rw (no_part ns) (append-nil (spelling k))
@@ -115,7 +115,7 @@ module _ (k : ℕ) (ns : List ℕ) (h : k < wordCount) where
   unfolding word_in
   word_back = ap which first ∙ which-spelling k h
 
-  left : drop (placePast space (render k ns) 0) (render k ns) ≡ tail ns
+  left : drop (place_past space (render k ns) 0) (render k ns) ≡ tail ns
   unfolding render
   left =
       after space (render k ns) 0
@@ -123,13 +123,13 @@ module _ (k : ℕ) (ns : List ℕ) (h : k < wordCount) where
       ∙ ap (λ (n : ℕ). drop n (render k ns)) (sym (add-one (length (spelling k))))
       ∙ drop-append-add (spelling k) (numbered ns) 1 ∙ drop-one ns
 
-  pub numbers-again : Small ns → numbersIn (render k ns) ≡ ns
-  unfolding numbersIn
+  pub numbers_again : Small ns → numbers_in (render k ns) ≡ ns
+  unfolding numbers_in
   numbers-again s = ap (λ (l : List ℕ). map value (parts_of space l)) left ∙ numbers-back ns s
 
 -- ---- the two laws
 
-pub accepted : (text : List ℕ) → again text (word_in text) (numbersIn text) ≡ true → parse text ≡ line (word_in text) (numbersIn text)
+pub accepted : (text : List ℕ) → again text (word_in text) (numbers_in text) ≡ true → parse text ≡ line (word_in text) (numbers_in text)
 unfolding parse
 accepted text e = rw (e, parse)
 
@@ -138,18 +138,18 @@ pub written-parsed : (text : List ℕ) (k : ℕ) (ns : List ℕ) → Written tex
 written-parsed text k ns w =
     accepted text (rw (k-is, ns-is) whole) ∙ ap₂ line k-is ns-is
   where
-    k-is : word_in text ≡ k
-    k-is = ap word_in (sym w.is) ∙ word_back k ns w.known
+    k_is : word_in text ≡ k
+    k_is = ap word_in (sym w.is) ∙ word_back k ns w.known
 
-    ns-is : numbersIn text ≡ ns
-    ns-is = ap numbersIn (sym w.is) ∙ numbers-again k ns w.known w.small
+    ns_is : numbers_in text ≡ ns
+    ns_is = ap numbers_in (sym w.is) ∙ numbers-again k ns w.known w.small
 
     whole : again text k ns ≡ true
-    whole = both (leb (length text) 512) _ (le-leb _ _ w.short) (both (shaped k (length ns)) _ (both (ltb k wordCount) _ (lt-ltb _ _ w.known) w.fits) (rw w.is (same_refl text)))
+    whole = both (leb (length text) 512) _ (le-leb _ _ w.short) (both (shaped k (length ns)) _ (both (ltb k word_count) _ (lt-ltb _ _ w.known) w.fits) (rw w.is (same_refl text)))
 
 -- The numbers that a reader takes are small.
-small-taken : (v : ℕ) (l : List ℕ) → v < 65536 → takenFrom v l < 65536
-unfolding takenFrom
+small-taken : (v : ℕ) (l : List ℕ) → v < 65536 → taken_from v l < 65536
+unfolding taken_from
 small-taken v [] h = h
 small-taken v (b ∷ l) h = small-taken (taken v b) l (omega arith)
 
@@ -157,31 +157,31 @@ small-map : (ls : List (List ℕ)) → Small (map value ls)
 small-map [] = tt
 small-map (l ∷ ls) = (small-taken 0 l (omega arith), small-map ls)
 
-pub small-in : (text : List ℕ) → Small (numbersIn text)
-unfolding numbersIn
-small-in text = small-map (parts_of space (drop (placePast space text 0) text))
+pub small-in : (text : List ℕ) → Small (numbers_in text)
+unfolding numbers_in
+small-in text = small-map (parts_of space (drop (place_past space text 0) text))
 
 -- what a text is taken for, where writing it again gives the text
-once : (text : List ℕ) → again text (word_in text) (numbersIn text) ≡ true → Written text (word_in text) (numbersIn text)
+once : (text : List ℕ) → again text (word_in text) (numbers_in text) ≡ true → Written text (word_in text) (numbers_in text)
 once text e =
     let a = and-true (leb (length text) 512) _ e in
-    let b = and-true (shaped (word_in text) (length (numbersIn text))) _ a.1 in
-    let d = and-true (ltb (word_in text) wordCount) _ b.0 in
+    let b = and-true (shaped (word_in text) (length (numbers_in text))) _ a.1 in
+    let d = and-true (ltb (word_in text) word_count) _ b.0 in
     record { known = ltb-true _ _ d.0; fits = d.1; small = small-in text; short = leb-true _ _ a.0; is = same-equal _ _ b.1 }
 
-pub refused : (text : List ℕ) → again text (word_in text) (numbersIn text) ≡ false → parse text ≡ noLine
+pub refused : (text : List ℕ) → again text (word_in text) (numbers_in text) ≡ false → parse text ≡ noLine
 unfolding parse
 refused text e = rw (e, parse)
 
 -- A text that is read as a line is that line.
 pub parsed-written : (text : List ℕ) (k : ℕ) (ns : List ℕ) → parse text ≡ line k ns → Written text k ns
-parsed-written text k ns e = go (again text (word_in text) (numbersIn text)) refl
+parsed-written text k ns e = go (again text (word_in text) (numbers_in text)) refl
   where
-    go : (t : Bool) → again text (word_in text) (numbersIn text) ≡ t → Written text k ns
+    go : (t : Bool) → again text (word_in text) (numbers_in text) ≡ t → Written text k ns
     go true p =
-        let same_line : line (word_in text) (numbersIn text) ≡ line k ns = sym (accepted text p) ∙ e in
+        let same_line : line (word_in text) (numbers_in text) ≡ line k ns = sym (accepted text p) ∙ e in
         let kk : word_in text ≡ k = cc in
-        let nn : numbersIn text ≡ ns = cc in
+        let nn : numbers_in text ≡ ns = cc in
         rw (kk, nn) at (once text p)
     go false p = let z : ◌≡◌ {A = ℕ} 0 1 = cc (refused text p) in absurd (omega arith)
 

@@ -1,6 +1,6 @@
 -- A line as the code holds it: its numbers in the front of an array, zeros after them; where a text is no line, all is zero. Assumes nothing.
 use Rattle.std.specs.Prelude.{Bool, true, false, List, ◌++◌, ℕ, ◌-◌, leb, length, replicate}
-use Rattle.reading.specs.Form.{Parsed, line, noLine, word_in, numbersIn}
+use Rattle.reading.specs.Form.{Parsed, line, noLine, word_in, numbers_in}
 use Rattle.reading.specs.declared.Line.{Line}
 
 unfoldable pub padded : List ℕ → List ℕ
@@ -18,4 +18,4 @@ held noLine = blank
 
 -- what a reader gathers, where there is room for the numbers
 abbrev pub gathered : List ℕ → Line
-gathered text = elim (leb (length (numbersIn text)) 256) [ true ↦ full (word_in text) (numbersIn text) | false ↦ blank ]
+gathered text = elim (leb (length (numbers_in text)) 256) [ true ↦ full (word_in text) (numbers_in text) | false ↦ blank ]

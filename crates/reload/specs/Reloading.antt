@@ -7,12 +7,12 @@ use Rattle.decimal.specs.Decimal.{decimal}
 use Rattle.policyform.specs.Promises.{Loads}
 
 -- the answer's number and LF
-abbrev pub answerLine : ℕ → List ℕ
-answerLine answer = decimal answer ++ (10 ∷ [])
+abbrev pub answer_line : ℕ → List ℕ
+answer_line answer = decimal answer ++ (10 ∷ [])
 
 -- and after a 0 the policy as it is saved again, which is the file, byte for byte
 unfoldable pub reloaded : ℕ → List ℕ → List ℕ
-reloaded answer file = answerLine answer ++ elim (eqb answer 0) [ true ↦ file | false ↦ [] ]
+reloaded answer file = answer_line answer ++ elim (eqb answer 0) [ true ↦ file | false ↦ [] ]
 
 -- The bytes come next in what is printed, of which so many were written, whatever loading the file into the empty policy tells.
 abbrev pub NextFor : List ℕ → ℕ → List ℕ → Type 0

@@ -1,9 +1,10 @@
 // Reads a policy file from standard input, loads it into the empty state, and prints the answer's number and, after a 0, the file as it is saved
 // again. Where it cannot read all of it or print all of it, it says so on standard error.
+#![tactic(auto)]
 ghost use Rattle.std.specs.Prelude.{true, ◌≡◌, ◌+◌, ◌^◌, ◌<◌, length};
 ghost use Rattle.numbers.specs.Answers.{number_of};
 ghost use Rattle.text.specs.Putting.{Put};
-ghost use Rattle.reload.specs.Reloading.{answerLine, NextFor, AllFor};
+ghost use Rattle.reload.specs.Reloading.{answer_line, NextFor, AllFor};
 
 use libc::{STDERR_FILENO, STDIN_FILENO, STDOUT_FILENO};
 use numbers::Answer;
@@ -18,7 +19,7 @@ struct Written {
 
 // Puts the answer's number and LF.
 fn put_answer(line: &mut [u8], answer: Answer) -> usize
-    ensures { Put line.old 0 (answerLine (number_of answer)) line.new result }
+    ensures { Put line.old 0 (answer_line (number_of answer)) line.new result }
 {
     let last = decimal::put_number(line, 0, numbers::number_of(answer));
     text::put(line, last, 10)

@@ -11,14 +11,14 @@ use Rattle.roleset.specs.Roles.{has, with, none, common, is_empty}
 use Rattle.roleset.proofs.BoundedLaws.{never, and_left, and_right, yes-not}
 use Rattle.roleset.proofs.Laws.{has-common, member-small, is_empty_false}
 use Rattle.hierarchy.specs.Lines.{Small, AtOrAbove}
-use Rattle.hierarchy.specs.Walks.{atOrAbove}
+use Rattle.hierarchy.specs.Walks.{at_or_above}
 use Rattle.hierarchy.proofs.InheritsLaws.{ends-small}
 use Rattle.hierarchy.proofs.AboveLaws.{above-sound, reach-above}
 use Rattle.model.specs.Model.{Model}
 use Rattle.model.specs.Lists.{listed}
 use Rattle.model.specs.Sound.{Sound, Shape}
 use Rattle.model.specs.Words.{reached, authorised, effective, permission}
-use Rattle.model.specs.Questions.{holds, authorisedBy, authUsers, authRoles, rolePerms, userPerms, sessionPerms, roleOps, userOps}
+use Rattle.model.specs.Questions.{holds, authorised_by, auth_users, auth_roles, role_perms, user_perms, session_perms, role_ops, user_ops}
 use Rattle.model.specs.commands.Sessions.{permitted, check}
 use Rattle.reviews.proofs.Listed.{session-perms-listed, role-perms-listed, user-perms-listed, role-ops-listed, user-ops-listed, auth-users-listed, auth-roles-listed}
 
@@ -27,18 +27,18 @@ within : (a : Bool) (k n : ℕ) → k < n → (ltb k n && a) ≡ a
 within a k n h = rw (lt-ltb k n h)
 
 -- `check` says yes exactly of the permissions that `session-perms` lists
-pub check-session-perms : (m : Model) (s p : ℕ) → p < 4096 → permitted m s p ≡ listed (sessionPerms m s) p
+pub check-session-perms : (m : Model) (s p : ℕ) → p < 4096 → permitted m s p ≡ listed (session_perms m s) p
 unfolding permitted
 check-session-perms m s p h = sym (session-perms-listed m s p ∙ within (holds m (effective m s) p) p 4096 h)
 
 -- `role-ops` lists exactly the operations whose permissions on the object `role-perms` lists, and so for a user
-pub role-ops-perms : (m : Model) (r op obj : ℕ) → op < 16 → obj < 256 → listed (roleOps m r obj) op ≡ listed (rolePerms m r) (permission op obj)
+pub role-ops-perms : (m : Model) (r op obj : ℕ) → op < 16 → obj < 256 → listed (role_ops m r obj) op ≡ listed (role_perms m r) (permission op obj)
 role-ops-perms m r op obj h l =
     role-ops-listed m r obj op
     ∙ within (holds m (reached m (with none r)) (permission op obj)) op 16 h
     ∙ sym (role-perms-listed m r (permission op obj) ∙ within (holds m (reached m (with none r)) (permission op obj)) (permission op obj) 4096 (omega arith))
 
-pub user-ops-perms : (m : Model) (u op obj : ℕ) → op < 16 → obj < 256 → listed (userOps m u obj) op ≡ listed (userPerms m u) (permission op obj)
+pub user-ops-perms : (m : Model) (u op obj : ℕ) → op < 16 → obj < 256 → listed (user_ops m u obj) op ≡ listed (user_perms m u) (permission op obj)
 user-ops-perms m u op obj h l =
     user-ops-listed m u obj op
     ∙ within (holds m (authorised m u) (permission op obj)) op 16 h
@@ -50,11 +50,11 @@ lines-small m shape = record { within = λ s j h. (member-small m.roles s shape.
 
 module _ (m : Model) (sound : Sound m) where
   -- no user but 0 to 255 is authorised for anything
-  beyond-users : (r u : ℕ) → 256 ≤ u → authorisedBy m r u ≡ false
-  beyond-users r u h = never (authorisedBy m r u) (λ e. out (is_empty_false (common (m.assigned u) above) (yes-not (is_empty (common (m.assigned u) above)) e)))
+  beyond_users : (r u : ℕ) → 256 ≤ u → authorised_by m r u ≡ false
+  beyond-users r u h = never (authorised_by m r u) (λ e. out (is_empty_false (common (m.assigned u) above) (yes-not (is_empty (common (m.assigned u) above)) e)))
     where
       above : ℕ
-      above = atOrAbove m.juniors r
+      above = at_or_above m.juniors r
 
       out : (k : ℕ) × (k < 64) × (has (common (m.assigned u) above) k ≡ true) → ⊥
       out (k, l, e) =
@@ -63,12 +63,12 @@ module _ (m : Model) (sound : Sound m) where
           omega arith
 
   -- nor is anybody for a role but 0 to 63
-  beyond-roles : (r u : ℕ) → 64 ≤ r → authorisedBy m r u ≡ false
-  unfolding atOrAbove
-  beyond-roles r u h = never (authorisedBy m r u) (λ e. out (is_empty_false (common (m.assigned u) above) (yes-not (is_empty (common (m.assigned u) above)) e)))
+  beyond_roles : (r u : ℕ) → 64 ≤ r → authorised_by m r u ≡ false
+  unfolding at_or_above
+  beyond-roles r u h = never (authorised_by m r u) (λ e. out (is_empty_false (common (m.assigned u) above) (yes-not (is_empty (common (m.assigned u) above)) e)))
     where
       above : ℕ
-      above = atOrAbove m.juniors r
+      above = at_or_above m.juniors r
 
       small : Small m.juniors
       small = lines-small m sound.shape
@@ -81,21 +81,21 @@ module _ (m : Model) (sound : Sound m) where
       out (k, l, e) = none_above k l (above-sound m.juniors small r k (and_right (has (m.assigned u) k) (has above k) (sym (has-common (m.assigned u) above k l) ∙ e)))
 
   -- `auth-users` lists a user for a role exactly if `auth-roles` lists the role for the user
-  pub auth-agree : (u r : ℕ) → listed (authUsers m r) u ≡ listed (authRoles m u) r
+  pub auth_agree : (u r : ℕ) → listed (auth_users m r) u ≡ listed (auth_roles m u) r
   auth-agree u r = go (dec_lt u 256) (dec_lt r 64)
     where
       small : Small m.juniors
       small = lines-small m sound.shape
 
       -- one walk down and one walk up tell the same
-      same : r < 64 → has (authorised m u) r ≡ authorisedBy m r u
+      same : r < 64 → has (authorised m u) r ≡ authorised_by m r u
       same l = reach-above m.juniors small (m.assigned u) r l
 
-      right : r < 64 → listed (authRoles m u) r ≡ authorisedBy m r u
+      right : r < 64 → listed (auth_roles m u) r ≡ authorised_by m r u
       right l = auth-roles-listed m u r ∙ within (has (authorised m u) r) r 64 l ∙ same l
 
-      go : Dec (u < 256) → Dec (r < 64) → listed (authUsers m r) u ≡ listed (authRoles m u) r
-      go (yes p) (yes l) = auth-users-listed m r u ∙ within (authorisedBy m r u) u 256 p ∙ sym (right l)
+      go : Dec (u < 256) → Dec (r < 64) → listed (auth_users m r) u ≡ listed (auth_roles m u) r
+      go (yes p) (yes l) = auth-users-listed m r u ∙ within (authorised_by m r u) u 256 p ∙ sym (right l)
       go (no p) (yes l) = auth-users-listed m r u ∙ rw (le-ltb u 256 (omega arith)) (sym (right l ∙ beyond-users r u (omega arith)))
-      go (yes p) (no l) = auth-users-listed m r u ∙ within (authorisedBy m r u) u 256 p ∙ beyond-roles r u (omega arith) ∙ sym (auth-roles-listed m u r ∙ rw (le-ltb r 64 (omega arith)))
+      go (yes p) (no l) = auth-users-listed m r u ∙ within (authorised_by m r u) u 256 p ∙ beyond-roles r u (omega arith) ∙ sym (auth-roles-listed m u r ∙ rw (le-ltb r 64 (omega arith)))
       go (no p) (no l) = auth-users-listed m r u ∙ rw (le-ltb u 256 (omega arith)) (sym (auth-roles-listed m u r ∙ rw (le-ltb r 64 (omega arith))))

@@ -27,7 +27,7 @@ module _ {f : ℕ → ℕ} {n : ℕ} where
   pub fill_start : {t : List ℕ} → length t ≡ n → Filled f n 0 t
   fill_start h = record { few = omega arith; long = h; each = λ j l. absurd (omega arith) }
 
-  pub fill-next : {k v : ℕ} {t : List ℕ} → k < n → v ≡ f k → Filled f n k t → Filled f n (k + 1) (set t k v)
+  pub fill_next : {k v : ℕ} {t : List ℕ} → k < n → v ≡ f k → Filled f n k t → Filled f n (k + 1) (set t k v)
   fill-next {k} {v} {t} h e s = record { few = omega arith; long = length-set t k v ∙ s.long; each = λ j l. go j (last-or-below j k (omega arith)) }
     where
       go : (j : ℕ) → (j ≡ k) ⊎ (j < k) → table_of (set t k v) j ≡ f j

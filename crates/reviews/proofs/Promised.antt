@@ -12,14 +12,14 @@ use Rattle.numbers.proofs.Answers.{number-one-to-one}
 use Rattle.numbers.specs.declared.Session.{Session}
 use Rattle.model.specs.Model.{Model}
 use Rattle.model.specs.Sheet.{Told, Refusal, verdict, settle}
-use Rattle.model.specs.Questions.{assignedUsers, assignedRoles, authUsers, authRoles, rolePerms, userPerms, sessionRoles, sessionPerms, roleOps, userOps, setNames, setRoles, setCount, review, ask}
+use Rattle.model.specs.Questions.{assigned_users, assigned_roles, auth_users, auth_roles, role_perms, user_perms, session_roles, session_perms, role_ops, user_ops, set_names, set_roles, set_count, review, ask}
 use Rattle.model.specs.commands.Sessions.{check}
 use Rattle.model.specs.declared.Question.{Question}
 use Rattle.model.specs.declared.Question.TheVariants.{Check, AssignedUsers, AssignedRoles, AuthUsers, AuthRoles, RolePerms, UserPerms, SessionRoles, SessionPerms, RoleOps, UserOps, Sets, SetRoles, SetCount}
 use Rattle.reviews.specs.declared.Review.{Review}
 use Rattle.reviews.specs.Reviewing.{Reviewed, fitted, refusals}
 use Rattle.reviews.proofs.Settling.{done-room}
-use Rattle.reviews.proofs.WhichReview.{isReview}
+use Rattle.reviews.proofs.WhichReview.{is_review}
 
 -- ---- the room
 
@@ -46,23 +46,23 @@ two-fit rs m room a n h = go (eqb (verdict rs) 0) refl
 pub results_fit : (m : Model) (room : ℕ) (q : Question) → ((s : Session) (op obj : ℕ) → q ≡ Check s op obj → 2 ≤ room) → length (ask m room q).results ≤ room
 unfolding ask check
 results_fit m room (Check s op obj) h = two-fit _ m room _ _ (h s op obj refl)
-results_fit m room (AssignedUsers r) h = review-fits m room _ _ (assignedUsers m r.number)
-results_fit m room (AssignedRoles u) h = review-fits m room _ _ (assignedRoles m u.number)
-results_fit m room (AuthUsers r) h = review-fits m room _ _ (authUsers m r.number)
-results_fit m room (AuthRoles u) h = review-fits m room _ _ (authRoles m u.number)
-results_fit m room (RolePerms r) h = review-fits m room _ _ (rolePerms m r.number)
-results_fit m room (UserPerms u) h = review-fits m room _ _ (userPerms m u.number)
-results_fit m room (SessionRoles s) h = review-fits m room _ _ (sessionRoles m s.number)
-results_fit m room (SessionPerms s) h = review-fits m room _ _ (sessionPerms m s.number)
-results_fit m room (RoleOps r obj) h = review-fits m room _ _ (roleOps m r.number obj)
-results_fit m room (UserOps u obj) h = review-fits m room _ _ (userOps m u.number obj)
-results_fit m room (Sets kind) h = review-fits m room _ _ (setNames kind m)
-results_fit m room (SetRoles kind name) h = review-fits m room _ _ (setRoles kind m name.number)
-results_fit m room (SetCount kind name) h = review-fits m room _ _ (setCount kind m name.number)
+results_fit m room (AssignedUsers r) h = review-fits m room _ _ (assigned_users m r.number)
+results_fit m room (AssignedRoles u) h = review-fits m room _ _ (assigned_roles m u.number)
+results_fit m room (AuthUsers r) h = review-fits m room _ _ (auth_users m r.number)
+results_fit m room (AuthRoles u) h = review-fits m room _ _ (auth_roles m u.number)
+results_fit m room (RolePerms r) h = review-fits m room _ _ (role_perms m r.number)
+results_fit m room (UserPerms u) h = review-fits m room _ _ (user_perms m u.number)
+results_fit m room (SessionRoles s) h = review-fits m room _ _ (session_roles m s.number)
+results_fit m room (SessionPerms s) h = review-fits m room _ _ (session_perms m s.number)
+results_fit m room (RoleOps r obj) h = review-fits m room _ _ (role_ops m r.number obj)
+results_fit m room (UserOps u obj) h = review-fits m room _ _ (user_ops m u.number obj)
+results_fit m room (Sets kind) h = review-fits m room _ _ (set_names kind m)
+results_fit m room (SetRoles kind name) h = review-fits m room _ _ (set_roles kind m name.number)
+results_fit m room (SetCount kind name) h = review-fits m room _ _ (set_count kind m name.number)
 
-pub reviews-fit : (m : Model) (room : ℕ) (q : Question) → isReview q ≡ true → length (ask m room q).results ≤ room
-unfolding isReview
-reviews-fit m room q e = results_fit m room q (λ s op obj f. clash (isReview q) e (ap isReview f))
+pub reviews-fit : (m : Model) (room : ℕ) (q : Question) → is_review q ≡ true → length (ask m room q).results ≤ room
+unfolding is_review
+reviews-fit m room q e = results_fit m room q (λ s op obj f. clash (is_review q) e (ap is_review f))
 
 -- A review is told as the paper has it in any buffer, and `check` in one with two places or more.
 pub asked-with-room : (m : Model) (room : ℕ) (q : Question) → ((s : Session) (op obj : ℕ) → q ≡ Check s op obj → 2 ≤ room) → fitted room (ask m room q) ≡ ask m room q

@@ -4,18 +4,18 @@ use Rattle.model.specs.declared.Question.{Question}
 use Rattle.model.specs.declared.Question.TheVariants.{Check, AssignedUsers, AssignedRoles, AuthUsers, AuthRoles, RolePerms, UserPerms, SessionRoles, SessionPerms, RoleOps, UserOps, Sets, SetRoles, SetCount}
 
 -- every question but `check` is a review
-unfoldable pub isReview : Question → Bool
-isReview (Check s op obj) = false
-isReview (AssignedUsers r) = true
-isReview (AssignedRoles u) = true
-isReview (AuthUsers r) = true
-isReview (AuthRoles u) = true
-isReview (RolePerms r) = true
-isReview (UserPerms u) = true
-isReview (SessionRoles s) = true
-isReview (SessionPerms s) = true
-isReview (RoleOps r obj) = true
-isReview (UserOps u obj) = true
-isReview (Sets kind) = true
-isReview (SetRoles kind name) = true
-isReview (SetCount kind name) = true
+unfoldable pub is_review : Question → Bool
+is_review (Check s op obj) = false
+is_review (AssignedUsers r) = true
+is_review (AssignedRoles u) = true
+is_review (AuthUsers r) = true
+is_review (AuthRoles u) = true
+is_review (RolePerms r) = true
+is_review (UserPerms u) = true
+is_review (SessionRoles s) = true
+is_review (SessionPerms s) = true
+is_review (RoleOps r obj) = true
+is_review (UserOps u obj) = true
+is_review (Sets kind) = true
+is_review (SetRoles kind name) = true
+is_review (SetCount kind name) = true

@@ -7,7 +7,7 @@ ghost use Rattle.numbers.specs.Answers.{number_of};
 ghost use Rattle.model.specs.Sheet.{verdict};
 ghost use Rattle.model.specs.Words.{permission};
 ghost use Rattle.model.specs.Questions.{holds};
-ghost use Rattle.model.specs.commands.Sets.{setsOf};
+ghost use Rattle.model.specs.commands.Sets.{sets_of};
 ghost use Rattle.state.specs.View.{view};
 ghost use Rattle.reviews.specs.Reviewing.{Lists, refusals, meets, meeting};
 
@@ -161,7 +161,7 @@ pub(crate) fn review_ops(
 
 // Role 0 in the place of each set of this kind that is there, and no role in the other places.
 pub(crate) fn there(state: &[u64; PLACES], kind: Kind) -> [u64; 16]
-    ensures { (n : ℕ) → n < 16 → table_of result n ≡ bit (setsOf kind (view state.now) n).there }
+    ensures { (n : ℕ) → n < 16 → table_of result n ≡ bit (sets_of kind (view state.now) n).there }
 {
     let mut t = [0u64; 16];
     let mut n: u16 = 0;

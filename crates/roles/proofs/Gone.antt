@@ -6,10 +6,10 @@ use lib.ListN.{set, get_or}
 use Rattle.roleset.specs.Roles.{has, without, count}
 use Rattle.roleset.proofs.BoundedLaws.{tally-le}
 use Rattle.hierarchy.specs.Lines.{table_of}
-use Rattle.model.specs.Model.{Model, put, withSessions}
+use Rattle.model.specs.Model.{Model, put, with_sessions}
 use Rattle.model.specs.Words.{shed}
-use Rattle.model.specs.commands.Users.{withoutRole, linesWith}
-use Rattle.state.specs.Stores.{withActive, Table}
+use Rattle.model.specs.commands.Users.{without_role, lines_with}
+use Rattle.state.specs.Stores.{with_active, Table}
 use Rattle.state.specs.View.{part, view}
 use Rattle.sweeps.specs.Sweeps.{ShedsAll, Strips}
 use Rattle.sweeps.proofs.Changing.{as-part, table-put, table-stripped, table-had}
@@ -34,12 +34,12 @@ module _ (l juniors assigned lines_left holds-left : List ℕ) (r above held : �
   swept : ShedsAll (put (λ s. without ((view l).juniors s) r) r 0) (λ u. without ((view l).assigned u) r) (view l).sessions kept
   swept = sheds-same kept lines_after.each (as-part holds-left holds_after) refl sheds
 
-  pub role-gone : (between after : Model) (below : ℕ) → below ≡ count (get_or lines_left r 0) → between ≡ leaving (view l) r (part (set lines_left r 0) 0 64) (above + below) (part holds-left 0 256) held → after ≡ withSessions between (withActive between.sessions (part kept 0 64)) → after ≡ shed (withoutRole (view l) r)
-  unfolding withoutRole
+  pub role_gone : (between after : Model) (below : ℕ) → below ≡ count (get_or lines_left r 0) → between ≡ leaving (view l) r (part (set lines_left r 0) 0 64) (above + below) (part holds-left 0 256) held → after ≡ with_sessions between (with_active between.sessions (part kept 0 64)) → after ≡ shed (without_role (view l) r)
+  unfolding without_role
   role-gone between after below counted stored e =
-      shed-stored (withoutRole (view l) r) kept swept (view-past l) between after
-      (stored ∙ ap₂ (λ (f : ℕ → ℕ) (n : ℕ). leaving (view l) r f n (part holds-left 0 256) held) (as-part (set lines_left r 0) lines_after) gone ∙ ap₂ (λ (f : ℕ → ℕ) (n : ℕ). leaving (view l) r (put (λ s. without ((view l).juniors s) r) r 0) (linesWith (view l) r) f n) (as-part holds-left holds_after) (table-had assigned holds-left r held holds no-user))
+      shed-stored (without_role (view l) r) kept swept (view-past l) between after
+      (stored ∙ ap₂ (λ (f : ℕ → ℕ) (n : ℕ). leaving (view l) r f n (part holds-left 0 256) held) (as-part (set lines_left r 0) lines_after) gone ∙ ap₂ (λ (f : ℕ → ℕ) (n : ℕ). leaving (view l) r (put (λ s. without ((view l).juniors s) r) r 0) (lines_with (view l) r) f n) (as-part holds-left holds_after) (table-had assigned holds-left r held holds no-user))
       e
     where
-      gone : above + below ≡ linesWith (view l) r
+      gone : above + below ≡ lines_with (view l) r
       gone = ap₂ (λ (x y : ℕ). x + y) (table-had juniors lines_left r above lines no_line) (counted ∙ ap (λ (f : ℕ → ℕ). count (f r)) stripped.each)

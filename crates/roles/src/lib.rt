@@ -1,10 +1,11 @@
 // The commands `role` and `norole`.
+#![tactic(auto)]
 ghost use Rattle.std.specs.Prelude.{◌≡◌};
-ghost use Rattle.model.specs.commands.Sets.{setsOf};
+ghost use Rattle.model.specs.commands.Sets.{sets_of};
 ghost use Rattle.model.specs.commands.Users.{role, norole, in_set};
 ghost use Rattle.state.specs.Stores.{in_range};
 ghost use Rattle.state.specs.View.{part, view, told};
-ghost use Rattle.roles.specs.Leaving.{ungranted, allUngranted, leaving};
+ghost use Rattle.roles.specs.Leaving.{ungranted, all_ungranted, leaving};
 
 use model::Kind;
 use numbers::{Answer, Role, SetName};
@@ -33,7 +34,7 @@ pub fn role(state: &mut [u64; PLACES], r: Role) -> Answer
 
 // Does the role stand in some set of this kind?
 fn in_set(state: &[u64; PLACES], kind: Kind, r: Role) -> bool
-    ensures { result ≡ in_set (setsOf kind (view state.now)) r.number }
+    ensures { result ≡ in_set (sets_of kind (view state.now)) r.number }
 {
     let mut n: u16 = 0;
     while n < 16 {
@@ -59,7 +60,7 @@ fn ungrant(state: &mut [u64; PLACES], p: usize, r: Role)
 
 // The role holds no permission any longer, and the grants that went are counted.
 fn ungrant_all(state: &mut [u64; PLACES], r: Role)
-    ensures { view state.new ≡ allUngranted (view state.old) r.number }
+    ensures { view state.new ≡ all_ungranted (view state.old) r.number }
 {
     let mut p: usize = 0;
     while p < 4096 {

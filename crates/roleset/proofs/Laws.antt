@@ -207,23 +207,23 @@ subset-false a b h = go (some-elim 64 (λ j. has a j && not (has b j)) (outside 
     go : (k : ℕ) × (k < 64) × ((has a k && not (has b k)) ≡ true) → (k : ℕ) × (k < 64) × (has a k ≡ true) × (has b k ≡ false)
     go r = (r.0, r.1, and_left (has a r.0) (not (has b r.0)) r.2, yes-not (has b r.0) (and_right (has a r.0) (not (has b r.0)) r.2))
 
-pub isEmpty-true : (s : ℕ) → is_empty s ≡ true → (k : ℕ) → k < 64 → has s k ≡ false
+pub is_empty-true : (s : ℕ) → is_empty s ≡ true → (k : ℕ) → k < 64 → has s k ≡ false
 unfolding is_empty
-isEmpty-true s h k l = some-false 64 (has s) (yes-not (some 64 (has s)) h) k l
+is_empty-true s h k l = some-false 64 (has s) (yes-not (some 64 (has s)) h) k l
 
-pub isEmpty-intro : (s : ℕ) → ((k : ℕ) → k < 64 → has s k ≡ false) → is_empty s ≡ true
+pub is_empty-intro : (s : ℕ) → ((k : ℕ) → k < 64 → has s k ≡ false) → is_empty s ≡ true
 unfolding is_empty
-isEmpty-intro s h = not_yes (some 64 (has s)) (some-none 64 (has s) h)
+is_empty-intro s h = not_yes (some 64 (has s)) (some-none 64 (has s) h)
 
-pub isEmpty-none : is_empty 0 ≡ true
-isEmpty-none = isEmpty-intro 0 (λ k l. has-none k)
+pub is_empty-none : is_empty 0 ≡ true
+is_empty-none = is_empty-intro 0 (λ k l. has-none k)
 
 pub is_empty_false : (s : ℕ) → is_empty s ≡ false → (k : ℕ) × (k < 64) × (has s k ≡ true)
 unfolding is_empty
 is_empty_false s h = some-elim 64 (has s) (borrow.Author.Tests.not-false (some 64 (has s)) h)
 
-pub isEmpty-zero : (s : ℕ) → s < 2 ^ 64 → is_empty s ≡ true → s ≡ 0
-isEmpty-zero s h e = ext s 0 h (omega arith) (λ k l. isEmpty-true s e k l ∙ sym (has-none k))
+pub is_empty-zero : (s : ℕ) → s < 2 ^ 64 → is_empty s ≡ true → s ≡ 0
+is_empty-zero s h e = ext s 0 h (omega arith) (λ k l. is_empty-true s e k l ∙ sym (has-none k))
 
 -- ---- counts
 

@@ -15,7 +15,7 @@ use Rattle.roleset.specs.Bounded.{bit}
 use Rattle.roleset.specs.Roles.{has, those, with, without, union, common, minus, subset, is_empty}
 use Rattle.roleset.specs.Promises.{Made, Answers, Lowest}
 use Rattle.roleset.proofs.BoundedLaws.{clash, and_left, and_right, agree, never}
-use Rattle.roleset.proofs.Laws.{digit, has-top, has-low, has-none, is-those, has-or, has-and, ext, subset-true, subset-intro, member-small, isEmpty-zero, is_empty_false, isEmpty-none}
+use Rattle.roleset.proofs.Laws.{digit, has-top, has-low, has-none, is-those, has-or, has-and, ext, subset-true, subset-intro, member-small, is_empty-zero, is_empty_false, is_empty-none}
 
 -- a number below 2 ^ 64 whose members are those that pass the test is the set that the definition gives
 made : (s : ℕ) (f g : ℕ → Bool) → s < 2 ^ 64 → ((k : ℕ) → has s k ≡ g k) → ((k : ℕ) → k < 64 → g k ≡ f k) → Made s (those f) g
@@ -126,7 +126,7 @@ without-beyond s r h l = made s (λ k. has s k && not (eqb k r)) (λ k. has s k 
 -- ---- subset and empty
 
 pub and-subset : (a b : ℕ) → a < 2 ^ 64 → b < 2 ^ 64 → Answers (eqb (bit_and a b) a) (subset a b) ((k : ℕ) → has a k ≡ true → has b k ≡ true)
-and-subset a b ha hb = record { is = agree (eqb (bit_and a b) a) (subset a b) (λ e. subset-intro a b (λ k l. means e k)) (λ e. back (λ k p. subset-true a b e k (member-small a k ha p) p)); yes-means = means; means-yes = back }
+and-subset a b ha hb = record { is = agree (eqb (bit_and a b) a) (subset a b) (λ e. subset-intro a b (λ k l. means e k)) (λ e. back (λ k p. subset-true a b e k (member-small a k ha p) p)); yes_means = means; means_yes = back }
   where
     means : eqb (bit_and a b) a ≡ true → (k : ℕ) → has a k ≡ true → has b k ≡ true
     means e k p = and_right (has a k) (has b k) (sym (has-and a b k) ∙ ap (λ (x : ℕ). has x k) (eqb-true (bit_and a b) a e) ∙ p)
@@ -135,7 +135,7 @@ and-subset a b ha hb = record { is = agree (eqb (bit_and a b) a) (subset a b) (�
     back f = eq-eqb (bit_and a b) a (ext (bit_and a b) a (and_lt 64 a b ha hb) ha (λ k l. has-and a b k ∙ agree (has a k && has b k) (has a k) (λ e. and_left (has a k) (has b k) e) (λ e. rw (e, f k e))))
 
 pub zero-empty : (s : ℕ) → s < 2 ^ 64 → Answers (eqb s 0) (is_empty s) ((k : ℕ) → has s k ≡ false)
-zero-empty s h = record { is = agree (eqb s 0) (is_empty s) (λ e. rw (eqb-true s 0 e) isEmpty-none) (λ e. eq-eqb s 0 (isEmpty-zero s h e)); yes-means = λ e k. rw (eqb-true s 0 e) (has-none k); means-yes = λ f. eq-eqb s 0 (ext s 0 h (omega arith) (λ k l. f k ∙ sym (has-none k))) }
+zero-empty s h = record { is = agree (eqb s 0) (is_empty s) (λ e. rw (eqb-true s 0 e) is_empty-none) (λ e. eq-eqb s 0 (is_empty-zero s h e)); yes_means = λ e k. rw (eqb-true s 0 e) (has-none k); means_yes = λ f. eq-eqb s 0 (ext s 0 h (omega arith) (λ k l. f k ∙ sym (has-none k))) }
 
 -- ---- the lowest member
 
@@ -168,4 +168,4 @@ pub trailing-member : (s : ℕ) → is_empty s ≡ false → Lowest s (count_tra
 trailing-member s e = let m = is_empty_false s e in trailing-lowest 64 s m.0 m.1 m.2
 
 pub trailing-empty : (s : ℕ) → s < 2 ^ 64 → is_empty s ≡ true → count_trailing_zeros 64 s ≡ 64
-trailing-empty s h e = ap (count_trailing_zeros 64) (isEmpty-zero s h e) ∙ trailing_of_zero 64
+trailing-empty s h e = ap (count_trailing_zeros 64) (is_empty-zero s h e) ∙ trailing_of_zero 64

@@ -6,11 +6,11 @@ use native.Mathlib.Omega.{arith}
 use Rattle.roleset.specs.Promises.{Lowest}
 use Rattle.roleset.specs.Roles.{has, without, is_empty, count}
 use Rattle.roleset.proofs.BoundedLaws.{never}
-use Rattle.roleset.proofs.Laws.{isEmpty-zero, member-small, count-without}
+use Rattle.roleset.proofs.Laws.{is_empty-zero, member-small, count-without}
 
 -- a set that is not the number 0 is not empty
 pub not-zero : (s : ℕ) → s < 2 ^ 64 → (s ≡ 0 → ⊥) → is_empty s ≡ false
-not-zero s l n = never (is_empty s) (λ e. n (isEmpty-zero s l e))
+not-zero s l n = never (is_empty s) (λ e. n (is_empty-zero s l e))
 
 -- the lowest role of a set that is not the number 0: it is in the set, and without it there is one fewer
 pub record Taken (s r : ℕ) : Type 0 where

@@ -10,8 +10,8 @@ pub record Made (s set : ℕ) (test : ℕ → Bool) : Type 0 where
 -- b is the test's answer, and it is yes exactly when the statement holds
 pub record Answers (b test : Bool) (statement : Type 0) : Type 0 where
   pub is : b ≡ test
-  pub yes-means : b ≡ true → statement
-  pub means-yes : statement → b ≡ true
+  pub yes_means : b ≡ true → statement
+  pub means_yes : statement → b ≡ true
 
 -- r is the lowest member of s
 pub record Lowest (s r : ℕ) : Type 0 where

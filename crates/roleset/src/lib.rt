@@ -1,5 +1,7 @@
 // A set of roles 0 to 63 in one `u64`: role r is a member where bit r is 1. A number beyond 63 is a member of no set, and adding or removing it changes nothing.
 // Its members are bare numbers, and not `numbers::Role`: it is a set of bits, which the state uses for the users too (64 of them to a number) and the policy file for permissions. What kind of number a member is, the functions above say, by their structs and their promises.
+#![tactic(auto)]
+
 ghost use Rattle.std.specs.Prelude.{Bool, true, false, ◌&&◌, ◌||◌, not, ◌≡◌, ℕ, ◌<◌, ◌≤◌, eqb, leb, ltb};
 ghost use Rattle.roleset.specs.Roles.{has, with, without, union, common, minus, subset, is_empty, count};
 ghost use Rattle.roleset.specs.Promises.{Made, Answers, Lowest};

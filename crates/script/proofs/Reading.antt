@@ -10,7 +10,7 @@ use lib.Seq.{get_or-append-add, drop-append-le, take_at}
 use Rattle.model.specs.Model.{Model}
 use Rattle.decimal.specs.Decimal.{numbered}
 use Rattle.decimal.proofs.Laws.{numbered-long}
-use Rattle.words.specs.ScriptWords.{wordCount, word_of, spelling}
+use Rattle.words.specs.ScriptWords.{word_count, word_of, spelling}
 use Rattle.words.proofs.Tables.{takes-enough}
 use Rattle.reading.specs.Form.{Parsed, line, noLine, parse, Written, render}
 use Rattle.reading.specs.Holding.{padded, full, blank, held}
@@ -24,7 +24,7 @@ use Rattle.script.specs.Script.{obey, obeyed, doing}
 
 module _ (ns : List ℕ) (h : length ns ≤ 256) where
   -- a number that is not there is 0
-  pub padded-at : (i : ℕ) → get_or (padded ns) i 0 ≡ get_or ns i 0
+  pub padded_at : (i : ℕ) → get_or (padded ns) i 0 ≡ get_or ns i 0
   unfolding padded
   padded-at i = go (dec_lt i (length ns))
     where
@@ -44,7 +44,7 @@ module _ (ns : List ℕ) (h : length ns ≤ 256) where
           ∙ get_or-append-add ns (replicate (256 - length ns) 0) (i - length ns) 0 ∙ zeros (256 - length ns) (i - length ns) ∙ sym (get_or-eq_default ns 0 q)
 
   -- the list of roles
-  pub padded-list : (from : ℕ) → from ≤ length ns → take (length ns - from) (drop from (padded ns)) ≡ drop from ns
+  pub padded_list : (from : ℕ) → from ≤ length ns → take (length ns - from) (drop from (padded ns)) ≡ drop from ns
   unfolding padded
   padded-list from p = rw (drop-append-le from ns (replicate (256 - length ns) 0) p) (take_at (drop from ns) (replicate (256 - length ns) 0) (length ns - from) (length-drop from ns))
 
@@ -54,14 +54,14 @@ padded-long ns h = omega (arith, length-append ns (replicate (256 - length ns) 0
 
 -- ---- the line that was read
 
-abbrev pub numbersOf : Parsed → List ℕ
-numbersOf (line k ns) = ns
-numbersOf noLine = []
+abbrev pub numbers_of : Parsed → List ℕ
+numbers_of (line k ns) = ns
+numbers_of noLine = []
 
 pub record Reads (text : List ℕ) (l : Line) : Type 0 where
-  pub is : parse text ≡ line l.word (numbersOf (parse text))
-  pub count : l.count ≡ length (numbersOf (parse text))
-  pub numbers : l.numbers ≡ padded (numbersOf (parse text))
+  pub is : parse text ≡ line l.word (numbers_of (parse text))
+  pub count : l.count ≡ length (numbers_of (parse text))
+  pub numbers : l.numbers ≡ padded (numbers_of (parse text))
 
 pub read_right : (text : List ℕ) (l : Line) → l ≡ held (parse text) → l.ok ≡ true → Reads text l
 unfolding full blank
@@ -71,9 +71,9 @@ read_right text l e ok = go (parse text) refl
     go (line k ns) h =
         let f : l ≡ full k ns = e ∙ ap held h in
         record {
-          is = h ∙ ap₂ line (sym (ap (λ (x : Line). x.word) f)) (sym (ap numbersOf h));
-          count = ap (λ (x : Line). x.count) f ∙ ap (λ (p : Parsed). length (numbersOf p)) (sym h);
-          numbers = ap (λ (x : Line). x.numbers) f ∙ ap (λ (p : Parsed). padded (numbersOf p)) (sym h);
+          is = h ∙ ap₂ line (sym (ap (λ (x : Line). x.word) f)) (sym (ap numbers_of h));
+          count = ap (λ (x : Line). x.count) f ∙ ap (λ (p : Parsed). length (numbers_of p)) (sym h);
+          numbers = ap (λ (x : Line). x.numbers) f ∙ ap (λ (p : Parsed). padded (numbers_of p)) (sym h);
         }
     go noLine h = let z : ◌≡◌ {A = Bool} true false = sym ok ∙ ap (λ (x : Line). x.ok) (e ∙ ap held h) in let y : ◌≡◌ {A = ℕ} 0 1 = cc in absurd (omega arith)
 
@@ -87,12 +87,12 @@ read-wrong text l e ok = go (parse text) refl
 
 module _ (text : List ℕ) (l : Line) (r : Reads text l) where
   abbrev ns : List ℕ
-  ns = numbersOf (parse text)
+  ns = numbers_of (parse text)
 
   written : Written text l.word ns
   written = parsed-written text l.word ns r.is
 
-  known : l.word < wordCount
+  known : l.word < word_count
   known = written.known
 
   few : length ns ≤ 256

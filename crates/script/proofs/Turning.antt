@@ -15,8 +15,8 @@ use Rattle.text.proofs.Putting.{put_front}
 use Rattle.decimal.specs.Decimal.{decimal, numbered}
 use Rattle.decimal.proofs.Laws.{decimal-short, numbered-short}
 use Rattle.words.specs.ScriptWords.{word_of}
-use Rattle.textlines.specs.Parts.{parts_of, partAt, placePast}
-use Rattle.textlines.specs.Tallies.{counted, oneMore}
+use Rattle.textlines.specs.Parts.{parts_of, part_at, place_past}
+use Rattle.textlines.specs.Tallies.{counted, one_more}
 use Rattle.textlines.specs.declared.Tally.{Tally}
 use Rattle.textlines.proofs.Laws.{parts_at, parts_none, past_more}
 use Rattle.reading.specs.Form.{Parsed, line, noLine, parse}
@@ -24,8 +24,8 @@ use Rattle.meaning.specs.declared.Meant.{Meant}
 use Rattle.meaning.specs.declared.Meant.TheVariants.{Do, Ask, Nothing}
 use Rattle.meaning.specs.Meaning.{meant}
 use Rattle.reviews.proofs.Promised.{results_fit}
-use Rattle.script.specs.Script.{room, doing, obeyed, obey, answerText, totalText, doneAfter, othersAfter, runLines, run_from, runScript, afterLines, afterScript, lineFeed, longestScript}
-use Rattle.script.specs.LineAnswers.{Turns, toldAt}
+use Rattle.script.specs.Script.{room, doing, obeyed, obey, answer_text, total_text, done_after, others_after, run_lines, run_from, run_script, after_lines, after_script, line_feed, longest_script}
+use Rattle.script.specs.LineAnswers.{Turns, told_at}
 use Rattle.script.specs.declared.Progress.{Progress}
 use Rattle.script.specs.declared.Turned.{Turned}
 
@@ -45,19 +45,19 @@ pub obey-few : (m : Model) (text : List ℕ) → length (obey m text).results �
 unfolding obey
 obey-few m text = few-obeyed m (parse text)
 
-pub answer-short : (answer : ℕ) (results : List ℕ) → length results ≤ 4096 → length (answerText answer results) ≤ 24582
-unfolding answerText
+pub answer-short : (answer : ℕ) (results : List ℕ) → length results ≤ 4096 → length (answer_text answer results) ≤ 24582
+unfolding answer_text
 answer-short answer results h =
-    omega (arith, length-append (decimal answer) (numbered results ++ (lineFeed ∷ [])), length-append (numbered results) (lineFeed ∷ []), decimal-short answer, numbered-short results)
+    omega (arith, length-append (decimal answer) (numbered results ++ (line_feed ∷ [])), length-append (numbered results) (line_feed ∷ []), decimal-short answer, numbered-short results)
 
 -- ---- one line
 
 -- a counter that is not at its most grows by one
-more : (n : ℕ) → n < 65535 → oneMore n ≡ n + 1
-unfolding oneMore
+more : (n : ℕ) → n < 65535 → one_more n ≡ n + 1
+unfolding one_more
 more n h = omega arith
 
-count-done : (t : Tally) (told : Told) → t.done < 65535 → (counted t (eqb told.answer 0)).done ≡ doneAfter t.done told
+count-done : (t : Tally) (told : Told) → t.done < 65535 → (counted t (eqb told.answer 0)).done ≡ done_after t.done told
 unfolding counted
 count-done t told h = go (eqb told.answer 0)
   where
@@ -65,7 +65,7 @@ count-done t told h = go (eqb told.answer 0)
     go true = more t.done h
     go false = refl
 
-count-others : (t : Tally) (told : Told) → t.others < 65535 → (counted t (eqb told.answer 0)).others ≡ othersAfter t.others told
+count-others : (t : Tally) (told : Told) → t.others < 65535 → (counted t (eqb told.answer 0)).others ≡ others_after t.others told
 unfolding counted
 count-others t told h = go (eqb told.answer 0)
   where
@@ -75,50 +75,50 @@ count-others t told h = go (eqb told.answer 0)
 
 module _ (script : List ℕ) (m : Model) (done others at : ℕ) (h : at < length script) where
   abbrev told : Told
-  told = obey m (partAt lineFeed script at)
+  told = obey m (part_at line_feed script at)
 
-  pub one_line : runLines m done others (parts_of lineFeed (drop at script))
-      ≡ answerText told.answer told.results ++ runLines told.after (doneAfter done told) (othersAfter others told) (parts_of lineFeed (drop (placePast lineFeed script at) script))
-  unfolding runLines
-  one_line = ap (runLines m done others) (parts_at lineFeed script at h)
+  pub one_line : run_lines m done others (parts_of line_feed (drop at script))
+      ≡ answer_text told.answer told.results ++ run_lines told.after (done_after done told) (others_after others told) (parts_of line_feed (drop (place_past line_feed script at) script))
+  unfolding run_lines
+  one_line = ap (run_lines m done others) (parts_at line_feed script at h)
 
-  pub one-line-after : afterLines m (parts_of lineFeed (drop at script)) ≡ afterLines told.after (parts_of lineFeed (drop (placePast lineFeed script at) script))
-  unfolding afterLines
-  one-line-after = ap (afterLines m) (parts_at lineFeed script at h)
+  pub one_line_after : after_lines m (parts_of line_feed (drop at script)) ≡ after_lines told.after (parts_of line_feed (drop (place_past line_feed script at) script))
+  unfolding after_lines
+  one_line_after = ap (after_lines m) (parts_at line_feed script at h)
 
 -- at the end of the script the total is left to print
-pub at-end : (script : List ℕ) (m : Model) (done others at : ℕ) → length script ≤ at → runLines m done others (parts_of lineFeed (drop at script)) ≡ totalText done others
-unfolding runLines
-at-end script m done others at h = ap (runLines m done others) (parts_none lineFeed script at h)
+pub at-end : (script : List ℕ) (m : Model) (done others at : ℕ) → length script ≤ at → run_lines m done others (parts_of line_feed (drop at script)) ≡ total_text done others
+unfolding run_lines
+at-end script m done others at h = ap (run_lines m done others) (parts_none line_feed script at h)
 
 -- and nothing is left to do
-pub after-end : (script : List ℕ) (m : Model) (at : ℕ) → length script ≤ at → afterLines m (parts_of lineFeed (drop at script)) ≡ m
-unfolding afterLines
-after-end script m at h = ap (afterLines m) (parts_none lineFeed script at h)
+pub after-end : (script : List ℕ) (m : Model) (at : ℕ) → length script ≤ at → after_lines m (parts_of line_feed (drop at script)) ≡ m
+unfolding after_lines
+after-end script m at h = ap (after_lines m) (parts_none line_feed script at h)
 
 -- a script of the right length, from its start, and one that is too long: what it prints and what it leaves
-pub from-policy : (m : Model) (script : List ℕ) → length script ≤ 32768 → run_from m script ≡ runLines m 0 0 (parts_of lineFeed (drop 0 script))
+pub from-policy : (m : Model) (script : List ℕ) → length script ≤ 32768 → run_from m script ≡ run_lines m 0 0 (parts_of line_feed (drop 0 script))
 from-policy m script h = rw (le-ltb 32768 (length script) h, run_from)
 
-pub too-long-from : (m : Model) (script : List ℕ) → 32768 < length script → run_from m script ≡ answerText 14 [] ++ totalText 0 1
+pub too-long-from : (m : Model) (script : List ℕ) → 32768 < length script → run_from m script ≡ answer_text 14 [] ++ total_text 0 1
 too-long-from m script h = rw (lt-ltb 32768 (length script) h, run_from)
 
-pub leaves_lines : (m : Model) (script : List ℕ) → length script ≤ 32768 → afterScript m script ≡ afterLines m (parts_of lineFeed (drop 0 script))
-leaves_lines m script h = rw (le-ltb 32768 (length script) h, afterScript)
+pub leaves_lines : (m : Model) (script : List ℕ) → length script ≤ 32768 → after_script m script ≡ after_lines m (parts_of line_feed (drop 0 script))
+leaves_lines m script h = rw (le-ltb 32768 (length script) h, after_script)
 
-pub leaves-it : (m : Model) (script : List ℕ) → 32768 < length script → afterScript m script ≡ m
-leaves-it m script h = rw (lt-ltb 32768 (length script) h, afterScript)
+pub leaves-it : (m : Model) (script : List ℕ) → 32768 < length script → after_script m script ≡ m
+leaves-it m script h = rw (lt-ltb 32768 (length script) h, after_script)
 
-pub from_start : (script : List ℕ) → length script ≤ 32768 → runScript script ≡ runLines empty 0 0 (parts_of lineFeed (drop 0 script))
-unfolding runScript
+pub from_start : (script : List ℕ) → length script ≤ 32768 → run_script script ≡ run_lines empty 0 0 (parts_of line_feed (drop 0 script))
+unfolding run_script
 from_start script h = from-policy empty script h
 
-pub too_long : (script : List ℕ) → 32768 < length script → runScript script ≡ answerText 14 [] ++ totalText 0 1
-unfolding runScript
+pub too_long : (script : List ℕ) → 32768 < length script → run_script script ≡ answer_text 14 [] ++ total_text 0 1
+unfolding run_script
 too_long script h = too-long-from empty script h
 
 -- each line is counted once
-counted-once : (done others : ℕ) (told : Told) → doneAfter done told + othersAfter others told ≡ done + others + 1
+counted-once : (done others : ℕ) (told : Told) → done_after done told + others_after others told ≡ done + others + 1
 counted-once done others told = go (eqb told.answer 0)
   where
     go : (b : Bool) → elim b as (λ _. ℕ) [ true ↦ done + 1 | false ↦ done ] + elim b as (λ _. ℕ) [ true ↦ others | false ↦ others + 1 ] ≡ done + others + 1
@@ -128,29 +128,29 @@ counted-once done others told = go (eqb told.answer 0)
 -- ---- a turn
 
 -- what is still to be printed of a script, from a state and a place in it on
-abbrev pub toPrint : List ℕ → List ℕ → Progress → List ℕ
-toPrint script l p = runLines (view l) p.tally.done p.tally.others (parts_of lineFeed (drop p.at script))
+abbrev pub to_print : List ℕ → List ℕ → Progress → List ℕ
+to_print script l p = run_lines (view l) p.tally.done p.tally.others (parts_of line_feed (drop p.at script))
 
 -- and the policy and sessions that it will leave
-abbrev pub toLeave : List ℕ → List ℕ → Progress → Model
-toLeave script l p = afterLines (view l) (parts_of lineFeed (drop p.at script))
+abbrev pub to_leave : List ℕ → List ℕ → Progress → Model
+to_leave script l p = after_lines (view l) (parts_of line_feed (drop p.at script))
 
 -- A turn prints its line, and leaves the rest to print.
-module _ (script l : List ℕ) (p : Progress) (before after : List ℕ) (x : Turned) (next : List ℕ) (t : Turns script l p before after x next) (h : p.at < length script) (room : 24582 ≤ length before) (small : length script ≤ longestScript) (few : p.tally.done + p.tally.others ≤ p.at) where
-  pub stands : take x.len after ≡ answerText (toldAt script l p).answer (toldAt script l p).results
-  stands = put_front t.text (omega (arith, room, answer-short (toldAt script l p).answer (toldAt script l p).results (obey-few (view l) (partAt lineFeed script p.at))))
+module _ (script l : List ℕ) (p : Progress) (before after : List ℕ) (x : Turned) (next : List ℕ) (t : Turns script l p before after x next) (h : p.at < length script) (room : 24582 ≤ length before) (small : length script ≤ longest_script) (few : p.tally.done + p.tally.others ≤ p.at) where
+  pub stands : take x.len after ≡ answer_text (told_at script l p).answer (told_at script l p).results
+  stands = put_front t.text (omega (arith, room, answer-short (told_at script l p).answer (told_at script l p).results (obey-few (view l) (part_at line_feed script p.at))))
 
-  done-is : x.next.tally.done ≡ doneAfter p.tally.done (toldAt script l p)
-  done-is = ap (λ (c : Tally). c.done) t.tally ∙ count-done p.tally (toldAt script l p) (omega arith)
+  done_is : x.next.tally.done ≡ done_after p.tally.done (told_at script l p)
+  done_is = ap (λ (c : Tally). c.done) t.tally ∙ count-done p.tally (told_at script l p) (omega arith)
 
-  others-is : x.next.tally.others ≡ othersAfter p.tally.others (toldAt script l p)
-  others-is = ap (λ (c : Tally). c.others) t.tally ∙ count-others p.tally (toldAt script l p) (omega arith)
+  others_is : x.next.tally.others ≡ others_after p.tally.others (told_at script l p)
+  others_is = ap (λ (c : Tally). c.others) t.tally ∙ count-others p.tally (told_at script l p) (omega arith)
 
-  pub turn-prints : take x.len after ++ toPrint script next x.next ≡ toPrint script l p
-  turn-prints = rw (stands, t.state, done-is, others-is, t.place) (sym (one_line script (view l) p.tally.done p.tally.others p.at h))
+  pub turn_prints : take x.len after ++ to_print script next x.next ≡ to_print script l p
+  turn_prints = rw (stands, t.state, done-is, others-is, t.place) (sym (one_line script (view l) p.tally.done p.tally.others p.at h))
 
-  pub turn-counts : x.next.tally.done + x.next.tally.others ≤ x.next.at
-  turn-counts = omega (arith, done-is, others-is, counted-once p.tally.done p.tally.others (toldAt script l p), t.place, past_more lineFeed script p.at h)
+  pub turn_counts : x.next.tally.done + x.next.tally.others ≤ x.next.at
+  turn_counts = omega (arith, done-is, others-is, counted-once p.tally.done p.tally.others (told_at script l p), t.place, past_more line_feed script p.at h)
 
-  pub turn-leaves : toLeave script next x.next ≡ toLeave script l p
-  turn-leaves = rw (t.state, t.place) (sym (one-line-after script (view l) p.tally.done p.tally.others p.at h))
+  pub turn_leaves : to_leave script next x.next ≡ to_leave script l p
+  turn_leaves = rw (t.state, t.place) (sym (one-line-after script (view l) p.tally.done p.tally.others p.at h))

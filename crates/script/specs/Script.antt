@@ -33,51 +33,51 @@ unfoldable pub obey : Model → List ℕ → Told
 obey m text = obeyed m (parse text)
 
 -- "For each line it prints the answer number and then the results, one space between."
-abbrev pub lineFeed : ℕ
-lineFeed = 10
+abbrev pub line_feed : ℕ
+line_feed = 10
 
-unfoldable pub answerText : ℕ → List ℕ → List ℕ
-answerText answer results = decimal answer ++ (numbered results ++ (lineFeed ∷ []))
+unfoldable pub answer_text : ℕ → List ℕ → List ℕ
+answer_text answer results = decimal answer ++ (numbered results ++ (line_feed ∷ []))
 
 -- "Then it prints `total`, the number of lines answered 0 and the number of others."
-unfoldable pub totalText : ℕ → ℕ → List ℕ
-totalText done others = bytes "total" ++ (numbered (done ∷ others ∷ []) ++ (lineFeed ∷ []))
+unfoldable pub total_text : ℕ → ℕ → List ℕ
+total_text done others = bytes "total" ++ (numbered (done ∷ others ∷ []) ++ (line_feed ∷ []))
 
 -- one line more, answered 0 or otherwise
-abbrev pub doneAfter : ℕ → Told → ℕ
-doneAfter done told = elim (eqb told.answer 0) [ true ↦ done + 1 | false ↦ done ]
+abbrev pub done_after : ℕ → Told → ℕ
+done_after done told = elim (eqb told.answer 0) [ true ↦ done + 1 | false ↦ done ]
 
-abbrev pub othersAfter : ℕ → Told → ℕ
-othersAfter others told = elim (eqb told.answer 0) [ true ↦ others | false ↦ others + 1 ]
+abbrev pub others_after : ℕ → Told → ℕ
+others_after others told = elim (eqb told.answer 0) [ true ↦ others | false ↦ others + 1 ]
 
 -- what is printed for some lines, from a policy with sessions and the counts so far on
-unfoldable pub runLines : Model → ℕ → ℕ → List (List ℕ) → List ℕ
-runLines m done others [] = totalText done others
-runLines m done others (text ∷ rest) =
-    answerText (obey m text).answer (obey m text).results
-    ++ runLines (obey m text).after (doneAfter done (obey m text)) (othersAfter others (obey m text)) rest
+unfoldable pub run_lines : Model → ℕ → ℕ → List (List ℕ) → List ℕ
+run_lines m done others [] = total_text done others
+run_lines m done others (text ∷ rest) =
+    answer_text (obey m text).answer (obey m text).results
+    ++ run_lines (obey m text).after (done_after done (obey m text)) (others_after others (obey m text)) rest
 
 -- "A script over 32,768 bytes prints `14` and `total 0 1`."
-abbrev pub longestScript : ℕ
-longestScript = 32768
+abbrev pub longest_script : ℕ
+longest_script = 32768
 
 -- what a script prints, from a policy with sessions on
 abbrev pub run_from : Model → List ℕ → List ℕ
 run_from m script =
-    elim (ltb longestScript (length script)) [
-      | true ↦ answerText 14 [] ++ totalText 0 1
-      | false ↦ runLines m 0 0 (parts_of lineFeed script)
+    elim (ltb longest_script (length script)) [
+      | true ↦ answer_text 14 [] ++ total_text 0 1
+      | false ↦ run_lines m 0 0 (parts_of line_feed script)
     ]
 
 -- "The program reads a script from standard input, starting empty."
-unfoldable pub runScript : List ℕ → List ℕ
-runScript script = run_from empty script
+unfoldable pub run_script : List ℕ → List ℕ
+run_script script = run_from empty script
 
 -- the policy and sessions after some lines
-unfoldable pub afterLines : Model → List (List ℕ) → Model
-afterLines m [] = m
-afterLines m (text ∷ rest) = afterLines (obey m text).after rest
+unfoldable pub after_lines : Model → List (List ℕ) → Model
+after_lines m [] = m
+after_lines m (text ∷ rest) = after_lines (obey m text).after rest
 
 -- and after a script: one that is too long changes nothing
-abbrev pub afterScript : Model → List ℕ → Model
-afterScript m script = elim (ltb longestScript (length script)) [ true ↦ m | false ↦ afterLines m (parts_of lineFeed script) ]
+abbrev pub after_script : Model → List ℕ → Model
+after_script m script = elim (ltb longest_script (length script)) [ true ↦ m | false ↦ after_lines m (parts_of line_feed script) ]

@@ -1,4 +1,5 @@
 // A script: each line is read, obeyed and answered.
+#![tactic(auto)]
 ghost use Rattle.text.specs.Putting.{Put};
 ghost use Rattle.model.specs.Model.{Model};
 ghost use Rattle.model.specs.Questions.{ask};
@@ -6,7 +7,7 @@ ghost use Rattle.model.specs.Sheet.{refused};
 ghost use Rattle.model.specs.Step.{step};
 ghost use Rattle.state.specs.View.{view};
 ghost use Rattle.script.specs.LineAnswers.{Puts, Answers, Turns};
-ghost use Rattle.script.specs.Script.{answerText, totalText, obey};
+ghost use Rattle.script.specs.Script.{answer_text, total_text, obey};
 
 use meaning::Meant;
 use model::{Command, Question};
@@ -22,7 +23,7 @@ pub struct Answered {
 
 // Puts an answer: its number, each result after one space, and LF.
 pub fn answer_text(buf: &mut [u8], answer: u16, results: &[u16]) -> usize
-    ensures { Put buf.old 0 (answerText answer results.now) buf.new result }
+    ensures { Put buf.old 0 (answer_text answer results.now) buf.new result }
 {
     let first = decimal::put_number(buf, 0, answer);
     let last = decimal::put_numbers(buf, first, results);
@@ -31,7 +32,7 @@ pub fn answer_text(buf: &mut [u8], answer: u16, results: &[u16]) -> usize
 
 // Puts the total: the number of lines answered 0, and of the others.
 pub fn total_text(buf: &mut [u8], t: Tally) -> usize
-    ensures { Put buf.old 0 (totalText t.done t.others) buf.new result }
+    ensures { Put buf.old 0 (total_text t.done t.others) buf.new result }
 {
     let first = text::put_text(buf, 0, b"total");
     let counts = [t.done, t.others];

@@ -1,7 +1,8 @@
 // The separation rule, for a set of roles and a cardinality: what SSD and DSD share.
+#![tactic(auto)]
 ghost use Rattle.std.specs.Prelude.{◌≡◌};
-ghost use Rattle.model.specs.Words.{breaks, breaksSome};
-ghost use Rattle.model.specs.commands.Sets.{badCardinality, setsOf};
+ghost use Rattle.model.specs.Words.{breaks, breaks_some};
+ghost use Rattle.model.specs.commands.Sets.{bad_cardinality, sets_of};
 ghost use Rattle.state.specs.View.{view};
 
 use model::{Kind, RoleSet};
@@ -22,7 +23,7 @@ pub fn breaks(set: RoleSet, held: u64) -> bool
 
 // Is the cardinality below 2, or above the number of the roles?
 pub fn bad_cardinality(n: u64, roles: u64) -> bool
-    ensures { result ≡ badCardinality n roles }
+    ensures { result ≡ bad_cardinality n roles }
 {
     if n < 2 {
         true
@@ -33,7 +34,7 @@ pub fn bad_cardinality(n: u64, roles: u64) -> bool
 
 // Do the roles held break some of the sets of this kind?
 pub fn breaks_some(state: &[u64; PLACES], kind: Kind, held: u64) -> bool
-    ensures { result ≡ breaksSome (setsOf kind (view state.now)) held }
+    ensures { result ≡ breaks_some (sets_of kind (view state.now)) held }
 {
     let mut n: u16 = 0;
     while n < 16 {

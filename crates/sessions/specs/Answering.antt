@@ -3,13 +3,13 @@ use Rattle.std.specs.Prelude.{false, List, ◌≡◌, ℕ}
 use Rattle.numbers.specs.Answers.{number_of}
 use Rattle.model.specs.Sheet.{Told}
 use Rattle.state.specs.View.{view}
-use Rattle.state.specs.Results.{isDone, given}
+use Rattle.state.specs.Results.{is_done, given}
 use Rattle.sessions.specs.declared.Opened.{Opened}
 
 -- what `session` tells that leaves the state l: the number of the session that was opened, and the policy and sessions after it
-unfoldable pub toldOpened : Opened → List ℕ → Told
-toldOpened x l = record { answer = number_of x.answer; results = given (isDone x.answer) x.session.number; after = view l }
+unfoldable pub told_opened : Opened → List ℕ → Told
+told_opened x l = record { answer = number_of x.answer; results = given (is_done x.answer) x.session.number; after = view l }
 
 pub record Opens (told : Told) (x : Opened) (l : List ℕ) : Type 0 where
-  pub tells : toldOpened x l ≡ told
-  pub silent : isDone x.answer ≡ false → x.session.number ≡ 0
+  pub tells : told_opened x l ≡ told
+  pub silent : is_done x.answer ≡ false → x.session.number ≡ 0

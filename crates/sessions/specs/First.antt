@@ -2,12 +2,12 @@
 use Rattle.std.specs.Prelude.{◌||◌, List, [], ◌∷◌, ℕ}
 use Rattle.model.specs.Model.{Model}
 use Rattle.model.specs.Sheet.{Refusal, ◌when◌}
-use Rattle.model.specs.commands.Naming.{userBeyond, roleBeyond, sessionBeyond, userMissing, roleMissing, sessionMissing}
-use Rattle.model.specs.commands.Sessions.{notOwner}
+use Rattle.model.specs.commands.Naming.{user_beyond, role_beyond, session_beyond, user_missing, role_missing, session_missing}
+use Rattle.model.specs.commands.Sessions.{not_owner}
 
-abbrev pub firstRefusals : Model → ℕ → ℕ → ℕ → List Refusal
-firstRefusals m u s r =
-    1 when (userBeyond u || (sessionBeyond s || roleBeyond r))
-    ∷ 2 when (userMissing m u || (sessionMissing m s || roleMissing m r))
-    ∷ 3 when notOwner m u s
+abbrev pub first_refusals : Model → ℕ → ℕ → ℕ → List Refusal
+first_refusals m u s r =
+    1 when (user_beyond u || (session_beyond s || role_beyond r))
+    ∷ 2 when (user_missing m u || (session_missing m s || role_missing m r))
+    ∷ 3 when not_owner m u s
     ∷ []

@@ -1,12 +1,13 @@
 // The session commands `session`, `activate`, `drop` and `end`.
+#![tactic(auto)]
 ghost use Rattle.std.specs.Prelude.{◌≡◌};
 ghost use Rattle.numbers.specs.Answers.{number_of};
 ghost use Rattle.model.specs.Sheet.{verdict};
-ghost use Rattle.model.specs.Words.{reached, breaksSome};
+ghost use Rattle.model.specs.Words.{reached, breaks_some};
 ghost use Rattle.model.specs.commands.Sessions.{session, activate, drop, end};
 ghost use Rattle.state.specs.View.{view, told};
 ghost use Rattle.sessions.specs.Answering.{Opens};
-ghost use Rattle.sessions.specs.First.{firstRefusals};
+ghost use Rattle.sessions.specs.First.{first_refusals};
 
 use model::Kind;
 use numbers::{Answer, Role, Session, User};
@@ -36,7 +37,7 @@ fn not_opened(answer: Answer) -> Opened
 
 // Would a session with these roles active break the dynamic rule? All roles that would be effective in it are counted.
 fn breaks_dynamic(state: &[u64; PLACES], active: u64) -> bool
-    ensures { result ≡ breaksSome (view state.now).dsd (reached (view state.now) active) }
+    ensures { result ≡ breaks_some (view state.now).dsd (reached (view state.now) active) }
 {
     let effective = reach(state, active);
     breaks_some(state, Kind::Dynamic, effective)
@@ -79,7 +80,7 @@ pub fn session(state: &mut [u64; PLACES], u: User, list: &[u16]) -> Opened
 
 // The first refusals of `activate` and `drop`; done where none of them holds; 1, 2, 3.
 fn first_refusals(state: &[u64; PLACES], u: User, x: Session, r: Role) -> Answer
-    ensures { number_of result ≡ verdict (firstRefusals (view state.now) u.number x.number r.number) }
+    ensures { number_of result ≡ verdict (first_refusals (view state.now) u.number x.number r.number) }
 {
     if numbers::activation_beyond(u, x, r) {
         return Answer::BeyondRange;

@@ -10,21 +10,21 @@ use Rattle.numbers.specs.Answers.{number_of}
 use Rattle.numbers.specs.declared.Answer.{Answer}
 use Rattle.model.specs.Model.{Model}
 use Rattle.model.specs.Sheet.{Refusal, verdict, done, refused, settle}
-use Rattle.model.specs.commands.Naming.{setBeyond}
-use Rattle.model.specs.commands.Sets.{setsOf, setMissing, aSet}
+use Rattle.model.specs.commands.Naming.{set_beyond}
+use Rattle.model.specs.commands.Sets.{sets_of, set_missing, a_set}
 use Rattle.model.specs.declared.Kind.{Kind}
-use Rattle.state.specs.Stores.{in_range, setStored, withMembers}
+use Rattle.state.specs.Stores.{in_range, set_stored, with_members}
 use Rattle.state.proofs.Stored.{placed}
 
 -- a set that is there takes these members: it stays there, with its cardinality
-pub members-placed : (kind : Kind) (name : ℕ) (m after : Model) (roles : ℕ) (rest : Bool) → name < 16 → (setMissing kind m name || rest) ≡ false → after ≡ in_range 16 name m (setStored kind m name (withMembers (setsOf kind m name) roles)) → after ≡ setStored kind m name (aSet (setsOf kind m name).card roles)
+pub members-placed : (kind : Kind) (name : ℕ) (m after : Model) (roles : ℕ) (rest : Bool) → name < 16 → (set_missing kind m name || rest) ≡ false → after ≡ in_range 16 name m (set_stored kind m name (with_members (sets_of kind m name) roles)) → after ≡ set_stored kind m name (a_set (sets_of kind m name).card roles)
 members-placed kind name m after roles rest h there e =
     placed 16 name m _ after h e
-    ∙ ap (λ (t : Bool). setStored kind m name (record { there = t; card = (setsOf kind m name).card; roles = roles })) (not-false (setsOf kind m name).there (or-clear (setMissing kind m name) rest there).0)
+    ∙ ap (λ (t : Bool). set_stored kind m name (record { there = t; card = (sets_of kind m name).card; roles = roles })) (not-false (sets_of kind m name).there (or-clear (set_missing kind m name) rest there).0)
 
 -- the refusals that are asked last decide
 module _ (refusals : List Refusal) (m after : Model) (a : Answer) (answers : verdict refusals ≡ number_of a) (done? : Bool) (is : done? ≡ eqb (number_of a) 0) where
-  pub last-refused : not done? ≡ true → refused (number_of a) m ≡ settle refusals m [] after
+  pub last_refused : not done? ≡ true → refused (number_of a) m ≡ settle refusals m [] after
   unfolding settle
   last-refused h = rw (settle, answers, ← is, not-true done? h) (ap (λ (n : ℕ). refused n m) (sym answers))
 

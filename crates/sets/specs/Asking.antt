@@ -2,9 +2,9 @@
 use Rattle.std.specs.Prelude.{List, [], ◌∷◌}
 use Rattle.model.specs.Model.{Model, RoleSet}
 use Rattle.model.specs.Sheet.{Refusal, ◌when◌}
-use Rattle.model.specs.commands.Sets.{broken, ruleNumber}
+use Rattle.model.specs.commands.Sets.{broken, rule_number}
 use Rattle.model.specs.declared.Kind.{Kind}
 
 -- the last refusal of a command that would store the set: its rule would be broken
-abbrev pub ruleRefusals : Kind → Model → RoleSet → List Refusal
-ruleRefusals kind m set = ruleNumber kind when broken kind m set ∷ []
+abbrev pub rule_refusals : Kind → Model → RoleSet → List Refusal
+rule_refusals kind m set = rule_number kind when broken kind m set ∷ []

@@ -1,10 +1,11 @@
 // The five `ssd` commands and the five `dsd` commands over the lent state, one function for both kinds of set. Refusals return before any store.
+#![tactic(auto)]
 ghost use Rattle.std.specs.Prelude.{◌≡◌};
 ghost use Rattle.numbers.specs.Answers.{number_of};
 ghost use Rattle.model.specs.Sheet.{verdict};
-ghost use Rattle.model.specs.commands.Sets.{ruleNumber, makeSet, dropSet, addMember, dropMember, setCardinality};
+ghost use Rattle.model.specs.commands.Sets.{rule_number, make_set, drop_set, add_member, drop_member, set_cardinality};
 ghost use Rattle.state.specs.View.{view, told};
-ghost use Rattle.sets.specs.Asking.{ruleRefusals};
+ghost use Rattle.sets.specs.Asking.{rule_refusals};
 
 use model::{Kind, RoleSet};
 use numbers::{Answer, Role, SetName};
@@ -15,7 +16,7 @@ use state::stores::{clear_set, put_members, put_set};
 
 // The answer where the rule of this kind would be broken.
 fn rule_answer(kind: Kind) -> Answer
-    ensures { number_of result ≡ ruleNumber kind }
+    ensures { number_of result ≡ rule_number kind }
 {
     match kind {
         Kind::Static => Answer::BreaksStatic,
@@ -25,7 +26,7 @@ fn rule_answer(kind: Kind) -> Answer
 
 // The last refusal of a command that would store this set: its rule would be broken; 10 or 11.
 fn rule_refusal(state: &[u64; PLACES], kind: Kind, set: RoleSet) -> Answer
-    ensures { number_of result ≡ verdict (ruleRefusals kind (view state.now) set) }
+    ensures { number_of result ≡ verdict (rule_refusals kind (view state.now) set) }
 {
     if sweeps::ask_set(state, kind, set) {
         return rule_answer(kind);
@@ -41,7 +42,7 @@ pub fn make_set(
     n: u16,
     list: &[u16],
 ) -> Answer
-    ensures { told result state.new ≡ makeSet kind (view state.old) name.number n list.now }
+    ensures { told result state.new ≡ make_set kind (view state.old) name.number n list.now }
 {
     let read = lists::read(list);
     if !read.ascending {
@@ -76,7 +77,7 @@ pub fn make_set(
 
 // The set is there no longer; 1, 2.
 pub fn drop_set(state: &mut [u64; PLACES], kind: Kind, name: SetName) -> Answer
-    ensures { told result state.new ≡ dropSet kind (view state.old) name.number }
+    ensures { told result state.new ≡ drop_set kind (view state.old) name.number }
 {
     if numbers::set_beyond(name) {
         return Answer::BeyondRange;
@@ -91,7 +92,7 @@ pub fn drop_set(state: &mut [u64; PLACES], kind: Kind, name: SetName) -> Answer
 
 // The role becomes a member of the set; 1, 2, 4, 10 or 11.
 pub fn add_member(state: &mut [u64; PLACES], kind: Kind, name: SetName, r: Role) -> Answer
-    ensures { told result state.new ≡ addMember kind (view state.old) name.number r.number }
+    ensures { told result state.new ≡ add_member kind (view state.old) name.number r.number }
 {
     if either(numbers::set_beyond(name), numbers::role_beyond(r)) {
         return Answer::BeyondRange;
@@ -119,7 +120,7 @@ pub fn add_member(state: &mut [u64; PLACES], kind: Kind, name: SetName, r: Role)
 
 // The role is no member of the set any more; 1, 2, 5, 7.
 pub fn drop_member(state: &mut [u64; PLACES], kind: Kind, name: SetName, r: Role) -> Answer
-    ensures { told result state.new ≡ dropMember kind (view state.old) name.number r.number }
+    ensures { told result state.new ≡ drop_member kind (view state.old) name.number r.number }
 {
     if either(numbers::set_beyond(name), numbers::role_beyond(r)) {
         return Answer::BeyondRange;
@@ -141,7 +142,7 @@ pub fn drop_member(state: &mut [u64; PLACES], kind: Kind, name: SetName, r: Role
 
 // The set takes another cardinality; 1, 2, 7, 10 or 11.
 pub fn set_cardinality(state: &mut [u64; PLACES], kind: Kind, name: SetName, n: u16) -> Answer
-    ensures { told result state.new ≡ setCardinality kind (view state.old) name.number n }
+    ensures { told result state.new ≡ set_cardinality kind (view state.old) name.number n }
 {
     if numbers::set_beyond(name) {
         return Answer::BeyondRange;

@@ -10,7 +10,7 @@ use Rattle.roleset.specs.Roles.{has, common, count}
 use Rattle.roleset.proofs.BoundedLaws.{clash, and_left, and_right, and_both, never, some-intro, some-none, some-false, tally-none}
 use Rattle.roleset.proofs.Laws.{count-mono}
 use Rattle.model.specs.Model.{RoleSet}
-use Rattle.model.specs.Words.{breaks, breaksSome}
+use Rattle.model.specs.Words.{breaks, breaks_some}
 use Rattle.sound.proofs.Members.{Within, common-within, common-member}
 
 -- A set is broken exactly where it is there and at least as many of its roles are held as its cardinality.
@@ -50,25 +50,25 @@ nothing-breaks set held c h = (unbroken-exact set held).1 (λ e. let p = c e in 
 -- ---- some set of a table
 
 -- Some set is broken where one with a name below 16 is,
-pub some-breaks : (sets : ℕ → RoleSet) (held n : ℕ) → n < 16 → breaks (sets n) held ≡ true → breaksSome sets held ≡ true
-unfolding breaksSome
+pub some-breaks : (sets : ℕ → RoleSet) (held n : ℕ) → n < 16 → breaks (sets n) held ≡ true → breaks_some sets held ≡ true
+unfolding breaks_some
 some-breaks sets held n l h = some-intro 16 (λ k. breaks (sets k) held) n l h
 
 -- and none where none of these is.
-pub none-breaks : (sets : ℕ → RoleSet) (held : ℕ) → ((n : ℕ) → n < 16 → breaks (sets n) held ≡ false) → breaksSome sets held ≡ false
-unfolding breaksSome
+pub none-breaks : (sets : ℕ → RoleSet) (held : ℕ) → ((n : ℕ) → n < 16 → breaks (sets n) held ≡ false) → breaks_some sets held ≡ false
+unfolding breaks_some
 none-breaks sets held h = some-none 16 (λ n. breaks (sets n) held) h
 
 -- Where none is broken, each is unbroken.
-pub each-unbroken : (sets : ℕ → RoleSet) (held : ℕ) → breaksSome sets held ≡ false → (n : ℕ) → n < 16 → breaks (sets n) held ≡ false
-unfolding breaksSome
+pub each-unbroken : (sets : ℕ → RoleSet) (held : ℕ) → breaks_some sets held ≡ false → (n : ℕ) → n < 16 → breaks (sets n) held ≡ false
+unfolding breaks_some
 each-unbroken sets held h n l = some-false 16 (λ k. breaks (sets k) held) h n l
 
 -- Holding fewer roles breaks no set if holding more broke none.
-pub some-breaks-fewer : (sets : ℕ → RoleSet) (held held' : ℕ) → Within held held' → breaksSome sets held' ≡ false → breaksSome sets held ≡ false
+pub some-breaks-fewer : (sets : ℕ → RoleSet) (held held' : ℕ) → Within held held' → breaks_some sets held' ≡ false → breaks_some sets held ≡ false
 some-breaks-fewer sets held held' g h = none-breaks sets held
     (λ n l. breaks-fewer (sets n) (sets n) held held' (λ t. t) (omega arith) (λ k lk e. e) g (each-unbroken sets held' h n l))
 
 -- Holding no role breaks no set whose cardinality is at least 2.
-pub none-held : (sets : ℕ → RoleSet) (held : ℕ) → ((n : ℕ) → (sets n).there ≡ true → 2 ≤ (sets n).card) → ((k : ℕ) → has held k ≡ false) → breaksSome sets held ≡ false
+pub none-held : (sets : ℕ → RoleSet) (held : ℕ) → ((n : ℕ) → (sets n).there ≡ true → 2 ≤ (sets n).card) → ((k : ℕ) → has held k ≡ false) → breaks_some sets held ≡ false
 none-held sets held c h = none-breaks sets held (λ n l. nothing-breaks (sets n) held (λ t. let two = c n t in omega arith) (λ k lk. h k))

@@ -12,7 +12,7 @@ use Rattle.hierarchy.specs.Lines.{line, Inherits, Small, AtOrAbove}
 use Rattle.hierarchy.specs.Lines.Inherits.{one, more}
 use Rattle.hierarchy.specs.Walks.{reach}
 use Rattle.hierarchy.proofs.WalkLaws.{reach-sound, reach-small}
-use Rattle.model.specs.Model.{Model, RoleSet, Session, absentSet, closedSession, put}
+use Rattle.model.specs.Model.{Model, RoleSet, Session, absent_set, closed_session, put}
 use Rattle.model.specs.Words.{reached}
 use Rattle.model.specs.Sound.{Existing, SetShape, SessionShape, Shape}
 use Rattle.sound.proofs.Put.{put_all}
@@ -37,11 +37,11 @@ pub existing-without : (m : Model) (set r : ℕ) → Existing m set → Existing
 existing-without m set r x = record { small = without-small set r; exist = λ k e. x.exist k (without-member set r k e).1 }
 
 -- A set that is not there has its shape,
-pub set-none : (m : Model) (n : ℕ) → SetShape m n absentSet
+pub set-none : (m : Model) (n : ℕ) → SetShape m n absent_set
 set-none m n = record { absent = λ e. refl; named = λ e. clash false e refl; at_least = λ e. clash false e refl; at_most = λ e. clash false e refl; members = existing-none m }
 
 -- and so has a session that is not live.
-pub session-none : (m : Model) (k : ℕ) → SessionShape m k closedSession
+pub session-none : (m : Model) (k : ℕ) → SessionShape m k closed_session
 session-none m k = record { closed = λ e. refl; numbered = λ e. clash false e refl; owned = λ e. clash false e refl; active = existing-none m }
 
 -- A set with a member is there.
@@ -56,15 +56,15 @@ member-there m n set r x h = go set.there refl
 
 module _ (m m' : Model) (roles : (r : ℕ) → has m.roles r ≡ true → has m'.roles r ≡ true) where
   -- A set of existing roles is one where these roles still exist,
-  pub existing-in : {set : ℕ} → Existing m set → Existing m' set
+  pub existing_in : {set : ℕ} → Existing m set → Existing m' set
   existing-in x = record { small = x.small; exist = λ r e. roles r (x.exist r e) }
 
   -- a separation set keeps its shape,
-  pub set-in : {n : ℕ} {set : RoleSet} → SetShape m n set → SetShape m' n set
+  pub set_in : {n : ℕ} {set : RoleSet} → SetShape m n set → SetShape m' n set
   set-in x = record { absent = x.absent; named = x.named; at_least = x.at_least; at_most = x.at_most; members = existing-in x.members }
 
   -- and so does a session where users still exist.
-  pub session-in : ((u : ℕ) → m.users u ≡ true → m'.users u ≡ true) → {k : ℕ} {session : Session} → SessionShape m k session → SessionShape m' k session
+  pub session_in : ((u : ℕ) → m.users u ≡ true → m'.users u ≡ true) → {k : ℕ} {session : Session} → SessionShape m k session → SessionShape m' k session
   session-in users {session = session} x = record { closed = x.closed; numbered = x.numbered; owned = λ e. users session.owner (x.owned e); active = existing-in x.active }
 
 -- What a role is or inherits exists, where the role and every junior of a line do.
@@ -80,15 +80,15 @@ below-exists lines roles juniors (inr p) h = inherited p
 
 module _ (m : Model) (x : Shape m) where
   -- A role that exists is 0 to 63.
-  pub role-small : (r : ℕ) → has m.roles r ≡ true → r < 64
+  pub role_small : (r : ℕ) → has m.roles r ≡ true → r < 64
   role-small r e = member-small m.roles r x.roles e
 
   -- Every line joins two roles 0 to 63.
-  pub lines-small : Small m.juniors
-  lines-small = record { within = λ s j e. (role-small s (x.seniors s j e), role-small j ((x.juniors s).exist j e)) }
+  pub lines_small : Small m.juniors
+  lines_small = record { within = λ s j e. (role-small s (x.seniors s j e), role-small j ((x.juniors s).exist j e)) }
 
   -- The roles reached from existing roles exist.
-  pub reached-exist : (from : ℕ) → Existing m from → Existing m (reached m from)
+  pub reached_exist : (from : ℕ) → Existing m from → Existing m (reached m from)
   reached-exist from e =
       record {
         small = reach-small m.juniors from;
@@ -96,19 +96,19 @@ module _ (m : Model) (x : Shape m) where
       }
 
   -- A user that does not exist is assigned to no role,
-  pub nobody-assigned : (u : ℕ) → m.users u ≡ false → (r : ℕ) → has (m.assigned u) r ≡ false
+  pub nobody_assigned : (u : ℕ) → m.users u ≡ false → (r : ℕ) → has (m.assigned u) r ≡ false
   nobody-assigned u e r = never (has (m.assigned u) r) (λ h. clash (m.users u) (x.assignees u r h) e)
 
   -- and a number of 256 or more is no user's.
-  pub no-user-beyond : (u : ℕ) → 256 ≤ u → m.users u ≡ false
+  pub no_user_beyond : (u : ℕ) → 256 ≤ u → m.users u ≡ false
   no-user-beyond u l = never (m.users u) (λ e. let h = x.users u e in let z : ⊥ = omega arith in z)
 
   -- A session number of 64 or more has no active roles.
-  pub no-session-beyond : (s : ℕ) → 64 ≤ s → m.sessions s ≡ closedSession
+  pub no_session_beyond : (s : ℕ) → 64 ≤ s → m.sessions s ≡ closed_session
   no-session-beyond s l = (x.sessions s).closed (never (m.sessions s).live (λ e. let h = (x.sessions s).numbered e in let z : ⊥ = omega arith in z))
 
   -- A session that is not live has none either.
-  pub closed-idle : (s : ℕ) → (m.sessions s).live ≡ false → (r : ℕ) → has (m.sessions s).active r ≡ false
+  pub closed_idle : (s : ℕ) → (m.sessions s).live ≡ false → (r : ℕ) → has (m.sessions s).active r ≡ false
   closed-idle s e r = ap (λ (y : Session). has y.active r) ((x.sessions s).closed e) ∙ has-none r
 
 -- From no role none is reached.
@@ -119,16 +119,16 @@ nothing-reached lines from h r = never (has (reach lines from) r) (λ e. let u =
 
 module _ (m : Model) (table : ℕ → ℕ) (i r : ℕ) (existing : (k : ℕ) → Existing m (table k)) where
   -- The sets are sets of existing roles if the role exists,
-  pub existing-at : has m.roles r ≡ true → (k : ℕ) → Existing m (put table i (with (table i) r) k)
+  pub existing_at : has m.roles r ≡ true → (k : ℕ) → Existing m (put table i (with (table i) r) k)
   existing-at h = put_all (λ k set. Existing m set) table i (with (table i) r) (existing-with m (table i) r (existing i) h) (λ k d. existing k)
 
   -- nothing is lost,
-  pub old-at : (k j : ℕ) → has (table k) j ≡ true → has (put table i (with (table i) r) k) j ≡ true
-  old-at = put_all (λ k set. (j : ℕ) → has (table k) j ≡ true → has set j ≡ true) table i (with (table i) r) (λ j e. with-old (table i) r j (member-small (table i) j (existing i).small e) e) (λ k d j e. e)
+  pub old_at : (k j : ℕ) → has (table k) j ≡ true → has (put table i (with (table i) r) k) j ≡ true
+  old_at = put_all (λ k set. (j : ℕ) → has (table k) j ≡ true → has set j ≡ true) table i (with (table i) r) (λ j e. with-old (table i) r j (member-small (table i) j (existing i).small e) e) (λ k d j e. e)
 
   -- and the role at that place alone is new.
-  pub new-at : (k j : ℕ) → has (put table i (with (table i) r) k) j ≡ true → (has (table k) j ≡ true) ⊎ ((k ≡ i) × (j ≡ r))
-  new-at = put_all (λ k set. (j : ℕ) → has set j ≡ true → (has (table k) j ≡ true) ⊎ ((k ≡ i) × (j ≡ r))) table i (with (table i) r) (λ j e. go j (with-member (table i) r j e).1) (λ k d j e. inl e)
+  pub new_at : (k j : ℕ) → has (put table i (with (table i) r) k) j ≡ true → (has (table k) j ≡ true) ⊎ ((k ≡ i) × (j ≡ r))
+  new_at = put_all (λ k set. (j : ℕ) → has set j ≡ true → (has (table k) j ≡ true) ⊎ ((k ≡ i) × (j ≡ r))) table i (with (table i) r) (λ j e. go j (with-member (table i) r j e).1) (λ k d j e. inl e)
     where
       go : (j : ℕ) → (has (table i) j ≡ true) ⊎ (j ≡ r) → (has (table i) j ≡ true) ⊎ ((i ≡ i) × (j ≡ r))
       go j (inl p) = inl p

@@ -8,16 +8,16 @@ use Rattle.hierarchy.specs.Lines.{line, Acyclic}
 use Rattle.hierarchy.specs.Walks.{reach}
 use Rattle.hierarchy.proofs.InheritsLaws.{remove-acyclic}
 use Rattle.hierarchy.proofs.WalkLaws.{reach-grows}
-use Rattle.model.specs.Model.{Model, RoleSet, Session, standing, withUsers, withRoles, withLines, withAssignments, withGrants, withSsd, withDsd, withSessions}
-use Rattle.model.specs.Words.{authorised, breaksSome, counted, staticBroken, dynamicBroken, assignments, grants, linesStanding}
+use Rattle.model.specs.Model.{Model, RoleSet, Session, standing, with_users, with_roles, with_lines, with_assignments, with_grants, with_ssd, with_dsd, with_sessions}
+use Rattle.model.specs.Words.{authorised, breaks_some, counted, static_broken, dynamic_broken, assignments, grants, lines_standing}
 use Rattle.model.specs.Sound.{Existing, SetShape, SessionShape, Shape, Counted, Sound}
-use Rattle.model.specs.commands.Sets.{withSets}
+use Rattle.model.specs.commands.Sets.{with_sets}
 use Rattle.model.specs.declared.Kind.{Kind}
 use Rattle.model.specs.declared.Kind.TheVariants.{Static, Dynamic}
 use Rattle.sound.proofs.Counting.{no-fuller}
 use Rattle.sound.proofs.Breaking.{some-breaks-fewer}
 use Rattle.sound.proofs.Carried.{existing-in, set-in, session-in}
-use Rattle.sound.proofs.Counted.{countedOf, dynamic-fewer}
+use Rattle.sound.proofs.Counted.{counted_of, dynamic-fewer}
 
 -- ---- the shape of a model whose users and roles are those of another, or more
 
@@ -62,42 +62,42 @@ held Dynamic m s = counted m s
 
 -- the sets of m, and the other parts of m'
 abbrev pub shrunk : Model → Model → Model
-shrunk m m' = record { users = m'.users; roles = m'.roles; juniors = m'.juniors; assigned = m'.assigned; holders = m'.holders; ssd = m.ssd; dsd = m.dsd; sessions = m'.sessions; assignmentCount = m'.assignmentCount; grantCount = m'.grantCount; lineCount = m'.lineCount }
+shrunk m m' = record { users = m'.users; roles = m'.roles; juniors = m'.juniors; assigned = m'.assigned; holders = m'.holders; ssd = m.ssd; dsd = m.dsd; sessions = m'.sessions; assignment_count = m'.assignment_count; grant_count = m'.grant_count; line_count = m'.line_count }
 
 -- ---- the shape after a change, whether or not a rule is broken then
 
 module _ (m : Model) (x : Shape m) where
   -- Other lines between existing roles,
-  pub lines-shape : (new : ℕ → ℕ) (n : ℕ) → ((a j : ℕ) → line new a j ≡ true → has m.roles a ≡ true) → ((a : ℕ) → Existing m (new a)) → Shape (withLines m new n)
-  lines-shape new n seniors existing = same_shape m (withLines m new n) x refl refl (record { seniors = seniors; juniors = existing; assignees = x.assignees; assigned = x.assigned; permissions = x.permissions; holders = x.holders; ssd = x.ssd; dsd = x.dsd; sessions = x.sessions })
+  pub lines_shape : (new : ℕ → ℕ) (n : ℕ) → ((a j : ℕ) → line new a j ≡ true → has m.roles a ≡ true) → ((a : ℕ) → Existing m (new a)) → Shape (with_lines m new n)
+  lines-shape new n seniors existing = same_shape m (with_lines m new n) x refl refl (record { seniors = seniors; juniors = existing; assignees = x.assignees; assigned = x.assigned; permissions = x.permissions; holders = x.holders; ssd = x.ssd; dsd = x.dsd; sessions = x.sessions })
 
   -- other assignments of existing roles to existing users,
-  pub assigned-shape : (new : ℕ → ℕ) (n : ℕ) → ((u r : ℕ) → has (new u) r ≡ true → m.users u ≡ true) → ((u : ℕ) → Existing m (new u)) → Shape (withAssignments m new n)
-  assigned-shape new n assignees existing = same_shape m (withAssignments m new n) x refl refl (record { seniors = x.seniors; juniors = x.juniors; assignees = assignees; assigned = existing; permissions = x.permissions; holders = x.holders; ssd = x.ssd; dsd = x.dsd; sessions = x.sessions })
+  pub assigned_shape : (new : ℕ → ℕ) (n : ℕ) → ((u r : ℕ) → has (new u) r ≡ true → m.users u ≡ true) → ((u : ℕ) → Existing m (new u)) → Shape (with_assignments m new n)
+  assigned-shape new n assignees existing = same_shape m (with_assignments m new n) x refl refl (record { seniors = x.seniors; juniors = x.juniors; assignees = assignees; assigned = existing; permissions = x.permissions; holders = x.holders; ssd = x.ssd; dsd = x.dsd; sessions = x.sessions })
 
   -- and other sets of the right shape.
-  pub sets-shape : (kind : Kind) (new : ℕ → RoleSet) → ((n : ℕ) → SetShape m n (new n)) → Shape (withSets kind m new)
-  sets-shape Static new shaped = same_shape m (withSsd m new) x refl refl (record { seniors = x.seniors; juniors = x.juniors; assignees = x.assignees; assigned = x.assigned; permissions = x.permissions; holders = x.holders; ssd = shaped; dsd = x.dsd; sessions = x.sessions })
-  sets-shape Dynamic new shaped = same_shape m (withDsd m new) x refl refl (record { seniors = x.seniors; juniors = x.juniors; assignees = x.assignees; assigned = x.assigned; permissions = x.permissions; holders = x.holders; ssd = x.ssd; dsd = shaped; sessions = x.sessions })
+  pub sets_shape : (kind : Kind) (new : ℕ → RoleSet) → ((n : ℕ) → SetShape m n (new n)) → Shape (with_sets kind m new)
+  sets-shape Static new shaped = same_shape m (with_ssd m new) x refl refl (record { seniors = x.seniors; juniors = x.juniors; assignees = x.assignees; assigned = x.assigned; permissions = x.permissions; holders = x.holders; ssd = shaped; dsd = x.dsd; sessions = x.sessions })
+  sets-shape Dynamic new shaped = same_shape m (with_dsd m new) x refl refl (record { seniors = x.seniors; juniors = x.juniors; assignees = x.assignees; assigned = x.assigned; permissions = x.permissions; holders = x.holders; ssd = x.ssd; dsd = shaped; sessions = x.sessions })
 
 -- ---- a part that grows, or is changed at some places
 
 module _ (m : Model) (s : Sound m) where
   -- More users and roles, all of them within their ranges.
-  pub names-changed : (users : ℕ → Bool) (roles : ℕ) → ((u : ℕ) → users u ≡ true → u < 256) → ((u : ℕ) → m.users u ≡ true → users u ≡ true) → roles < 2 ^ 64 → ((r : ℕ) → has m.roles r ≡ true → has roles r ≡ true) → Sound (withRoles (withUsers m users) roles)
-  unfolding staticBroken dynamicBroken assignments grants linesStanding
+  pub names_changed : (users : ℕ → Bool) (roles : ℕ) → ((u : ℕ) → users u ≡ true → u < 256) → ((u : ℕ) → m.users u ≡ true → users u ≡ true) → roles < 2 ^ 64 → ((r : ℕ) → has m.roles r ≡ true → has roles r ≡ true) → Sound (with_roles (with_users m users) roles)
+  unfolding static_broken dynamic_broken assignments grants lines_standing
   names-changed users roles range more-users small more-roles =
       let x = s.shape in
       record {
-        shape = named-shape m (withRoles (withUsers m users) roles) more-roles more-users small range (record { seniors = x.seniors; juniors = x.juniors; assignees = x.assignees; assigned = x.assigned; permissions = x.permissions; holders = x.holders; ssd = x.ssd; dsd = x.dsd; sessions = x.sessions });
+        shape = named-shape m (with_roles (with_users m users) roles) more-roles more-users small range (record { seniors = x.seniors; juniors = x.juniors; assignees = x.assignees; assigned = x.assigned; permissions = x.permissions; holders = x.holders; ssd = x.ssd; dsd = x.dsd; sessions = x.sessions });
         limits = record { assigned = s.limits.assigned; granted = s.limits.granted; lined = s.limits.lined };
         counted = record { assigned = s.counted.assigned; granted = s.counted.granted; lined = s.counted.lined };
         rules = record { acyclic = s.rules.acyclic; active = s.rules.active; static = s.rules.static; dynamic = s.rules.dynamic };
       }
 
   -- More lines, n of them, without a circle, that break the static rule for no user and the dynamic rule in no session.
-  pub lines-changed : (new : ℕ → ℕ) (n : ℕ) → ((a j : ℕ) → line m.juniors a j ≡ true → line new a j ≡ true) → ((a j : ℕ) → line new a j ≡ true → has m.roles a ≡ true) → ((a : ℕ) → Existing m (new a)) → n ≡ standing 64 new → n ≤ 512 → Acyclic new → ((u : ℕ) → staticBroken (withLines m new n) u ≡ false) → ((k : ℕ) → dynamicBroken (withLines m new n) k ≡ false) → Sound (withLines m new n)
-  unfolding assignments grants linesStanding
+  pub lines_changed : (new : ℕ → ℕ) (n : ℕ) → ((a j : ℕ) → line m.juniors a j ≡ true → line new a j ≡ true) → ((a j : ℕ) → line new a j ≡ true → has m.roles a ≡ true) → ((a : ℕ) → Existing m (new a)) → n ≡ standing 64 new → n ≤ 512 → Acyclic new → ((u : ℕ) → static_broken (with_lines m new n) u ≡ false) → ((k : ℕ) → dynamic_broken (with_lines m new n) k ≡ false) → Sound (with_lines m new n)
+  unfolding assignments grants lines_standing
   lines-changed new n grown seniors existing counted few acyclic unbroken separate =
       record {
         shape = lines-shape m s.shape new n seniors existing;
@@ -107,8 +107,8 @@ module _ (m : Model) (s : Sound m) where
       }
 
   -- More assignments, n of them, of existing roles to existing users, that break the static rule for no user.
-  pub assigned-changed : (new : ℕ → ℕ) (n : ℕ) → ((u r : ℕ) → has (m.assigned u) r ≡ true → has (new u) r ≡ true) → ((u r : ℕ) → has (new u) r ≡ true → m.users u ≡ true) → ((u : ℕ) → Existing m (new u)) → n ≡ standing 256 new → n ≤ 2048 → ((u : ℕ) → staticBroken (withAssignments m new n) u ≡ false) → Sound (withAssignments m new n)
-  unfolding dynamicBroken assignments grants linesStanding
+  pub assigned_changed : (new : ℕ → ℕ) (n : ℕ) → ((u r : ℕ) → has (m.assigned u) r ≡ true → has (new u) r ≡ true) → ((u r : ℕ) → has (new u) r ≡ true → m.users u ≡ true) → ((u : ℕ) → Existing m (new u)) → n ≡ standing 256 new → n ≤ 2048 → ((u : ℕ) → static_broken (with_assignments m new n) u ≡ false) → Sound (with_assignments m new n)
+  unfolding dynamic_broken assignments grants lines_standing
   assigned-changed new n grown assignees existing counted few unbroken =
       record {
         shape = assigned-shape m s.shape new n assignees existing;
@@ -118,32 +118,32 @@ module _ (m : Model) (s : Sound m) where
       }
 
   -- Other grants, n of them, of permissions 0 to 4,095 to existing roles.
-  pub holders-changed : (new : ℕ → ℕ) (n : ℕ) → ((p r : ℕ) → has (new p) r ≡ true → p < 4096) → ((p : ℕ) → Existing m (new p)) → n ≡ standing 4096 new → n ≤ 2048 → Sound (withGrants m new n)
-  unfolding staticBroken dynamicBroken assignments grants linesStanding
+  pub holders_changed : (new : ℕ → ℕ) (n : ℕ) → ((p r : ℕ) → has (new p) r ≡ true → p < 4096) → ((p : ℕ) → Existing m (new p)) → n ≡ standing 4096 new → n ≤ 2048 → Sound (with_grants m new n)
+  unfolding static_broken dynamic_broken assignments grants lines_standing
   holders-changed new n permissions existing counted few =
       let x = s.shape in
       record {
-        shape = same_shape m (withGrants m new n) x refl refl (record { seniors = x.seniors; juniors = x.juniors; assignees = x.assignees; assigned = x.assigned; permissions = permissions; holders = existing; ssd = x.ssd; dsd = x.dsd; sessions = x.sessions });
+        shape = same_shape m (with_grants m new n) x refl refl (record { seniors = x.seniors; juniors = x.juniors; assignees = x.assignees; assigned = x.assigned; permissions = permissions; holders = existing; ssd = x.ssd; dsd = x.dsd; sessions = x.sessions });
         limits = record { assigned = s.limits.assigned; granted = rw counted at few; lined = s.limits.lined };
         counted = record { assigned = s.counted.assigned; granted = counted; lined = s.counted.lined };
         rules = record { acyclic = s.rules.acyclic; active = s.rules.active; static = s.rules.static; dynamic = s.rules.dynamic };
       }
 
   -- Other sessions, that obey the dynamic rule and have only roles active for which their owner is authorised.
-  pub sessions-changed : (new : ℕ → Session) → ((k : ℕ) → SessionShape m k (new k)) → ((k r : ℕ) → has (new k).active r ≡ true → has (authorised m (new k).owner) r ≡ true) → ((k : ℕ) → breaksSome m.dsd (countedOf m (new k)) ≡ false) → Sound (withSessions m new)
-  unfolding staticBroken dynamicBroken assignments grants linesStanding
+  pub sessions_changed : (new : ℕ → Session) → ((k : ℕ) → SessionShape m k (new k)) → ((k r : ℕ) → has (new k).active r ≡ true → has (authorised m (new k).owner) r ≡ true) → ((k : ℕ) → breaks_some m.dsd (counted_of m (new k)) ≡ false) → Sound (with_sessions m new)
+  unfolding static_broken dynamic_broken assignments grants lines_standing
   sessions-changed new shaped active unbroken =
       let x = s.shape in
       record {
-        shape = same_shape m (withSessions m new) x refl refl (record { seniors = x.seniors; juniors = x.juniors; assignees = x.assignees; assigned = x.assigned; permissions = x.permissions; holders = x.holders; ssd = x.ssd; dsd = x.dsd; sessions = shaped });
+        shape = same_shape m (with_sessions m new) x refl refl (record { seniors = x.seniors; juniors = x.juniors; assignees = x.assignees; assigned = x.assigned; permissions = x.permissions; holders = x.holders; ssd = x.ssd; dsd = x.dsd; sessions = shaped });
         limits = record { assigned = s.limits.assigned; granted = s.limits.granted; lined = s.limits.lined };
         counted = record { assigned = s.counted.assigned; granted = s.counted.granted; lined = s.counted.lined };
         rules = record { acyclic = s.rules.acyclic; active = active; static = s.rules.static; dynamic = unbroken };
       }
 
   -- Other sets of one kind, of the right shape, that are not broken.
-  pub sets-changed : (kind : Kind) (new : ℕ → RoleSet) → ((n : ℕ) → SetShape m n (new n)) → ((i : ℕ) → breaksSome new (held kind m i) ≡ false) → Sound (withSets kind m new)
-  unfolding staticBroken dynamicBroken assignments grants linesStanding
+  pub sets_changed : (kind : Kind) (new : ℕ → RoleSet) → ((n : ℕ) → SetShape m n (new n)) → ((i : ℕ) → breaks_some new (held kind m i) ≡ false) → Sound (with_sets kind m new)
+  unfolding static_broken dynamic_broken assignments grants lines_standing
   sets-changed Static new shaped unbroken =
       record {
         shape = sets-shape m s.shape Static new shaped;
@@ -162,8 +162,8 @@ module _ (m : Model) (s : Sound m) where
   -- ---- parts that shrink
 
   -- Fewer lines, assignments, grants and active roles, where every active role is one its owner is still authorised for.
-  pub fewer-sound : (m' : Model) → Shape (shrunk m m') → Counted (shrunk m m') → ((a j : ℕ) → line m'.juniors a j ≡ true → line m.juniors a j ≡ true) → ((u r : ℕ) → has (m'.assigned u) r ≡ true → has (m.assigned u) r ≡ true) → ((p r : ℕ) → has (m'.holders p) r ≡ true → has (m.holders p) r ≡ true) → ((k r : ℕ) → has (m'.sessions k).active r ≡ true → has (m.sessions k).active r ≡ true) → ((k r : ℕ) → has (m'.sessions k).active r ≡ true → has (reach m'.juniors (m'.assigned (m'.sessions k).owner)) r ≡ true) → Sound (shrunk m m')
-  unfolding staticBroken dynamicBroken assignments grants linesStanding
+  pub fewer_sound : (m' : Model) → Shape (shrunk m m') → Counted (shrunk m m') → ((a j : ℕ) → line m'.juniors a j ≡ true → line m.juniors a j ≡ true) → ((u r : ℕ) → has (m'.assigned u) r ≡ true → has (m.assigned u) r ≡ true) → ((p r : ℕ) → has (m'.holders p) r ≡ true → has (m.holders p) r ≡ true) → ((k r : ℕ) → has (m'.sessions k).active r ≡ true → has (m.sessions k).active r ≡ true) → ((k r : ℕ) → has (m'.sessions k).active r ≡ true → has (reach m'.juniors (m'.assigned (m'.sessions k).owner)) r ≡ true) → Sound (shrunk m m')
+  unfolding static_broken dynamic_broken assignments grants lines_standing
   fewer-sound m' shape counted lines assigned holders actives still =
       record {
         shape = shape;
@@ -183,5 +183,5 @@ module _ (m : Model) (s : Sound m) where
             };
       }
     where
-      at-most : {a b c : ℕ} → a ≤ b → b ≤ c → a ≤ c
+      at_most : {a b c : ℕ} → a ≤ b → b ≤ c → a ≤ c
       at-most h k = omega arith

@@ -6,8 +6,8 @@ use Rattle.roleset.specs.Roles.{has}
 use Rattle.roleset.proofs.Laws.{has-none}
 use Rattle.hierarchy.specs.Lines.{line}
 use Rattle.hierarchy.proofs.WalkLaws.{reach-grows, reach-small}
-use Rattle.model.specs.Model.{Model, Session, closedSession, withLines, withSessions}
-use Rattle.model.specs.Words.{breaksSome, counted}
+use Rattle.model.specs.Model.{Model, Session, closed_session, with_lines, with_sessions}
+use Rattle.model.specs.Words.{breaks_some, counted}
 use Rattle.model.specs.Sound.{Shape}
 use Rattle.sound.proofs.Members.{Within}
 use Rattle.sound.proofs.Breaking.{none-held, some-breaks-fewer}
@@ -30,20 +30,20 @@ counted-small m k = reach-small m.juniors (m.sessions k).active
 -- ---- the dynamic rule, by these
 
 -- the roles that a dynamic set counts of a session that is this one, with the lines of m
-abbrev pub countedOf : Model → Session → ℕ
-countedOf m y = counted (withSessions m (λ i. y)) 0
+abbrev pub counted_of : Model → Session → ℕ
+counted_of m y = counted (with_sessions m (λ i. y)) 0
 
 -- A closed session breaks no set,
-pub closed-breaks-none : (m : Model) → Shape m → breaksSome m.dsd (countedOf m closedSession) ≡ false
-closed-breaks-none m x = none-held m.dsd (countedOf m closedSession) (λ n. (x.dsd n).at_least) (counts-none (withSessions m (λ i. closedSession)) 0 has-none)
+pub closed-breaks-none : (m : Model) → Shape m → breaks_some m.dsd (counted_of m closed_session) ≡ false
+closed-breaks-none m x = none-held m.dsd (counted_of m closed_session) (λ n. (x.dsd n).at_least) (counts-none (with_sessions m (λ i. closed_session)) 0 has-none)
 
 -- and neither does a number past 63, whatever the lines.
-pub none-counted-beyond : (m : Model) → Shape m → (lines : ℕ → ℕ) (n k : ℕ) → 64 ≤ k → (r : ℕ) → has (counted (withLines m lines n) k) r ≡ false
-none-counted-beyond m x lines n k l = counts-none (withLines m lines n) k (λ r. ap (λ (y : Session). has y.active r) (no-session-beyond m x k l) ∙ has-none r)
+pub none-counted-beyond : (m : Model) → Shape m → (lines : ℕ → ℕ) (n k : ℕ) → 64 ≤ k → (r : ℕ) → has (counted (with_lines m lines n) k) r ≡ false
+none-counted-beyond m x lines n k l = counts-none (with_lines m lines n) k (λ r. ap (λ (y : Session). has y.active r) (no-session-beyond m x k l) ∙ has-none r)
 
-pub dynamic-beyond : (m : Model) → Shape m → (lines : ℕ → ℕ) (n k : ℕ) → 64 ≤ k → breaksSome m.dsd (counted (withLines m lines n) k) ≡ false
-dynamic-beyond m x lines n k l = none-held m.dsd (counted (withLines m lines n) k) (λ i. (x.dsd i).at_least) (none-counted-beyond m x lines n k l)
+pub dynamic-beyond : (m : Model) → Shape m → (lines : ℕ → ℕ) (n k : ℕ) → 64 ≤ k → breaks_some m.dsd (counted (with_lines m lines n) k) ≡ false
+dynamic-beyond m x lines n k l = none-held m.dsd (counted (with_lines m lines n) k) (λ i. (x.dsd i).at_least) (none-counted-beyond m x lines n k l)
 
 -- Fewer lines and fewer active roles break no set that was not broken.
-pub dynamic-fewer : (m m' : Model) (k : ℕ) → ((a j : ℕ) → line m'.juniors a j ≡ true → line m.juniors a j ≡ true) → ((r : ℕ) → has (m'.sessions k).active r ≡ true → has (m.sessions k).active r ≡ true) → breaksSome m.dsd (counted m k) ≡ false → breaksSome m.dsd (counted m' k) ≡ false
+pub dynamic-fewer : (m m' : Model) (k : ℕ) → ((a j : ℕ) → line m'.juniors a j ≡ true → line m.juniors a j ≡ true) → ((r : ℕ) → has (m'.sessions k).active r ≡ true → has (m.sessions k).active r ≡ true) → breaks_some m.dsd (counted m k) ≡ false → breaks_some m.dsd (counted m' k) ≡ false
 dynamic-fewer m m' k lines actives = some-breaks-fewer m.dsd (counted m' k) (counted m k) (counts-fewer m m' k lines actives)

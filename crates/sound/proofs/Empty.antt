@@ -8,8 +8,8 @@ use Rattle.roleset.proofs.BoundedLaws.{clash, total-le}
 use Rattle.roleset.proofs.Laws.{has-none, count_none}
 use Rattle.hierarchy.specs.Lines.{Inherits}
 use Rattle.hierarchy.specs.Lines.Inherits.{one, more}
-use Rattle.model.specs.Model.{empty, absentSet, standing}
-use Rattle.model.specs.Words.{breaks, staticBroken, dynamicBroken, assignments, grants, linesStanding}
+use Rattle.model.specs.Model.{empty, absent_set, standing}
+use Rattle.model.specs.Words.{breaks, static_broken, dynamic_broken, assignments, grants, lines_standing}
 use Rattle.model.specs.Sound.{Sound}
 use Rattle.sound.proofs.Breaking.{none-breaks}
 use Rattle.sound.proofs.Carried.{existing-none, set-none, session-none}
@@ -25,7 +25,7 @@ no-entries n = omega (arith, total-le n 0 (λ k. count 0) (λ k l. rw count_none
 
 -- "starting empty": the empty policy obeys the limits and the rules, and has the right shape.
 pub empty-sound : Sound empty
-unfolding empty staticBroken dynamicBroken assignments grants linesStanding breaks
+unfolding empty static_broken dynamic_broken assignments grants lines_standing breaks
 empty-sound =
     record {
       shape =
@@ -48,7 +48,7 @@ empty-sound =
           record {
             acyclic = record { never = λ r p. no_lines p };
             active = λ s r e. clash (has 0 r) e (has-none r);
-            static = λ u. none-breaks (λ n. absentSet) _ (λ n l. refl);
-            dynamic = λ s. none-breaks (λ n. absentSet) _ (λ n l. refl);
+            static = λ u. none-breaks (λ n. absent_set) _ (λ n l. refl);
+            dynamic = λ s. none-breaks (λ n. absent_set) _ (λ n l. refl);
           };
     }

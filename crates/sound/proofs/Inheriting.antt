@@ -16,9 +16,9 @@ use Rattle.hierarchy.specs.Walks.{reach}
 use Rattle.hierarchy.proofs.InheritsLaws.{add-acyclic}
 use Rattle.hierarchy.proofs.WalkLaws.{reach-sound, reach-complete}
 use Rattle.model.specs.Model.{Model, put, standing}
-use Rattle.model.specs.Words.{breaksSome, staticBroken, dynamicBroken, linesStanding}
+use Rattle.model.specs.Words.{breaks_some, static_broken, dynamic_broken, lines_standing}
 use Rattle.model.specs.Sound.{Shape, Sound}
-use Rattle.model.specs.commands.Inheriting.{lined, wouldCircle, inherit}
+use Rattle.model.specs.commands.Inheriting.{lined, would_circle, inherit}
 use Rattle.sound.proofs.Sheet.{kept}
 use Rattle.sound.proofs.Put.{put_all}
 use Rattle.sound.proofs.Members.{or_no, with-new, with-member}
@@ -29,34 +29,34 @@ use Rattle.sound.proofs.Changing.{lines-changed}
 use Rattle.sound.proofs.Counted.{dynamic-beyond}
 
 -- "equal, or the junior inherits the senior": what `inherit` asks is that.
-pub circle-exact : (m : Model) → Sound m → (senior junior : ℕ) → junior < 64 → (wouldCircle m senior junior ≡ true) ↔ AtOrAbove m.juniors junior senior
+pub circle-exact : (m : Model) → Sound m → (senior junior : ℕ) → junior < 64 → (would_circle m senior junior ≡ true) ↔ AtOrAbove m.juniors junior senior
 circle-exact m s senior junior small = (to, back)
   where
     from : ℕ
     from = with none junior
 
-    to : wouldCircle m senior junior ≡ true → AtOrAbove m.juniors junior senior
+    to : would_circle m senior junior ≡ true → AtOrAbove m.juniors junior senior
     to e = let u = reach-sound m.juniors from senior e in start u.role (with-member none junior u.role u.member).1 u.down
       where
         start : (a : ℕ) → (has none a ≡ true) ⊎ (a ≡ junior) → AtOrAbove m.juniors a senior → AtOrAbove m.juniors junior senior
         start a (inl h) d = clash (has none a) h (has-none a)
         start a (inr p) d = subst (λ (x : ℕ). AtOrAbove m.juniors x senior) p d
 
-    back : AtOrAbove m.juniors junior senior → wouldCircle m senior junior ≡ true
+    back : AtOrAbove m.juniors junior senior → would_circle m senior junior ≡ true
     back d = reach-complete m.juniors from (lines-small m s.shape) senior (record { role = junior; small = small; member = with-new none junior small; down = d })
 
 -- A line between two roles that makes no circle leaves none.
-lined-acyclic : (m : Model) → Sound m → (senior junior : ℕ) → junior < 64 → wouldCircle m senior junior ≡ false → Acyclic (lined m senior junior).juniors
+lined-acyclic : (m : Model) → Sound m → (senior junior : ℕ) → junior < 64 → would_circle m senior junior ≡ false → Acyclic (lined m senior junior).juniors
 unfolding lined
-lined-acyclic m s senior junior small e = add-acyclic (new-at m m.juniors senior junior s.shape.juniors) (λ d. clash (wouldCircle m senior junior) ((circle-exact m s senior junior small).1 d) e) s.rules.acyclic
+lined-acyclic m s senior junior small e = add-acyclic (new-at m m.juniors senior junior s.shape.juniors) (λ d. clash (would_circle m senior junior) ((circle-exact m s senior junior small).1 d) e) s.rules.acyclic
 
 -- A number that is no user's breaks no static rule, whatever the lines.
-pub static-beyond : (m : Model) → Shape m → (lines : ℕ → ℕ) (u : ℕ) → 256 ≤ u → breaksSome m.ssd (reach lines (m.assigned u)) ≡ false
+pub static-beyond : (m : Model) → Shape m → (lines : ℕ → ℕ) (u : ℕ) → 256 ≤ u → breaks_some m.ssd (reach lines (m.assigned u)) ≡ false
 static-beyond m x lines u l = none-held m.ssd (reach lines (m.assigned u)) (λ n. (x.ssd n).at_least) (nothing-reached lines (m.assigned u) (nobody-assigned m x u (no-user-beyond m x u l)))
 
 -- `inherit senior junior` keeps a sound model sound.
 pub inherit-sound : (m : Model) (senior junior : ℕ) → Sound m → Sound (inherit m senior junior).after
-unfolding inherit lined staticBroken dynamicBroken linesStanding
+unfolding inherit lined static_broken dynamic_broken lines_standing
 inherit-sound m senior junior s =
     kept Sound _ m _ _ refl s (λ c.
     let range = or_no (leb 64 senior) (leb 64 junior) c.0 in
@@ -64,9 +64,9 @@ inherit-sound m senior junior s =
     let small : junior < 64 = leb-false 64 junior range.1 in
     let above : has m.roles senior ≡ true = not-false (has m.roles senior) there.0 in
     let new : ℕ → ℕ = put m.juniors senior (with (m.juniors senior) junior) in
-    let more : m.lineCount + 1 ≡ standing 64 new = omega (arith, s.counted.lined, one_more 64 m.juniors senior junior (leb-false 64 senior range.0) small c.1.1.0) in
-    let room : m.lineCount < 512 = leb-false 512 m.lineCount c.1.1.1.1.1.1.0 in
-    lines-changed m s new (m.lineCount + 1)
+    let more : m.line_count + 1 ≡ standing 64 new = omega (arith, s.counted.lined, one_more 64 m.juniors senior junior (leb-false 64 senior range.0) small c.1.1.0) in
+    let room : m.line_count < 512 = leb-false 512 m.line_count c.1.1.1.1.1.1.0 in
+    lines-changed m s new (m.line_count + 1)
     (old-at m m.juniors senior junior s.shape.juniors)
     (put_all (λ k set. (j : ℕ) → has set j ≡ true → has m.roles k ≡ true) m.juniors senior (with (m.juniors senior) junior) (λ j e. above) (λ k d j e. s.shape.seniors k j e))
     (existing-at m m.juniors senior junior s.shape.juniors (not-false (has m.roles junior) there.1))
@@ -76,10 +76,10 @@ inherit-sound m senior junior s =
     (λ u. for-all u c.1.1.1.1.0 (dec_lt u 256))
     (λ k. in_all k c.1.1.1.1.1.0 (dec_lt k 64)))
   where
-    for-all : (u : ℕ) → some 256 (staticBroken (lined m senior junior)) ≡ false → Dec (u < 256) → staticBroken (lined m senior junior) u ≡ false
-    for-all u e (yes l) = some-false 256 (staticBroken (lined m senior junior)) e u l
+    for_all : (u : ℕ) → some 256 (static_broken (lined m senior junior)) ≡ false → Dec (u < 256) → static_broken (lined m senior junior) u ≡ false
+    for-all u e (yes l) = some-false 256 (static_broken (lined m senior junior)) e u l
     for-all u e (no l) = static-beyond m s.shape (lined m senior junior).juniors u (omega arith)
 
-    in_all : (k : ℕ) → some 64 (dynamicBroken (lined m senior junior)) ≡ false → Dec (k < 64) → dynamicBroken (lined m senior junior) k ≡ false
-    in_all k e (yes l) = some-false 64 (dynamicBroken (lined m senior junior)) e k l
-    in_all k e (no l) = dynamic-beyond m s.shape (lined m senior junior).juniors (m.lineCount + 1) k (omega arith)
+    in_all : (k : ℕ) → some 64 (dynamic_broken (lined m senior junior)) ≡ false → Dec (k < 64) → dynamic_broken (lined m senior junior) k ≡ false
+    in_all k e (yes l) = some-false 64 (dynamic_broken (lined m senior junior)) e k l
+    in_all k e (no l) = dynamic-beyond m s.shape (lined m senior junior).juniors (m.line_count + 1) k (omega arith)

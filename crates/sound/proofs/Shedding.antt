@@ -12,10 +12,10 @@ use Rattle.roleset.proofs.Laws.{has-none, without-small, common-small}
 use Rattle.hierarchy.specs.Lines.{line}
 use Rattle.hierarchy.specs.Walks.{reach}
 use Rattle.hierarchy.proofs.WalkLaws.{reach-sound}
-use Rattle.model.specs.Model.{Model, RoleSet, Session, put, standing, withLines, withAssignments}
-use Rattle.model.specs.Words.{keeping, shedded, shed, assignments, grants, linesStanding}
+use Rattle.model.specs.Model.{Model, RoleSet, Session, put, standing, with_lines, with_assignments}
+use Rattle.model.specs.Words.{keeping, shedded, shed, assignments, grants, lines_standing}
 use Rattle.model.specs.Sound.{Existing, SetShape, SessionShape, Shape, Counted, Sound}
-use Rattle.model.specs.commands.Users.{in_set, withoutRole, norole}
+use Rattle.model.specs.commands.Users.{in_set, without_role, norole}
 use Rattle.model.specs.commands.Assigning.{deassigned, deassign}
 use Rattle.model.specs.commands.Inheriting.{unlined, disinherit}
 use Rattle.sound.proofs.Sheet.{kept}
@@ -36,39 +36,39 @@ shedded-all P juniors assigned x live closed = go x.live refl
 
 -- the users, sets and sessions of m, and the other parts of m'
 abbrev pub left : Model → Model → Model
-left m m' = record { users = m.users; roles = m'.roles; juniors = m'.juniors; assigned = m'.assigned; holders = m'.holders; ssd = m.ssd; dsd = m.dsd; sessions = m.sessions; assignmentCount = m'.assignmentCount; grantCount = m'.grantCount; lineCount = m'.lineCount }
+left m m' = record { users = m.users; roles = m'.roles; juniors = m'.juniors; assigned = m'.assigned; holders = m'.holders; ssd = m.ssd; dsd = m.dsd; sessions = m.sessions; assignment_count = m'.assignment_count; grant_count = m'.grant_count; line_count = m'.line_count }
 
 module _ (m m' : Model) where
   -- roles, lines, assignments and grants of m taken away: what is left, in m', names roles that are left, and is counted
   pub record Stripped : Type 0 where
     pub small : m'.roles < 2 ^ 64
     pub seniors : (a j : ℕ) → line m'.juniors a j ≡ true → has m'.roles a ≡ true
-    pub juniors-left : (a : ℕ) → Existing (left m m') (m'.juniors a)
-    pub assigned-left : (u : ℕ) → Existing (left m m') (m'.assigned u)
-    pub holders-left : (p : ℕ) → Existing (left m m') (m'.holders p)
-    pub ssd-left : (n : ℕ) → SetShape (left m m') n (m.ssd n)
-    pub dsd-left : (n : ℕ) → SetShape (left m m') n (m.dsd n)
+    pub juniors_left : (a : ℕ) → Existing (left m m') (m'.juniors a)
+    pub assigned_left : (u : ℕ) → Existing (left m m') (m'.assigned u)
+    pub holders_left : (p : ℕ) → Existing (left m m') (m'.holders p)
+    pub ssd_left : (n : ℕ) → SetShape (left m m') n (m.ssd n)
+    pub dsd_left : (n : ℕ) → SetShape (left m m') n (m.dsd n)
     pub lines : (a j : ℕ) → line m'.juniors a j ≡ true → line m.juniors a j ≡ true
-    pub assigned-before : (u r : ℕ) → has (m'.assigned u) r ≡ true → has (m.assigned u) r ≡ true
-    pub held-before : (p r : ℕ) → has (m'.holders p) r ≡ true → has (m.holders p) r ≡ true
+    pub assigned_before : (u r : ℕ) → has (m'.assigned u) r ≡ true → has (m.assigned u) r ≡ true
+    pub held_before : (p r : ℕ) → has (m'.holders p) r ≡ true → has (m.holders p) r ≡ true
     pub counted : Counted (left m m')
 
   module _ (s : Sound m) (t : Stripped) where
     -- What was taken away, and then shed, has its shape,
-    shed-shape : Shape (shed (left m m'))
+    shed_shape : Shape (shed (left m m'))
     unfolding shed
-    shed-shape =
+    shed_shape =
         record {
           users = x.users;
           roles = t.small;
           seniors = t.seniors;
-          juniors = λ a. existing-in base after (λ r e. e) (t.juniors-left a);
-          assignees = λ u r e. x.assignees u r (t.assigned-before u r e);
-          assigned = λ u. existing-in base after (λ r e. e) (t.assigned-left u);
-          permissions = λ p r e. x.permissions p r (t.held-before p r e);
-          holders = λ p. existing-in base after (λ r e. e) (t.holders-left p);
-          ssd = λ n. set-in base after (λ r e. e) (t.ssd-left n);
-          dsd = λ n. set-in base after (λ r e. e) (t.dsd-left n);
+          juniors = λ a. existing-in base after (λ r e. e) (t.juniors_left a);
+          assignees = λ u r e. x.assignees u r (t.assigned_before u r e);
+          assigned = λ u. existing-in base after (λ r e. e) (t.assigned_left u);
+          permissions = λ p r e. x.permissions p r (t.held_before p r e);
+          holders = λ p. existing-in base after (λ r e. e) (t.holders_left p);
+          ssd = λ n. set-in base after (λ r e. e) (t.ssd_left n);
+          dsd = λ n. set-in base after (λ r e. e) (t.dsd_left n);
           sessions = λ k. shedded-all (λ y. SessionShape after k y) m'.juniors m'.assigned (m.sessions k) (live k (x.sessions k)) (λ e. subst (λ (y : Session). SessionShape after k y) (sym ((x.sessions k).closed e)) (session-none after k));
         }
       where
@@ -81,10 +81,10 @@ module _ (m m' : Model) where
         x : Shape m
         x = s.shape
 
-        authorised-exist : (u r : ℕ) → has (reach m'.juniors (m'.assigned u)) r ≡ true → has m'.roles r ≡ true
+        authorised_exist : (u r : ℕ) → has (reach m'.juniors (m'.assigned u)) r ≡ true → has m'.roles r ≡ true
         authorised-exist u r h =
             let under = reach-sound m'.juniors (m'.assigned u) r h in
-            below-exists m'.juniors m'.roles (λ a b. (t.juniors-left a).exist b) under.down ((t.assigned-left u).exist under.role under.member)
+            below-exists m'.juniors m'.roles (λ a b. (t.juniors_left a).exist b) under.down ((t.assigned_left u).exist under.role under.member)
 
         live : (k : ℕ) → SessionShape m k (m.sessions k) → (m.sessions k).live ≡ true → SessionShape after k (keeping (m.sessions k) (reach m'.juniors (m'.assigned (m.sessions k).owner)))
         live k y l =
@@ -92,12 +92,12 @@ module _ (m m' : Model) where
             record { closed = λ e. clash (m.sessions k).live l e; numbered = y.numbered; owned = y.owned; active = record { small = common-small (m.sessions k).active held; exist = λ r h. authorised-exist (m.sessions k).owner r (common-member (m.sessions k).active held r h).2 } }
 
     -- and is sound: a rule that held before still does, and shedding leaves no active role without its authorisation.
-    pub shed-sound : Sound (shed (left m m'))
-    unfolding shed assignments grants linesStanding
-    shed-sound =
+    pub shed_sound : Sound (shed (left m m'))
+    unfolding shed assignments grants lines_standing
+    shed_sound =
         fewer-sound m s (shed (left m m')) shed-shape
         (record { assigned = t.counted.assigned; granted = t.counted.granted; lined = t.counted.lined })
-        t.lines t.assigned-before t.held-before
+        t.lines t.assigned_before t.held_before
         (λ k r. shedded-all (λ y. has y.active r ≡ true → has (m.sessions k).active r ≡ true) m'.juniors m'.assigned (m.sessions k) (λ l h. (common-member (m.sessions k).active (reach m'.juniors (m'.assigned (m.sessions k).owner)) r h).1) (λ l h. h))
         (λ k r. shedded-all (λ y. has y.active r ≡ true → has (reach m'.juniors (m'.assigned y.owner)) r ≡ true) m'.juniors m'.assigned (m.sessions k) (λ l h. (common-member (m.sessions k).active (reach m'.juniors (m'.assigned (m.sessions k).owner)) r h).2) (λ l h. clash (has (m.sessions k).active r) h (closed-idle m s.shape k l r)))
 
@@ -105,23 +105,23 @@ module _ (m m' : Model) where
 
 -- m with other lines and assignments, of which so many stand
 abbrev fewer : Model → (ℕ → ℕ) → (ℕ → ℕ) → ℕ → ℕ → Model
-fewer m juniors assigned lines assignments = withAssignments (withLines m juniors lines) assigned assignments
+fewer m juniors assigned lines assignments = with_assignments (with_lines m juniors lines) assigned assignments
 
 -- Where only lines and assignments are taken away, what is left names existing roles.
 same-roles-left : (m : Model) (juniors assigned : ℕ → ℕ) (n k : ℕ) → Sound m → ((a : ℕ) → juniors a < 2 ^ 64) → ((u : ℕ) → assigned u < 2 ^ 64) → ((a j : ℕ) → line juniors a j ≡ true → line m.juniors a j ≡ true) → ((u r : ℕ) → has (assigned u) r ≡ true → has (m.assigned u) r ≡ true) → n ≡ standing 64 juniors → k ≡ standing 256 assigned → Stripped m (fewer m juniors assigned n k)
-unfolding assignments grants linesStanding
+unfolding assignments grants lines_standing
 same-roles-left m juniors assigned n k s small-juniors small-assigned lines assigned-before line-count assignment-count =
     record {
       small = x.roles;
       seniors = λ a j e. x.seniors a j (lines a j e);
-      juniors-left = λ a. record { small = small-juniors a; exist = λ r e. (x.juniors a).exist r (lines a r e) };
-      assigned-left = λ u. record { small = small-assigned u; exist = λ r e. (x.assigned u).exist r (assigned-before u r e) };
-      holders-left = λ p. existing-in m base (λ r e. e) (x.holders p);
-      ssd-left = λ n. set-in m base (λ r e. e) (x.ssd n);
-      dsd-left = λ n. set-in m base (λ r e. e) (x.dsd n);
+      juniors_left = λ a. record { small = small-juniors a; exist = λ r e. (x.juniors a).exist r (lines a r e) };
+      assigned_left = λ u. record { small = small-assigned u; exist = λ r e. (x.assigned u).exist r (assigned-before u r e) };
+      holders_left = λ p. existing-in m base (λ r e. e) (x.holders p);
+      ssd_left = λ n. set-in m base (λ r e. e) (x.ssd n);
+      dsd_left = λ n. set-in m base (λ r e. e) (x.dsd n);
       lines = lines;
-      assigned-before = assigned-before;
-      held-before = λ p r e. e;
+      assigned_before = assigned-before;
+      held_before = λ p r e. e;
       counted = record { assigned = assignment-count; granted = s.counted.granted; lined = line-count };
     }
   where
@@ -133,52 +133,52 @@ same-roles-left m juniors assigned n k s small-juniors small-assigned lines assi
 
 -- `deassign u r` keeps a sound model sound.
 pub deassign-sound : (m : Model) (u r : ℕ) → Sound m → Sound (deassign m u r).after
-unfolding deassign deassigned assignments linesStanding
+unfolding deassign deassigned assignments lines_standing
 deassign-sound m u r s =
     kept Sound _ m _ _ refl s (λ c.
     let range = or_no (leb 256 u) (leb 64 r) c.0 in
     let new : ℕ → ℕ = put m.assigned u (without (m.assigned u) r) in
-    let less : m.assignmentCount - 1 ≡ standing 256 new = omega (arith, s.counted.assigned, one_less 256 m.assigned u r (leb-false 256 u range.0) (leb-false 64 r range.1) (not-false (has (m.assigned u) r) c.1.1.0)) in
+    let less : m.assignment_count - 1 ≡ standing 256 new = omega (arith, s.counted.assigned, one_less 256 m.assigned u r (leb-false 256 u range.0) (leb-false 64 r range.1) (not-false (has (m.assigned u) r) c.1.1.0)) in
     shed-sound m (deassigned m u r) s
-    (same-roles-left m m.juniors new m.lineCount (m.assignmentCount - 1) s (λ a. (s.shape.juniors a).small) (small_at m.assigned u r (λ k. (s.shape.assigned k).small)) (λ a j e. e) (fewer-at m.assigned u r) s.counted.lined less))
+    (same-roles-left m m.juniors new m.line_count (m.assignment_count - 1) s (λ a. (s.shape.juniors a).small) (small_at m.assigned u r (λ k. (s.shape.assigned k).small)) (λ a j e. e) (fewer-at m.assigned u r) s.counted.lined less))
 
 -- `disinherit senior junior` keeps a sound model sound.
 pub disinherit-sound : (m : Model) (senior junior : ℕ) → Sound m → Sound (disinherit m senior junior).after
-unfolding disinherit unlined assignments linesStanding
+unfolding disinherit unlined assignments lines_standing
 disinherit-sound m senior junior s =
     kept Sound _ m _ _ refl s (λ c.
     let range = or_no (leb 64 senior) (leb 64 junior) c.0 in
     let new : ℕ → ℕ = put m.juniors senior (without (m.juniors senior) junior) in
-    let less : m.lineCount - 1 ≡ standing 64 new = omega (arith, s.counted.lined, one_less 64 m.juniors senior junior (leb-false 64 senior range.0) (leb-false 64 junior range.1) (not-false (has (m.juniors senior) junior) c.1.1.0)) in
+    let less : m.line_count - 1 ≡ standing 64 new = omega (arith, s.counted.lined, one_less 64 m.juniors senior junior (leb-false 64 senior range.0) (leb-false 64 junior range.1) (not-false (has (m.juniors senior) junior) c.1.1.0)) in
     shed-sound m (unlined m senior junior) s
-    (same-roles-left m new m.assigned (m.lineCount - 1) m.assignmentCount s (small_at m.juniors senior junior (λ k. (s.shape.juniors k).small)) (λ u. (s.shape.assigned u).small) (fewer-at m.juniors senior junior) (λ u r e. e) less s.counted.assigned))
+    (same-roles-left m new m.assigned (m.line_count - 1) m.assignment_count s (small_at m.juniors senior junior (λ k. (s.shape.juniors k).small)) (λ u. (s.shape.assigned u).small) (fewer-at m.juniors senior junior) (λ u r e. e) less s.counted.assigned))
 
 -- A role stands in a set of a table exactly where it is a member of one, whatever its name.
-pub inSet-exact : (m : Model) (sets : ℕ → RoleSet) → ((n : ℕ) → SetShape m n (sets n)) → (r : ℕ) → (in_set sets r ≡ true) ↔ ((n : ℕ) × (has (sets n).roles r ≡ true))
+pub in_set-exact : (m : Model) (sets : ℕ → RoleSet) → ((n : ℕ) → SetShape m n (sets n)) → (r : ℕ) → (in_set sets r ≡ true) ↔ ((n : ℕ) × (has (sets n).roles r ≡ true))
 unfolding in_set
-inSet-exact m sets shaped r = (
+in_set-exact m sets shaped r = (
   (λ e. let found = some-elim 16 (λ n. has (sets n).roles r) e in (found.0, found.2)),
   (λ f. some-intro 16 (λ n. has (sets n).roles r) f.0 ((shaped f.0).named (member-there m f.0 (sets f.0) r (shaped f.0) f.1)) f.1),
 )
 
 in-no-set : (m : Model) (sets : ℕ → RoleSet) → ((n : ℕ) → SetShape m n (sets n)) → (r : ℕ) → in_set sets r ≡ false → (n : ℕ) → has (sets n).roles r ≡ false
-in-no-set m sets shaped r e n = never (has (sets n).roles r) (λ h. clash (in_set sets r) ((inSet-exact m sets shaped r).1 (n, h)) e)
+in-no-set m sets shaped r e n = never (has (sets n).roles r) (λ h. clash (in_set sets r) ((in_set-exact m sets shaped r).1 (n, h)) e)
 
 -- A role that stands in no set may go, with its assignments, grants and lines: what is left names roles that are left.
-role-stripped : (m : Model) (r : ℕ) → Sound m → r < 64 → in_set m.ssd r ≡ false → in_set m.dsd r ≡ false → Stripped m (withoutRole m r)
-unfolding withoutRole assignments grants linesStanding
+role-stripped : (m : Model) (r : ℕ) → Sound m → r < 64 → in_set m.ssd r ≡ false → in_set m.dsd r ≡ false → Stripped m (without_role m r)
+unfolding without_role assignments grants lines_standing
 role-stripped m r s l no-ssd no-dsd =
     record {
       small = without-small m.roles r;
       seniors = put_all (λ a set. (j : ℕ) → has set j ≡ true → has remaining a ≡ true) table r none (λ j e. clash (has 0 j) e (has-none j)) (λ a d j e. still a (x.seniors a j (without-member (m.juniors a) r j e).1) d);
-      juniors-left = put_all (λ a set. Existing base set) table r none (existing-none base) (λ a d. existing (m.juniors a) (x.juniors a));
-      assigned-left = λ u. existing (m.assigned u) (x.assigned u);
-      holders-left = λ p. existing (m.holders p) (x.holders p);
-      ssd-left = λ n. set-left n (m.ssd n) (x.ssd n) (in-no-set m m.ssd x.ssd r no-ssd n);
-      dsd-left = λ n. set-left n (m.dsd n) (x.dsd n) (in-no-set m m.dsd x.dsd r no-dsd n);
+      juniors_left = put_all (λ a set. Existing base set) table r none (existing-none base) (λ a d. existing (m.juniors a) (x.juniors a));
+      assigned_left = λ u. existing (m.assigned u) (x.assigned u);
+      holders_left = λ p. existing (m.holders p) (x.holders p);
+      ssd_left = λ n. set-left n (m.ssd n) (x.ssd n) (in-no-set m m.ssd x.ssd r no-ssd n);
+      dsd_left = λ n. set-left n (m.dsd n) (x.dsd n) (in-no-set m m.dsd x.dsd r no-dsd n);
       lines = stripped-fewer m.juniors r;
-      assigned-before = λ u k e. (without-member (m.assigned u) r k e).1;
-      held-before = λ p k e. (without-member (m.holders p) r k e).1;
+      assigned_before = λ u k e. (without-member (m.assigned u) r k e).1;
+      held_before = λ p k e. (without-member (m.holders p) r k e).1;
       counted =
           record {
             assigned = omega (arith, s.counted.assigned, stripped 256 m.assigned r l);
@@ -194,7 +194,7 @@ role-stripped m r s l no-ssd no-dsd =
     table = λ a. without (m.juniors a) r
 
     base : Model
-    base = withoutRole m r
+    base = without_role m r
 
     x : Shape m
     x = s.shape
@@ -205,12 +205,12 @@ role-stripped m r s l no-ssd no-dsd =
     existing : (set : ℕ) → Existing m set → Existing base (without set r)
     existing set y = record { small = without-small set r; exist = λ k e. let w = without-member set r k e in still k (y.exist k w.1) w.2 }
 
-    set-left : (n : ℕ) (set : RoleSet) → SetShape m n set → has set.roles r ≡ false → SetShape base n set
+    set_left : (n : ℕ) (set : RoleSet) → SetShape m n set → has set.roles r ≡ false → SetShape base n set
     set-left n set y e = record { absent = y.absent; named = y.named; at_least = y.at_least; at_most = y.at_most; members = record { small = y.members.small; exist = λ k h. still k (y.members.exist k h) (λ d. clash (has set.roles k) h (rw d e)) } }
 
 -- `norole r` keeps a sound model sound.
 pub norole-sound : (m : Model) (r : ℕ) → Sound m → Sound (norole m r).after
-unfolding norole withoutRole
+unfolding norole without_role
 norole-sound m r s =
     kept Sound _ m _ _ refl s (λ c. let n = or_no (in_set m.ssd r) (in_set m.dsd r) c.1.1.0 in
-    shed-sound m (withoutRole m r) s (role-stripped m r s (leb-false 64 r c.0) n.0 n.1))
+    shed-sound m (without_role m r) s (role-stripped m r s (leb-false 64 r c.0) n.0 n.1))

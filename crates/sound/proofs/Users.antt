@@ -10,17 +10,17 @@ use Rattle.roleset.specs.Roles as roles
 use Rattle.roleset.proofs.BoundedLaws.{clash, some-none, some-false}
 use Rattle.roleset.proofs.Laws.{with-small, has-none}
 use Rattle.hierarchy.specs.Walks.{reach}
-use Rattle.model.specs.Model.{Model, Session, closedSession, put}
-use Rattle.model.specs.Words.{authorised, breaksSome, dynamicBroken, assignments, grants, linesStanding}
+use Rattle.model.specs.Model.{Model, Session, closed_session, put}
+use Rattle.model.specs.Words.{authorised, breaks_some, dynamic_broken, assignments, grants, lines_standing}
 use Rattle.model.specs.Sound.{Existing, SessionShape, Shape, Counted, Sound}
-use Rattle.model.specs.commands.Users.{user, role, openOf, ended_of, allEnded, endAll, hasOpen, withoutUser, nouser}
+use Rattle.model.specs.commands.Users.{user, role, open_of, ended_of, all_ended, end_all, has_open, without_user, nouser}
 use Rattle.sound.proofs.Sheet.{kept}
 use Rattle.model.proofs.Puts.{put_other}
 use Rattle.sound.proofs.Put.{put_all}
 use Rattle.sound.proofs.Members.{with-old, and_no}
 use Rattle.sound.proofs.Counting.{one-emptied}
 use Rattle.sound.proofs.Carried.{role-small, existing-none, existing-in, set-in, session-none, closed-idle}
-use Rattle.sound.proofs.Counted.{countedOf, closed-breaks-none}
+use Rattle.sound.proofs.Counted.{counted_of, closed-breaks-none}
 use Rattle.sound.proofs.Changing.{names-changed, sessions-changed, fewer-sound}
 
 -- `user u` keeps a sound model sound.
@@ -46,38 +46,38 @@ role-sound m r s =
     (λ k e. with-old m.roles r k (role-small m s.shape k e) e))
 
 -- what holds of a closed session, and of one that is not the user's or not open, holds of the session that is left
-pub ended-all : (P : Session → Type 0) (u : ℕ) (x : Session) → P closedSession → (openOf u x ≡ false → P x) → P (ended_of u x)
+pub ended-all : (P : Session → Type 0) (u : ℕ) (x : Session) → P closed_session → (open_of u x ≡ false → P x) → P (ended_of u x)
 unfolding ended_of
-ended-all P u x closed other = go (openOf u x) refl
+ended-all P u x closed other = go (open_of u x) refl
   where
-    go : (b : Bool) → openOf u x ≡ b → P (ended_of u x)
+    go : (b : Bool) → open_of u x ≡ b → P (ended_of u x)
     go true e = rw (e, ended_of) closed
     go false e = rw (e, ended_of) (other e)
 
 -- `end-all u` keeps a sound model sound.
-pub endAll-sound : (m : Model) (u : ℕ) → Sound m → Sound (endAll m u).after
-unfolding endAll allEnded dynamicBroken
-endAll-sound m u s =
+pub end_all-sound : (m : Model) (u : ℕ) → Sound m → Sound (end_all m u).after
+unfolding end_all all_ended dynamic_broken
+end_all-sound m u s =
     kept Sound _ m _ _ refl s
     (λ c. sessions-changed m s (λ k. ended_of u (m.sessions k))
     (λ k. ended-all (SessionShape m k) u (m.sessions k) (session-none m k) (λ e. s.shape.sessions k))
     (λ k r. ended-all (λ x. has x.active r ≡ true → has (authorised m x.owner) r ≡ true) u (m.sessions k) (λ e. clash (has 0 r) e (has-none r)) (λ e. s.rules.active k r))
-    (λ k. ended-all (λ x. breaksSome m.dsd (countedOf m x) ≡ false) u (m.sessions k) (closed-breaks-none m s.shape) (λ e. s.rules.dynamic k)))
+    (λ k. ended-all (λ x. breaks_some m.dsd (counted_of m x) ≡ false) u (m.sessions k) (closed-breaks-none m s.shape) (λ e. s.rules.dynamic k)))
 
 -- after it the user has no open session
-pub none_open : (m : Model) (u : ℕ) → hasOpen (allEnded m u) u ≡ false
-unfolding hasOpen allEnded
-none_open m u = some-none 64 (λ k. openOf u (ended_of u (m.sessions k))) (λ k l. ended-all (λ x. openOf u x ≡ false) u (m.sessions k) refl (λ e. e))
+pub none_open : (m : Model) (u : ℕ) → has_open (all_ended m u) u ≡ false
+unfolding has_open all_ended
+none_open m u = some-none 64 (λ k. open_of u (ended_of u (m.sessions k))) (λ k l. ended-all (λ x. open_of u x ≡ false) u (m.sessions k) refl (λ e. e))
 
 module _ (m : Model) (u : ℕ) (s : Sound m) where
   -- where the user has no open session, every open one has another owner
-  other-owner : hasOpen m u ≡ false → (k : ℕ) → (m.sessions k).live ≡ true → (m.sessions k).owner ≡ u → ⊥
-  unfolding hasOpen
-  other-owner none k l = eqb-false (m.sessions k).owner u (and_no (m.sessions k).live (eqb (m.sessions k).owner u) (some-false 64 (λ j. openOf u (m.sessions j)) none k ((s.shape.sessions k).numbered l)) l)
+  other_owner : has_open m u ≡ false → (k : ℕ) → (m.sessions k).live ≡ true → (m.sessions k).owner ≡ u → ⊥
+  unfolding has_open
+  other-owner none k l = eqb-false (m.sessions k).owner u (and_no (m.sessions k).live (eqb (m.sessions k).owner u) (some-false 64 (λ j. open_of u (m.sessions j)) none k ((s.shape.sessions k).numbered l)) l)
 
   -- Without a user that has no open session, and without its assignments, a model keeps its shape,
-  without-user-shape : hasOpen m u ≡ false → Shape (withoutUser m u)
-  unfolding withoutUser
+  without_user_shape : has_open m u ≡ false → Shape (without_user m u)
+  unfolding without_user
   without-user-shape none =
       record {
         users = put_all (λ k b. b ≡ true → k < 256) m.users u false (λ e. clash false e refl) (λ k d. x.users k);
@@ -94,7 +94,7 @@ module _ (m : Model) (u : ℕ) (s : Sound m) where
       }
     where
       m' : Model
-      m' = withoutUser m u
+      m' = without_user m u
 
       x : Shape m
       x = s.shape
@@ -103,15 +103,15 @@ module _ (m : Model) (u : ℕ) (s : Sound m) where
       left k y = record { closed = y.closed; numbered = y.numbered; owned = λ l. put_other m.users u false (m.sessions k).owner (other-owner none k l) ∙ y.owned l; active = existing-in m m' (λ r h. h) y.active }
 
   -- what is kept of its assignments is less by what the user had,
-  without-user-counted : u < 256 → Counted (withoutUser m u)
-  unfolding withoutUser assignments grants linesStanding
+  without_user_counted : u < 256 → Counted (without_user m u)
+  unfolding without_user assignments grants lines_standing
   without-user-counted l = record { assigned = omega (arith, s.counted.assigned, one-emptied 256 m.assigned u l); granted = s.counted.granted; lined = s.counted.lined }
 
   -- and it stays sound.
-  without-user-sound : u < 256 → hasOpen m u ≡ false → Sound (withoutUser m u)
-  unfolding withoutUser
+  without_user_sound : u < 256 → has_open m u ≡ false → Sound (without_user m u)
+  unfolding without_user
   without-user-sound l none =
-      fewer-sound m s (withoutUser m u) (without-user-shape none) (without-user-counted l)
+      fewer-sound m s (without_user m u) (without-user-shape none) (without-user-counted l)
       (λ a j e. e)
       (put_all (λ k set. (r : ℕ) → has set r ≡ true → has (m.assigned k) r ≡ true) m.assigned u roles.none (λ r e. clash (has 0 r) e (has-none r)) (λ k d r e. e))
       (λ p r e. e)

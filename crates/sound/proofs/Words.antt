@@ -9,14 +9,14 @@ use native.Mathlib.Omega.{arith}
 use borrow.Author.Tests.{not-true, eqb-true, leb-false}
 use Rattle.roleset.specs.Roles.{has, common, count, is_empty, subset}
 use Rattle.roleset.proofs.BoundedLaws.{clash, never, not_yes, or_cases, tally-le}
-use Rattle.roleset.proofs.Laws.{member-small, has-those, those-member, subset-true, subset-intro, isEmpty-true, is_empty_false}
+use Rattle.roleset.proofs.Laws.{member-small, has-those, those-member, subset-true, subset-intro, is_empty-true, is_empty_false}
 use Rattle.hierarchy.specs.Lines.{Inherits, AtOrAbove}
 use Rattle.hierarchy.proofs.WalkLaws.{reach-sound, reach-complete, reach-small}
 use Rattle.model.specs.Model.{Model}
-use Rattle.model.specs.Words.{reached, authorised, effective, breaksSome, counted, staticBroken, dynamicBroken, shed, sessionsOpen}
-use Rattle.model.specs.Lists.{listed, setOf, someFrom}
+use Rattle.model.specs.Words.{reached, authorised, effective, breaks_some, counted, static_broken, dynamic_broken, shed, sessions_open}
+use Rattle.model.specs.Lists.{listed, set_of, some_from}
 use Rattle.model.specs.Sound.{Existing, Shape, Sound}
-use Rattle.model.specs.commands.Sets.{setsOf}
+use Rattle.model.specs.commands.Sets.{sets_of}
 use Rattle.model.specs.commands.Sessions.{permitted}
 use Rattle.model.specs.declared.Kind.{Kind}
 use Rattle.model.specs.declared.Kind.TheVariants.{Static, Dynamic}
@@ -78,29 +78,29 @@ permitted-exact m k p = (to, back)
     back : (r : ℕ) × (has (effective m k) r ≡ true) × (has (m.holders p) r ≡ true) → not (is_empty (common (effective m k) (m.holders p))) ≡ true
     back q =
         let small : q.0 < 64 = member-small (effective m k) q.0 (reach-small m.juniors (m.sessions k).active) q.1 in
-        not_yes (is_empty (common (effective m k) (m.holders p))) (never (is_empty (common (effective m k) (m.holders p))) (λ e. clash (has (common (effective m k) (m.holders p)) q.0) (common-intro (effective m k) (m.holders p) q.0 small q.1 q.2) (isEmpty-true (common (effective m k) (m.holders p)) e q.0 small)))
+        not_yes (is_empty (common (effective m k) (m.holders p))) (never (is_empty (common (effective m k) (m.holders p))) (λ e. clash (has (common (effective m k) (m.holders p)) q.0) (common-intro (effective m k) (m.holders p) q.0 small q.1 q.2) (is_empty-true (common (effective m k) (m.holders p)) e q.0 small)))
 
 -- ---- separation
 
 -- every set of the kind has fewer than its cardinality of its roles among those held
 abbrev pub Separated : Kind → Model → ℕ → Type 0
-Separated kind m i = (n : ℕ) → (setsOf kind m n).there ≡ true → count (common (setsOf kind m n).roles (held kind m i)) < (setsOf kind m n).card
+Separated kind m i = (n : ℕ) → (sets_of kind m n).there ≡ true → count (common (sets_of kind m n).roles (held kind m i)) < (sets_of kind m n).card
 
 -- The rule of a kind is not broken exactly where every set of the kind keeps the roles held separated.
-pub separated-exact : (kind : Kind) (m : Model) → Shape m → (i : ℕ) → (breaksSome (setsOf kind m) (held kind m i) ≡ false) ↔ Separated kind m i
+pub separated-exact : (kind : Kind) (m : Model) → Shape m → (i : ℕ) → (breaks_some (sets_of kind m) (held kind m i) ≡ false) ↔ Separated kind m i
 separated-exact kind m x i = (
-  (λ e n t. (unbroken-exact (setsOf kind m n) (held kind m i)).0 (each-unbroken (setsOf kind m) (held kind m i) e n ((shape_of kind m x n).named t)) t),
-  (λ h. none-breaks (setsOf kind m) (held kind m i) (λ n l. (unbroken-exact (setsOf kind m n) (held kind m i)).1 (h n))),
+  (λ e n t. (unbroken-exact (sets_of kind m n) (held kind m i)).0 (each-unbroken (sets_of kind m) (held kind m i) e n ((shape_of kind m x n).named t)) t),
+  (λ h. none-breaks (sets_of kind m) (held kind m i) (λ n l. (unbroken-exact (sets_of kind m n) (held kind m i)).1 (h n))),
 )
 
 -- "SSD set: .. Every user is authorised for fewer than n of them."
-pub static-exact : (m : Model) → Shape m → (u : ℕ) → (staticBroken m u ≡ false) ↔ ((n : ℕ) → (m.ssd n).there ≡ true → count (common (m.ssd n).roles (authorised m u)) < (m.ssd n).card)
-unfolding staticBroken
+pub static-exact : (m : Model) → Shape m → (u : ℕ) → (static_broken m u ≡ false) ↔ ((n : ℕ) → (m.ssd n).there ≡ true → count (common (m.ssd n).roles (authorised m u)) < (m.ssd n).card)
+unfolding static_broken
 static-exact m x u = separated-exact Static m x u
 
 -- "a session may have fewer than n effective roles of a dynamic set"
-pub dynamic-exact : (m : Model) → Shape m → (k : ℕ) → (dynamicBroken m k ≡ false) ↔ ((n : ℕ) → (m.dsd n).there ≡ true → count (common (m.dsd n).roles (counted m k)) < (m.dsd n).card)
-unfolding dynamicBroken
+pub dynamic-exact : (m : Model) → Shape m → (k : ℕ) → (dynamic_broken m k ≡ false) ↔ ((n : ℕ) → (m.dsd n).there ≡ true → count (common (m.dsd n).roles (counted m k)) < (m.dsd n).card)
+unfolding dynamic_broken
 dynamic-exact m x k = separated-exact Dynamic m x k
 
 -- In a sound model both hold, of every user and in every session.
@@ -121,36 +121,36 @@ shed-exact m k r live = shedded-all (λ y. (has y.active r ≡ true) ↔ ((has (
     (λ e. ((λ h. let b = common-member (m.sessions k).active held-by-owner r h in (b.1, b.2)), (λ p. common-intro (m.sessions k).active held-by-owner r (member-small held-by-owner r (reach-small m.juniors (m.assigned (m.sessions k).owner)) p.1) p.0 p.1)))
     (λ e. clash (m.sessions k).live live e)
   where
-    held-by-owner : ℕ
-    held-by-owner = authorised m (m.sessions k).owner
+    held_by_owner : ℕ
+    held_by_owner = authorised m (m.sessions k).owner
 
 -- ---- lists of roles
 
 -- a listed role is below 64 where none from 64 on is listed
-listed_small : (list : List ℕ) (r : ℕ) → someFrom 64 list ≡ false → listed list r ≡ true → r < 64
-unfolding someFrom listed
+listed_small : (list : List ℕ) (r : ℕ) → some_from 64 list ≡ false → listed list r ≡ true → r < 64
+unfolding some_from listed
 listed_small [] r h e = clash false e refl
-listed_small (a ∷ rest) r h e = go (or_cases (eqb r a) (listed rest r) e) (listed_small rest r (or_no (leb 64 a) (someFrom 64 rest) h).1)
+listed_small (a ∷ rest) r h e = go (or_cases (eqb r a) (listed rest r) e) (listed_small rest r (or_no (leb 64 a) (some_from 64 rest) h).1)
   where
     go : (eqb r a ≡ true) ⊎ (listed rest r ≡ true) → (listed rest r ≡ true → r < 64) → r < 64
-    go (inl p) ih = let l = leb-false 64 a (or_no (leb 64 a) (someFrom 64 rest) h).0 in let q = eqb-true r a p in omega arith
+    go (inl p) ih = let l = leb-false 64 a (or_no (leb 64 a) (some_from 64 rest) h).0 in let q = eqb-true r a p in omega arith
     go (inr p) ih = ih p
 
 -- The set of a list of roles has the listed roles as its members.
-pub setOf-exact : (list : List ℕ) → someFrom 64 list ≡ false → (r : ℕ) → (has (setOf list) r ≡ true) ↔ (listed list r ≡ true)
-unfolding setOf
-setOf-exact list h r = ((λ e. (those-member (listed list) r e).1), (λ e. has-those (listed list) r (listed_small list r h e) ∙ e))
+pub set_of-exact : (list : List ℕ) → some_from 64 list ≡ false → (r : ℕ) → (has (set_of list) r ≡ true) ↔ (listed list r ≡ true)
+unfolding set_of
+set_of-exact list h r = ((λ e. (those-member (listed list) r e).1), (λ e. has-those (listed list) r (listed_small list r h e) ∙ e))
 
 -- It is within a set exactly where every listed role is in it: so is asked whether listed roles exist, and whether the owner is authorised for them.
-pub listed-within : (list : List ℕ) → someFrom 64 list ≡ false → (set : ℕ) → (subset (setOf list) set ≡ true) ↔ ((r : ℕ) → listed list r ≡ true → has set r ≡ true)
+pub listed-within : (list : List ℕ) → some_from 64 list ≡ false → (set : ℕ) → (subset (set_of list) set ≡ true) ↔ ((r : ℕ) → listed list r ≡ true → has set r ≡ true)
 listed-within list h set = (
-  (λ e r l. subset-true (setOf list) set e r (listed_small list r h l) ((setOf-exact list h r).1 l)),
-  (λ f. subset-intro (setOf list) set (λ r lr e. f r ((setOf-exact list h r).0 e))),
+  (λ e r l. subset-true (set_of list) set e r (listed_small list r h l) ((set_of-exact list h r).1 l)),
+  (λ f. subset-intro (set_of list) set (λ r lr e. f r ((set_of-exact list h r).0 e))),
 )
 
 -- ---- limits
 
 -- "At most .. 64 open sessions stand at once."
-pub sessions-limit : (m : Model) → sessionsOpen m ≤ 64
-unfolding sessionsOpen
+pub sessions-limit : (m : Model) → sessions_open m ≤ 64
+unfolding sessions_open
 sessions-limit m = tally-le 64 (λ k. (m.sessions k).live)

@@ -1,1 +1,2 @@
 // What keeps a policy sound: laws in proofs/, and no code.
+#![tactic(auto)]

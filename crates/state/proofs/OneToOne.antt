@@ -13,7 +13,7 @@ use Rattle.roleset.specs.Roles.{has}
 use Rattle.roleset.proofs.BoundedLaws.{clash}
 use Rattle.roleset.proofs.Laws.{ext}
 use Rattle.model.specs.Model.{Model, RoleSet, Session}
-use Rattle.state.specs.Places.{holdersAt, assignedAt, juniorsAt, ssdCardsAt, ssdRolesAt, dsdCardsAt, dsdRolesAt, ownersAt, activeAt, usersAt, rolesAt, assignmentCountAt, grantCountAt, lineCountAt, places}
+use Rattle.state.specs.Places.{holders_at, assigned_at, juniors_at, ssd_cards_at, ssd_roles_at, dsd_cards_at, dsd_roles_at, owners_at, active_at, users_at, roles_at, assignment_count_at, grant_count_at, line_count_at, places}
 use Rattle.state.specs.View.{Numbers, part, bits, view}
 use Rattle.state.proofs.Slots.{part_at, part_none}
 
@@ -51,67 +51,67 @@ module _ (l r : List ℕ) (p : Numbers l) (q : Numbers r) (e : view l ≡ view r
   one : (o i : ℕ) → i ≡ o → part l o 1 0 ≡ part r o 1 0 → get_or l i 0 ≡ get_or r i 0
   one o i here f = let start : i - o ≡ 0 = omega arith in piece l r o 1 i (omega arith) (omega arith) (rw start f)
 
-  in-counts : (i : ℕ) → 4613 ≤ i → i < 4616 → Dec (i < 4614) → Dec (i < 4615) → get_or l i 0 ≡ get_or r i 0
+  in_counts : (i : ℕ) → 4613 ≤ i → i < 4616 → Dec (i < 4614) → Dec (i < 4615) → get_or l i 0 ≡ get_or r i 0
   unfolding view
-  in-counts i from h (yes a) b = one assignmentCountAt i (omega arith) (ap (λ (m : Model). m.assignmentCount) e)
-  in-counts i from h (no a) (yes b) = one grantCountAt i (omega arith) (ap (λ (m : Model). m.grantCount) e)
-  in-counts i from h (no a) (no b) = one lineCountAt i (omega arith) (ap (λ (m : Model). m.lineCount) e)
+  in-counts i from h (yes a) b = one assignment_count_at i (omega arith) (ap (λ (m : Model). m.assignment_count) e)
+  in-counts i from h (no a) (yes b) = one grant_count_at i (omega arith) (ap (λ (m : Model). m.grant_count) e)
+  in-counts i from h (no a) (no b) = one line_count_at i (omega arith) (ap (λ (m : Model). m.line_count) e)
 
-  in-roles : (i : ℕ) → 4612 ≤ i → i < 4616 → Dec (i < 4613) → get_or l i 0 ≡ get_or r i 0
+  in_roles : (i : ℕ) → 4612 ≤ i → i < 4616 → Dec (i < 4613) → get_or l i 0 ≡ get_or r i 0
   unfolding view
-  in-roles i from h (yes a) = one rolesAt i (omega arith) (ap (λ (m : Model). m.roles) e)
+  in-roles i from h (yes a) = one roles_at i (omega arith) (ap (λ (m : Model). m.roles) e)
   in-roles i from h (no z) = in-counts i (omega arith) h (dec_lt i 4614) (dec_lt i 4615)
 
-  in-users : (i : ℕ) → 4608 ≤ i → i < 4616 → Dec (i < 4612) → get_or l i 0 ≡ get_or r i 0
+  in_users : (i : ℕ) → 4608 ≤ i → i < 4616 → Dec (i < 4612) → get_or l i 0 ≡ get_or r i 0
   unfolding view
-  in-users i from h (yes a) = piece l r usersAt 4 i (omega arith) (omega arith) (words-one (part l usersAt 4) (part r usersAt 4) (part_small l p usersAt 4) (part_small r q usersAt 4) (ap (λ (m : Model). m.users) e) (i - usersAt))
+  in-users i from h (yes a) = piece l r users_at 4 i (omega arith) (omega arith) (words-one (part l users_at 4) (part r users_at 4) (part_small l p users_at 4) (part_small r q users_at 4) (ap (λ (m : Model). m.users) e) (i - users_at))
   in-users i from h (no z) = in-roles i (omega arith) h (dec_lt i 4613)
 
-  in-active : (i : ℕ) → 4544 ≤ i → i < 4616 → Dec (i < 4608) → get_or l i 0 ≡ get_or r i 0
+  in_active : (i : ℕ) → 4544 ≤ i → i < 4616 → Dec (i < 4608) → get_or l i 0 ≡ get_or r i 0
   unfolding view
-  in-active i from h (yes a) = piece l r activeAt 64 i (omega arith) (omega arith) (ap (λ (m : Model). (m.sessions (i - activeAt)).active) e)
+  in-active i from h (yes a) = piece l r active_at 64 i (omega arith) (omega arith) (ap (λ (m : Model). (m.sessions (i - active_at)).active) e)
   in-active i from h (no z) = in-users i (omega arith) h (dec_lt i 4612)
 
   in_owners : (i : ℕ) → 4480 ≤ i → i < 4616 → Dec (i < 4544) → get_or l i 0 ≡ get_or r i 0
   unfolding view
-  in_owners i from h (yes a) = piece l r ownersAt 64 i (omega arith) (omega arith) (one_more (part l ownersAt 64 (i - ownersAt)) (part r ownersAt 64 (i - ownersAt)) (ap (λ (m : Model). (m.sessions (i - ownersAt)).live) e) (ap (λ (m : Model). (m.sessions (i - ownersAt)).owner) e))
+  in_owners i from h (yes a) = piece l r owners_at 64 i (omega arith) (omega arith) (one_more (part l owners_at 64 (i - owners_at)) (part r owners_at 64 (i - owners_at)) (ap (λ (m : Model). (m.sessions (i - owners_at)).live) e) (ap (λ (m : Model). (m.sessions (i - owners_at)).owner) e))
   in_owners i from h (no z) = in-active i (omega arith) h (dec_lt i 4608)
 
-  in-dsdroles : (i : ℕ) → 4464 ≤ i → i < 4616 → Dec (i < 4480) → get_or l i 0 ≡ get_or r i 0
+  in_dsdroles : (i : ℕ) → 4464 ≤ i → i < 4616 → Dec (i < 4480) → get_or l i 0 ≡ get_or r i 0
   unfolding view
-  in-dsdroles i from h (yes a) = piece l r dsdRolesAt 16 i (omega arith) (omega arith) (ap (λ (m : Model). (m.dsd (i - dsdRolesAt)).roles) e)
+  in-dsdroles i from h (yes a) = piece l r dsd_roles_at 16 i (omega arith) (omega arith) (ap (λ (m : Model). (m.dsd (i - dsd_roles_at)).roles) e)
   in-dsdroles i from h (no z) = in_owners i (omega arith) h (dec_lt i 4544)
 
-  in-dsdcards : (i : ℕ) → 4448 ≤ i → i < 4616 → Dec (i < 4464) → get_or l i 0 ≡ get_or r i 0
+  in_dsdcards : (i : ℕ) → 4448 ≤ i → i < 4616 → Dec (i < 4464) → get_or l i 0 ≡ get_or r i 0
   unfolding view
-  in-dsdcards i from h (yes a) = piece l r dsdCardsAt 16 i (omega arith) (omega arith) (one_more (part l dsdCardsAt 16 (i - dsdCardsAt)) (part r dsdCardsAt 16 (i - dsdCardsAt)) (ap (λ (m : Model). (m.dsd (i - dsdCardsAt)).there) e) (ap (λ (m : Model). (m.dsd (i - dsdCardsAt)).card) e))
+  in-dsdcards i from h (yes a) = piece l r dsd_cards_at 16 i (omega arith) (omega arith) (one_more (part l dsd_cards_at 16 (i - dsd_cards_at)) (part r dsd_cards_at 16 (i - dsd_cards_at)) (ap (λ (m : Model). (m.dsd (i - dsd_cards_at)).there) e) (ap (λ (m : Model). (m.dsd (i - dsd_cards_at)).card) e))
   in-dsdcards i from h (no z) = in-dsdroles i (omega arith) h (dec_lt i 4480)
 
-  in-ssdroles : (i : ℕ) → 4432 ≤ i → i < 4616 → Dec (i < 4448) → get_or l i 0 ≡ get_or r i 0
+  in_ssdroles : (i : ℕ) → 4432 ≤ i → i < 4616 → Dec (i < 4448) → get_or l i 0 ≡ get_or r i 0
   unfolding view
-  in-ssdroles i from h (yes a) = piece l r ssdRolesAt 16 i (omega arith) (omega arith) (ap (λ (m : Model). (m.ssd (i - ssdRolesAt)).roles) e)
+  in-ssdroles i from h (yes a) = piece l r ssd_roles_at 16 i (omega arith) (omega arith) (ap (λ (m : Model). (m.ssd (i - ssd_roles_at)).roles) e)
   in-ssdroles i from h (no z) = in-dsdcards i (omega arith) h (dec_lt i 4464)
 
-  in-ssdcards : (i : ℕ) → 4416 ≤ i → i < 4616 → Dec (i < 4432) → get_or l i 0 ≡ get_or r i 0
+  in_ssdcards : (i : ℕ) → 4416 ≤ i → i < 4616 → Dec (i < 4432) → get_or l i 0 ≡ get_or r i 0
   unfolding view
-  in-ssdcards i from h (yes a) = piece l r ssdCardsAt 16 i (omega arith) (omega arith) (one_more (part l ssdCardsAt 16 (i - ssdCardsAt)) (part r ssdCardsAt 16 (i - ssdCardsAt)) (ap (λ (m : Model). (m.ssd (i - ssdCardsAt)).there) e) (ap (λ (m : Model). (m.ssd (i - ssdCardsAt)).card) e))
+  in-ssdcards i from h (yes a) = piece l r ssd_cards_at 16 i (omega arith) (omega arith) (one_more (part l ssd_cards_at 16 (i - ssd_cards_at)) (part r ssd_cards_at 16 (i - ssd_cards_at)) (ap (λ (m : Model). (m.ssd (i - ssd_cards_at)).there) e) (ap (λ (m : Model). (m.ssd (i - ssd_cards_at)).card) e))
   in-ssdcards i from h (no z) = in-ssdroles i (omega arith) h (dec_lt i 4448)
 
-  in-juniors : (i : ℕ) → 4352 ≤ i → i < 4616 → Dec (i < 4416) → get_or l i 0 ≡ get_or r i 0
+  in_juniors : (i : ℕ) → 4352 ≤ i → i < 4616 → Dec (i < 4416) → get_or l i 0 ≡ get_or r i 0
   unfolding view
-  in-juniors i from h (yes a) = piece l r juniorsAt 64 i (omega arith) (omega arith) (ap (λ (m : Model). m.juniors (i - juniorsAt)) e)
+  in-juniors i from h (yes a) = piece l r juniors_at 64 i (omega arith) (omega arith) (ap (λ (m : Model). m.juniors (i - juniors_at)) e)
   in-juniors i from h (no z) = in-ssdcards i (omega arith) h (dec_lt i 4432)
 
-  in-assigned : (i : ℕ) → 4096 ≤ i → i < 4616 → Dec (i < 4352) → get_or l i 0 ≡ get_or r i 0
+  in_assigned : (i : ℕ) → 4096 ≤ i → i < 4616 → Dec (i < 4352) → get_or l i 0 ≡ get_or r i 0
   unfolding view
-  in-assigned i from h (yes a) = piece l r assignedAt 256 i (omega arith) (omega arith) (ap (λ (m : Model). m.assigned (i - assignedAt)) e)
+  in-assigned i from h (yes a) = piece l r assigned_at 256 i (omega arith) (omega arith) (ap (λ (m : Model). m.assigned (i - assigned_at)) e)
   in-assigned i from h (no z) = in-juniors i (omega arith) h (dec_lt i 4416)
 
-  in-holders : (i : ℕ) → i < 4616 → Dec (i < 4096) → get_or l i 0 ≡ get_or r i 0
+  in_holders : (i : ℕ) → i < 4616 → Dec (i < 4096) → get_or l i 0 ≡ get_or r i 0
   unfolding view
-  in-holders i h (yes a) = piece l r holdersAt 4096 i (omega arith) (omega arith) (ap (λ (m : Model). m.holders (i - holdersAt)) e)
+  in-holders i h (yes a) = piece l r holders_at 4096 i (omega arith) (omega arith) (ap (λ (m : Model). m.holders (i - holders_at)) e)
   in-holders i h (no z) = in-assigned i (omega arith) h (dec_lt i 4352)
 
   -- two states that mean the same are one
-  pub view-one-to-one : l ≡ r
-  view-one-to-one = ext_get_or 0 l r (p.long ∙ sym q.long) (λ i h. in-holders i (rw p.long at h) (dec_lt i 4096))
+  pub view_one_to_one : l ≡ r
+  view_one_to_one = ext_get_or 0 l r (p.long ∙ sym q.long) (λ i h. in-holders i (rw p.long at h) (dec_lt i 4096))

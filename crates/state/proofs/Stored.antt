@@ -10,15 +10,15 @@ use lib.ListN.{get_or, length, set}
 use Rattle.roleset.specs.Roles.{has}
 use Rattle.roleset.proofs.BoundedLaws.{or-clear}
 use Rattle.roleset.proofs.Laws.{has-none, has-with, has-without}
-use Rattle.model.specs.Model.{Model, empty, RoleSet, Session, put, withUsers, withRoles, withLines, withAssignments, withGrants, withSsd, withDsd, withSessions}
+use Rattle.model.specs.Model.{Model, empty, RoleSet, Session, put, with_users, with_roles, with_lines, with_assignments, with_grants, with_ssd, with_dsd, with_sessions}
 use Rattle.model.proofs.Puts.{put_same, put_other}
-use Rattle.model.specs.commands.Sessions.{openFor}
-use Rattle.model.specs.commands.Sets.{setsOf, withSets, aSet}
+use Rattle.model.specs.commands.Sessions.{open_for}
+use Rattle.model.specs.commands.Sets.{sets_of, with_sets, a_set}
 use Rattle.model.specs.declared.Kind.{Kind}
 use Rattle.model.specs.declared.Kind.TheVariants.{Static, Dynamic}
-use Rattle.state.specs.Places.{holdersAt, assignedAt, juniorsAt, ssdCardsAt, ssdRolesAt, dsdCardsAt, dsdRolesAt, setsAt, ownersAt, activeAt, usersAt, rolesAt, assignmentCountAt, grantCountAt, lineCountAt, places}
-use Rattle.state.specs.Stores.{in_range, pickMember, setStored}
-use Rattle.state.specs.View.{part, bits, paired, setOf, sessionOf, view}
+use Rattle.state.specs.Places.{holders_at, assigned_at, juniors_at, ssd_cards_at, ssd_roles_at, dsd_cards_at, dsd_roles_at, sets_at, owners_at, active_at, users_at, roles_at, assignment_count_at, grant_count_at, line_count_at, places}
+use Rattle.state.specs.Stores.{in_range, pick_member, set_stored}
+use Rattle.state.specs.View.{part, bits, paired, set_of, session_of, view}
 use Rattle.state.proofs.Slots.{Within, same, wider, then, set-within, part_at, part-store, apart_below, apart_above, part_same, part-zero}
 
 -- ---- a place within its range, and one beyond it
@@ -46,49 +46,49 @@ placed-as n k before after stored roles new standing count is counted h e = plac
 -- ---- the view of a state that differs within one part
 
 module _ (l after : List ℕ) where
-  pub users-changed : Within usersAt 4 l after → (x : ℕ → Bool) → bits (part after usersAt 4) ≡ x → view after ≡ withUsers (view l) x
+  pub users_changed : Within users_at 4 l after → (x : ℕ → Bool) → bits (part after users_at 4) ≡ x → view after ≡ with_users (view l) x
   unfolding view
-  users-changed w x e j = record { users = e j; roles = same w rolesAt 1 refl j 0; juniors = same w juniorsAt 64 refl j; assigned = same w assignedAt 256 refl j; holders = same w holdersAt 4096 refl j; ssd = paired setOf (same w ssdCardsAt 16 refl j) (same w ssdRolesAt 16 refl j); dsd = paired setOf (same w dsdCardsAt 16 refl j) (same w dsdRolesAt 16 refl j); sessions = paired sessionOf (same w ownersAt 64 refl j) (same w activeAt 64 refl j); assignmentCount = same w assignmentCountAt 1 refl j 0; grantCount = same w grantCountAt 1 refl j 0; lineCount = same w lineCountAt 1 refl j 0 }
+  users-changed w x e j = record { users = e j; roles = same w roles_at 1 refl j 0; juniors = same w juniors_at 64 refl j; assigned = same w assigned_at 256 refl j; holders = same w holders_at 4096 refl j; ssd = paired set_of (same w ssd_cards_at 16 refl j) (same w ssd_roles_at 16 refl j); dsd = paired set_of (same w dsd_cards_at 16 refl j) (same w dsd_roles_at 16 refl j); sessions = paired session_of (same w owners_at 64 refl j) (same w active_at 64 refl j); assignment_count = same w assignment_count_at 1 refl j 0; grant_count = same w grant_count_at 1 refl j 0; line_count = same w line_count_at 1 refl j 0 }
 
-  pub roles-changed : Within rolesAt 1 l after → (x : ℕ) → part after rolesAt 1 0 ≡ x → view after ≡ withRoles (view l) x
+  pub roles_changed : Within roles_at 1 l after → (x : ℕ) → part after roles_at 1 0 ≡ x → view after ≡ with_roles (view l) x
   unfolding view
-  roles-changed w x e j = record { users = bits (same w usersAt 4 refl j); roles = e j; juniors = same w juniorsAt 64 refl j; assigned = same w assignedAt 256 refl j; holders = same w holdersAt 4096 refl j; ssd = paired setOf (same w ssdCardsAt 16 refl j) (same w ssdRolesAt 16 refl j); dsd = paired setOf (same w dsdCardsAt 16 refl j) (same w dsdRolesAt 16 refl j); sessions = paired sessionOf (same w ownersAt 64 refl j) (same w activeAt 64 refl j); assignmentCount = same w assignmentCountAt 1 refl j 0; grantCount = same w grantCountAt 1 refl j 0; lineCount = same w lineCountAt 1 refl j 0 }
+  roles-changed w x e j = record { users = bits (same w users_at 4 refl j); roles = e j; juniors = same w juniors_at 64 refl j; assigned = same w assigned_at 256 refl j; holders = same w holders_at 4096 refl j; ssd = paired set_of (same w ssd_cards_at 16 refl j) (same w ssd_roles_at 16 refl j); dsd = paired set_of (same w dsd_cards_at 16 refl j) (same w dsd_roles_at 16 refl j); sessions = paired session_of (same w owners_at 64 refl j) (same w active_at 64 refl j); assignment_count = same w assignment_count_at 1 refl j 0; grant_count = same w grant_count_at 1 refl j 0; line_count = same w line_count_at 1 refl j 0 }
 
-  pub juniors-changed : Within juniorsAt 64 l after → (x : ℕ → ℕ) → part after juniorsAt 64 ≡ x → view after ≡ withLines (view l) x (view l).lineCount
+  pub juniors_changed : Within juniors_at 64 l after → (x : ℕ → ℕ) → part after juniors_at 64 ≡ x → view after ≡ with_lines (view l) x (view l).line_count
   unfolding view
-  juniors-changed w x e j = record { users = bits (same w usersAt 4 refl j); roles = same w rolesAt 1 refl j 0; juniors = e j; assigned = same w assignedAt 256 refl j; holders = same w holdersAt 4096 refl j; ssd = paired setOf (same w ssdCardsAt 16 refl j) (same w ssdRolesAt 16 refl j); dsd = paired setOf (same w dsdCardsAt 16 refl j) (same w dsdRolesAt 16 refl j); sessions = paired sessionOf (same w ownersAt 64 refl j) (same w activeAt 64 refl j); assignmentCount = same w assignmentCountAt 1 refl j 0; grantCount = same w grantCountAt 1 refl j 0; lineCount = same w lineCountAt 1 refl j 0 }
+  juniors-changed w x e j = record { users = bits (same w users_at 4 refl j); roles = same w roles_at 1 refl j 0; juniors = e j; assigned = same w assigned_at 256 refl j; holders = same w holders_at 4096 refl j; ssd = paired set_of (same w ssd_cards_at 16 refl j) (same w ssd_roles_at 16 refl j); dsd = paired set_of (same w dsd_cards_at 16 refl j) (same w dsd_roles_at 16 refl j); sessions = paired session_of (same w owners_at 64 refl j) (same w active_at 64 refl j); assignment_count = same w assignment_count_at 1 refl j 0; grant_count = same w grant_count_at 1 refl j 0; line_count = same w line_count_at 1 refl j 0 }
 
-  pub lines-counted : Within lineCountAt 1 l after → (x : ℕ) → part after lineCountAt 1 0 ≡ x → view after ≡ withLines (view l) (view l).juniors x
+  pub lines_counted : Within line_count_at 1 l after → (x : ℕ) → part after line_count_at 1 0 ≡ x → view after ≡ with_lines (view l) (view l).juniors x
   unfolding view
-  lines-counted w x e j = record { users = bits (same w usersAt 4 refl j); roles = same w rolesAt 1 refl j 0; juniors = same w juniorsAt 64 refl j; assigned = same w assignedAt 256 refl j; holders = same w holdersAt 4096 refl j; ssd = paired setOf (same w ssdCardsAt 16 refl j) (same w ssdRolesAt 16 refl j); dsd = paired setOf (same w dsdCardsAt 16 refl j) (same w dsdRolesAt 16 refl j); sessions = paired sessionOf (same w ownersAt 64 refl j) (same w activeAt 64 refl j); assignmentCount = same w assignmentCountAt 1 refl j 0; grantCount = same w grantCountAt 1 refl j 0; lineCount = e j }
+  lines-counted w x e j = record { users = bits (same w users_at 4 refl j); roles = same w roles_at 1 refl j 0; juniors = same w juniors_at 64 refl j; assigned = same w assigned_at 256 refl j; holders = same w holders_at 4096 refl j; ssd = paired set_of (same w ssd_cards_at 16 refl j) (same w ssd_roles_at 16 refl j); dsd = paired set_of (same w dsd_cards_at 16 refl j) (same w dsd_roles_at 16 refl j); sessions = paired session_of (same w owners_at 64 refl j) (same w active_at 64 refl j); assignment_count = same w assignment_count_at 1 refl j 0; grant_count = same w grant_count_at 1 refl j 0; line_count = e j }
 
-  pub assigned-changed : Within assignedAt 256 l after → (x : ℕ → ℕ) → part after assignedAt 256 ≡ x → view after ≡ withAssignments (view l) x (view l).assignmentCount
+  pub assigned_changed : Within assigned_at 256 l after → (x : ℕ → ℕ) → part after assigned_at 256 ≡ x → view after ≡ with_assignments (view l) x (view l).assignment_count
   unfolding view
-  assigned-changed w x e j = record { users = bits (same w usersAt 4 refl j); roles = same w rolesAt 1 refl j 0; juniors = same w juniorsAt 64 refl j; assigned = e j; holders = same w holdersAt 4096 refl j; ssd = paired setOf (same w ssdCardsAt 16 refl j) (same w ssdRolesAt 16 refl j); dsd = paired setOf (same w dsdCardsAt 16 refl j) (same w dsdRolesAt 16 refl j); sessions = paired sessionOf (same w ownersAt 64 refl j) (same w activeAt 64 refl j); assignmentCount = same w assignmentCountAt 1 refl j 0; grantCount = same w grantCountAt 1 refl j 0; lineCount = same w lineCountAt 1 refl j 0 }
+  assigned-changed w x e j = record { users = bits (same w users_at 4 refl j); roles = same w roles_at 1 refl j 0; juniors = same w juniors_at 64 refl j; assigned = e j; holders = same w holders_at 4096 refl j; ssd = paired set_of (same w ssd_cards_at 16 refl j) (same w ssd_roles_at 16 refl j); dsd = paired set_of (same w dsd_cards_at 16 refl j) (same w dsd_roles_at 16 refl j); sessions = paired session_of (same w owners_at 64 refl j) (same w active_at 64 refl j); assignment_count = same w assignment_count_at 1 refl j 0; grant_count = same w grant_count_at 1 refl j 0; line_count = same w line_count_at 1 refl j 0 }
 
-  pub assignments-counted : Within assignmentCountAt 1 l after → (x : ℕ) → part after assignmentCountAt 1 0 ≡ x → view after ≡ withAssignments (view l) (view l).assigned x
+  pub assignments_counted : Within assignment_count_at 1 l after → (x : ℕ) → part after assignment_count_at 1 0 ≡ x → view after ≡ with_assignments (view l) (view l).assigned x
   unfolding view
-  assignments-counted w x e j = record { users = bits (same w usersAt 4 refl j); roles = same w rolesAt 1 refl j 0; juniors = same w juniorsAt 64 refl j; assigned = same w assignedAt 256 refl j; holders = same w holdersAt 4096 refl j; ssd = paired setOf (same w ssdCardsAt 16 refl j) (same w ssdRolesAt 16 refl j); dsd = paired setOf (same w dsdCardsAt 16 refl j) (same w dsdRolesAt 16 refl j); sessions = paired sessionOf (same w ownersAt 64 refl j) (same w activeAt 64 refl j); assignmentCount = e j; grantCount = same w grantCountAt 1 refl j 0; lineCount = same w lineCountAt 1 refl j 0 }
+  assignments-counted w x e j = record { users = bits (same w users_at 4 refl j); roles = same w roles_at 1 refl j 0; juniors = same w juniors_at 64 refl j; assigned = same w assigned_at 256 refl j; holders = same w holders_at 4096 refl j; ssd = paired set_of (same w ssd_cards_at 16 refl j) (same w ssd_roles_at 16 refl j); dsd = paired set_of (same w dsd_cards_at 16 refl j) (same w dsd_roles_at 16 refl j); sessions = paired session_of (same w owners_at 64 refl j) (same w active_at 64 refl j); assignment_count = e j; grant_count = same w grant_count_at 1 refl j 0; line_count = same w line_count_at 1 refl j 0 }
 
-  pub holders-changed : Within holdersAt 4096 l after → (x : ℕ → ℕ) → part after holdersAt 4096 ≡ x → view after ≡ withGrants (view l) x (view l).grantCount
+  pub holders_changed : Within holders_at 4096 l after → (x : ℕ → ℕ) → part after holders_at 4096 ≡ x → view after ≡ with_grants (view l) x (view l).grant_count
   unfolding view
-  holders-changed w x e j = record { users = bits (same w usersAt 4 refl j); roles = same w rolesAt 1 refl j 0; juniors = same w juniorsAt 64 refl j; assigned = same w assignedAt 256 refl j; holders = e j; ssd = paired setOf (same w ssdCardsAt 16 refl j) (same w ssdRolesAt 16 refl j); dsd = paired setOf (same w dsdCardsAt 16 refl j) (same w dsdRolesAt 16 refl j); sessions = paired sessionOf (same w ownersAt 64 refl j) (same w activeAt 64 refl j); assignmentCount = same w assignmentCountAt 1 refl j 0; grantCount = same w grantCountAt 1 refl j 0; lineCount = same w lineCountAt 1 refl j 0 }
+  holders-changed w x e j = record { users = bits (same w users_at 4 refl j); roles = same w roles_at 1 refl j 0; juniors = same w juniors_at 64 refl j; assigned = same w assigned_at 256 refl j; holders = e j; ssd = paired set_of (same w ssd_cards_at 16 refl j) (same w ssd_roles_at 16 refl j); dsd = paired set_of (same w dsd_cards_at 16 refl j) (same w dsd_roles_at 16 refl j); sessions = paired session_of (same w owners_at 64 refl j) (same w active_at 64 refl j); assignment_count = same w assignment_count_at 1 refl j 0; grant_count = same w grant_count_at 1 refl j 0; line_count = same w line_count_at 1 refl j 0 }
 
-  pub grants-counted : Within grantCountAt 1 l after → (x : ℕ) → part after grantCountAt 1 0 ≡ x → view after ≡ withGrants (view l) (view l).holders x
+  pub grants_counted : Within grant_count_at 1 l after → (x : ℕ) → part after grant_count_at 1 0 ≡ x → view after ≡ with_grants (view l) (view l).holders x
   unfolding view
-  grants-counted w x e j = record { users = bits (same w usersAt 4 refl j); roles = same w rolesAt 1 refl j 0; juniors = same w juniorsAt 64 refl j; assigned = same w assignedAt 256 refl j; holders = same w holdersAt 4096 refl j; ssd = paired setOf (same w ssdCardsAt 16 refl j) (same w ssdRolesAt 16 refl j); dsd = paired setOf (same w dsdCardsAt 16 refl j) (same w dsdRolesAt 16 refl j); sessions = paired sessionOf (same w ownersAt 64 refl j) (same w activeAt 64 refl j); assignmentCount = same w assignmentCountAt 1 refl j 0; grantCount = e j; lineCount = same w lineCountAt 1 refl j 0 }
+  grants-counted w x e j = record { users = bits (same w users_at 4 refl j); roles = same w roles_at 1 refl j 0; juniors = same w juniors_at 64 refl j; assigned = same w assigned_at 256 refl j; holders = same w holders_at 4096 refl j; ssd = paired set_of (same w ssd_cards_at 16 refl j) (same w ssd_roles_at 16 refl j); dsd = paired set_of (same w dsd_cards_at 16 refl j) (same w dsd_roles_at 16 refl j); sessions = paired session_of (same w owners_at 64 refl j) (same w active_at 64 refl j); assignment_count = same w assignment_count_at 1 refl j 0; grant_count = e j; line_count = same w line_count_at 1 refl j 0 }
 
-  pub static-changed : Within ssdCardsAt 32 l after → (x : ℕ → RoleSet) → paired setOf (part after ssdCardsAt 16) (part after ssdRolesAt 16) ≡ x → view after ≡ withSsd (view l) x
+  pub static_changed : Within ssd_cards_at 32 l after → (x : ℕ → RoleSet) → paired set_of (part after ssd_cards_at 16) (part after ssd_roles_at 16) ≡ x → view after ≡ with_ssd (view l) x
   unfolding view
-  static-changed w x e j = record { users = bits (same w usersAt 4 refl j); roles = same w rolesAt 1 refl j 0; juniors = same w juniorsAt 64 refl j; assigned = same w assignedAt 256 refl j; holders = same w holdersAt 4096 refl j; ssd = e j; dsd = paired setOf (same w dsdCardsAt 16 refl j) (same w dsdRolesAt 16 refl j); sessions = paired sessionOf (same w ownersAt 64 refl j) (same w activeAt 64 refl j); assignmentCount = same w assignmentCountAt 1 refl j 0; grantCount = same w grantCountAt 1 refl j 0; lineCount = same w lineCountAt 1 refl j 0 }
+  static-changed w x e j = record { users = bits (same w users_at 4 refl j); roles = same w roles_at 1 refl j 0; juniors = same w juniors_at 64 refl j; assigned = same w assigned_at 256 refl j; holders = same w holders_at 4096 refl j; ssd = e j; dsd = paired set_of (same w dsd_cards_at 16 refl j) (same w dsd_roles_at 16 refl j); sessions = paired session_of (same w owners_at 64 refl j) (same w active_at 64 refl j); assignment_count = same w assignment_count_at 1 refl j 0; grant_count = same w grant_count_at 1 refl j 0; line_count = same w line_count_at 1 refl j 0 }
 
-  pub dynamic-changed : Within dsdCardsAt 32 l after → (x : ℕ → RoleSet) → paired setOf (part after dsdCardsAt 16) (part after dsdRolesAt 16) ≡ x → view after ≡ withDsd (view l) x
+  pub dynamic_changed : Within dsd_cards_at 32 l after → (x : ℕ → RoleSet) → paired set_of (part after dsd_cards_at 16) (part after dsd_roles_at 16) ≡ x → view after ≡ with_dsd (view l) x
   unfolding view
-  dynamic-changed w x e j = record { users = bits (same w usersAt 4 refl j); roles = same w rolesAt 1 refl j 0; juniors = same w juniorsAt 64 refl j; assigned = same w assignedAt 256 refl j; holders = same w holdersAt 4096 refl j; ssd = paired setOf (same w ssdCardsAt 16 refl j) (same w ssdRolesAt 16 refl j); dsd = e j; sessions = paired sessionOf (same w ownersAt 64 refl j) (same w activeAt 64 refl j); assignmentCount = same w assignmentCountAt 1 refl j 0; grantCount = same w grantCountAt 1 refl j 0; lineCount = same w lineCountAt 1 refl j 0 }
+  dynamic-changed w x e j = record { users = bits (same w users_at 4 refl j); roles = same w roles_at 1 refl j 0; juniors = same w juniors_at 64 refl j; assigned = same w assigned_at 256 refl j; holders = same w holders_at 4096 refl j; ssd = paired set_of (same w ssd_cards_at 16 refl j) (same w ssd_roles_at 16 refl j); dsd = e j; sessions = paired session_of (same w owners_at 64 refl j) (same w active_at 64 refl j); assignment_count = same w assignment_count_at 1 refl j 0; grant_count = same w grant_count_at 1 refl j 0; line_count = same w line_count_at 1 refl j 0 }
 
-  pub sessions-changed : Within ownersAt 128 l after → (x : ℕ → Session) → paired sessionOf (part after ownersAt 64) (part after activeAt 64) ≡ x → view after ≡ withSessions (view l) x
+  pub sessions_changed : Within owners_at 128 l after → (x : ℕ → Session) → paired session_of (part after owners_at 64) (part after active_at 64) ≡ x → view after ≡ with_sessions (view l) x
   unfolding view
-  sessions-changed w x e j = record { users = bits (same w usersAt 4 refl j); roles = same w rolesAt 1 refl j 0; juniors = same w juniorsAt 64 refl j; assigned = same w assignedAt 256 refl j; holders = same w holdersAt 4096 refl j; ssd = paired setOf (same w ssdCardsAt 16 refl j) (same w ssdRolesAt 16 refl j); dsd = paired setOf (same w dsdCardsAt 16 refl j) (same w dsdRolesAt 16 refl j); sessions = e j; assignmentCount = same w assignmentCountAt 1 refl j 0; grantCount = same w grantCountAt 1 refl j 0; lineCount = same w lineCountAt 1 refl j 0 }
+  sessions-changed w x e j = record { users = bits (same w users_at 4 refl j); roles = same w roles_at 1 refl j 0; juniors = same w juniors_at 64 refl j; assigned = same w assigned_at 256 refl j; holders = same w holders_at 4096 refl j; ssd = paired set_of (same w ssd_cards_at 16 refl j) (same w ssd_roles_at 16 refl j); dsd = paired set_of (same w dsd_cards_at 16 refl j) (same w dsd_roles_at 16 refl j); sessions = e j; assignment_count = same w assignment_count_at 1 refl j 0; grant_count = same w grant_count_at 1 refl j 0; line_count = same w line_count_at 1 refl j 0 }
 
 -- ---- two tables side by side, of sets or of sessions
 
@@ -112,7 +112,7 @@ second-put {A} make a b s y k = go (eqb k s) refl
 
 -- the tables of n numbers each stand at o and at o + n
 module _ {A : Type 0} (make : ℕ → ℕ → A) (o n : ℕ) (l : List ℕ) (s : ℕ) (h : s < n) (fits : o + n + n ≤ length l) where
-  pub common-stored : (x y : ℕ) → Within o (n + n) l (set (set l (o + s) x) (o + n + s) y) × ◌≡◌ {A = ℕ → A} (paired make (part (set (set l (o + s) x) (o + n + s) y) o n) (part (set (set l (o + s) x) (o + n + s) y) (o + n) n)) (put (paired make (part l o n) (part l (o + n) n)) s (make x y))
+  pub common_stored : (x y : ℕ) → Within o (n + n) l (set (set l (o + s) x) (o + n + s) y) × ◌≡◌ {A = ℕ → A} (paired make (part (set (set l (o + s) x) (o + n + s) y) o n) (part (set (set l (o + s) x) (o + n + s) y) (o + n) n)) (put (paired make (part l o n) (part l (o + n) n)) s (make x y))
   common-stored x y = (then (wider first o (n + n) (omega arith) (omega arith)) (wider second o (n + n) (omega arith) (omega arith)), ap₂ (paired make) heads roles ∙ fun_ext (pair_put make (part l o n) (part l (o + n) n) s x y))
     where
       between : List ℕ
@@ -130,99 +130,99 @@ module _ {A : Type 0} (make : ℕ → ℕ → A) (o n : ℕ) (l : List ℕ) (s :
       roles : ◌≡◌ {A = ℕ → ℕ} (part (set between (o + n + s) y) (o + n) n) (put (part l (o + n) n) s y)
       roles = part-store between (o + n) n s y h (rw first.long (omega arith)) ∙ ap (λ (f : ℕ → ℕ). put f s y) (same first (o + n) n (apart_above o n (o + n) n (omega arith)))
 
-  pub second-stored : (y : ℕ) → Within o (n + n) l (set l (o + n + s) y) × ◌≡◌ {A = ℕ → A} (paired make (part (set l (o + n + s) y) o n) (part (set l (o + n + s) y) (o + n) n)) (put (paired make (part l o n) (part l (o + n) n)) s (make (part l o n s) y))
+  pub second_stored : (y : ℕ) → Within o (n + n) l (set l (o + n + s) y) × ◌≡◌ {A = ℕ → A} (paired make (part (set l (o + n + s) y) o n) (part (set l (o + n + s) y) (o + n) n)) (put (paired make (part l o n) (part l (o + n) n)) s (make (part l o n s) y))
   second-stored y = (wider second o (n + n) (omega arith) (omega arith), ap₂ (paired make) (same second o n (apart_below (o + n) n o n (omega arith))) (part-store l (o + n) n s y h (omega arith)) ∙ fun_ext (second-put make (part l o n) (part l (o + n) n) s y))
     where
       second : Within (o + n) n l (set l (o + n + s) y)
       second = set-within l (o + n) n s y h
 
 -- the sets of a kind
-pub sets-changed : (kind : Kind) (l after : List ℕ) → Within (setsAt kind) 32 l after → (x : ℕ → RoleSet) → paired setOf (part after (setsAt kind) 16) (part after (setsAt kind + 16) 16) ≡ x → view after ≡ withSets kind (view l) x
+pub sets-changed : (kind : Kind) (l after : List ℕ) → Within (sets_at kind) 32 l after → (x : ℕ → RoleSet) → paired set_of (part after (sets_at kind) 16) (part after (sets_at kind + 16) 16) ≡ x → view after ≡ with_sets kind (view l) x
 sets-changed Static l after = static-changed l after
 sets-changed Dynamic l after = dynamic-changed l after
 
-sets-viewed : (kind : Kind) (l : List ℕ) → paired setOf (part l (setsAt kind) 16) (part l (setsAt kind + 16) 16) ≡ setsOf kind (view l)
+sets-viewed : (kind : Kind) (l : List ℕ) → paired set_of (part l (sets_at kind) 16) (part l (sets_at kind + 16) 16) ≡ sets_of kind (view l)
 unfolding view
 sets-viewed Static l = refl
 sets-viewed Dynamic l = refl
 
-pub sets-fit : (kind : Kind) → setsAt kind + 32 ≤ places
+pub sets-fit : (kind : Kind) → sets_at kind + 32 ≤ places
 sets-fit Static = omega arith
 sets-fit Dynamic = omega arith
 
 -- a set is read, and stored: its number for the cardinality and its roles, or its roles alone
-pub set_at : (kind : Kind) (l : List ℕ) (n : ℕ) → setOf (part l (setsAt kind) 16 n) (part l (setsAt kind + 16) 16 n) ≡ setsOf kind (view l) n
+pub set_at : (kind : Kind) (l : List ℕ) (n : ℕ) → set_of (part l (sets_at kind) 16 n) (part l (sets_at kind + 16) 16 n) ≡ sets_of kind (view l) n
 set_at kind l n = ap (λ (f : ℕ → RoleSet). f n) (sets-viewed kind l)
 
 module _ (kind : Kind) (l : List ℕ) (n : ℕ) (long : length l ≡ places) (h : n < 16) where
-  pub set-stored : (card roles : ℕ) → view (set (set l (setsAt kind + n) card) (setsAt kind + 16 + n) roles) ≡ setStored kind (view l) n (setOf card roles)
+  pub set_stored : (card roles : ℕ) → view (set (set l (sets_at kind + n) card) (sets_at kind + 16 + n) roles) ≡ set_stored kind (view l) n (set_of card roles)
   set-stored card roles =
-      let b = common-stored setOf (setsAt kind) 16 l n h (omega (arith, sets-fit kind)) card roles in
-      sets-changed kind l _ b.0 _ (b.1 ∙ ap (λ (f : ℕ → RoleSet). put f n (setOf card roles)) (sets-viewed kind l))
+      let b = common-stored set_of (sets_at kind) 16 l n h (omega (arith, sets-fit kind)) card roles in
+      sets-changed kind l _ b.0 _ (b.1 ∙ ap (λ (f : ℕ → RoleSet). put f n (set_of card roles)) (sets-viewed kind l))
 
-  pub members-stored : (roles : ℕ) → view (set l (setsAt kind + 16 + n) roles) ≡ setStored kind (view l) n (record { there = (setsOf kind (view l) n).there; card = (setsOf kind (view l) n).card; roles = roles })
+  pub members_stored : (roles : ℕ) → view (set l (sets_at kind + 16 + n) roles) ≡ set_stored kind (view l) n (record { there = (sets_of kind (view l) n).there; card = (sets_of kind (view l) n).card; roles = roles })
   members-stored roles =
-      let b = second-stored setOf (setsAt kind) 16 l n h (omega (arith, sets-fit kind)) roles in
+      let b = second-stored set_of (sets_at kind) 16 l n h (omega (arith, sets-fit kind)) roles in
       sets-changed kind l _ b.0 _ (b.1 ∙ ap (λ (f : ℕ → RoleSet). put f n (record { there = (f n).there; card = (f n).card; roles = roles })) (sets-viewed kind l))
 
 -- one more than the cardinality stands for a set that is there, and one more than the owner's number for a session that is open
-pub one-more-set : (n roles : ℕ) → setOf (n + 1) roles ≡ aSet n roles
+pub one-more-set : (n roles : ℕ) → set_of (n + 1) roles ≡ a_set n roles
 one-more-set n roles =
     let back : (n + 1) - 1 ≡ n = omega arith in
     rw (ne_eqb (n + 1) 0 (λ e. omega arith), back)
 
-pub one-more-session : (u active : ℕ) → sessionOf (u + 1) active ≡ openFor u active
+pub one-more-session : (u active : ℕ) → session_of (u + 1) active ≡ open_for u active
 one-more-session u active =
     let back : (u + 1) - 1 ≡ u = omega arith in
     rw (ne_eqb (u + 1) 0 (λ e. omega arith), back)
 
 -- a session is stored: its number for the owner and its active roles, or its active roles alone
 module _ (l : List ℕ) (s : ℕ) (long : length l ≡ places) (h : s < 64) where
-  pub session-stored : (owner active : ℕ) → view (set (set l (ownersAt + s) owner) (activeAt + s) active) ≡ withSessions (view l) (put (view l).sessions s (sessionOf owner active))
+  pub session_stored : (owner active : ℕ) → view (set (set l (owners_at + s) owner) (active_at + s) active) ≡ with_sessions (view l) (put (view l).sessions s (session_of owner active))
   unfolding view
-  session-stored owner active = let b = common-stored sessionOf ownersAt 64 l s h (omega arith) owner active in sessions-changed l _ b.0 _ b.1
+  session-stored owner active = let b = common-stored session_of owners_at 64 l s h (omega arith) owner active in sessions-changed l _ b.0 _ b.1
 
-  pub active-stored : (active : ℕ) → view (set l (activeAt + s) active) ≡ withSessions (view l) (put (view l).sessions s (record { live = ((view l).sessions s).live; owner = ((view l).sessions s).owner; active = active }))
+  pub active_stored : (active : ℕ) → view (set l (active_at + s) active) ≡ with_sessions (view l) (put (view l).sessions s (record { live = ((view l).sessions s).live; owner = ((view l).sessions s).owner; active = active }))
   unfolding view
-  active-stored active = let b = second-stored sessionOf ownersAt 64 l s h (omega arith) active in sessions-changed l _ b.0 _ b.1
+  active-stored active = let b = second-stored session_of owners_at 64 l s h (omega arith) active in sessions-changed l _ b.0 _ b.1
 
 -- one number and the count beside it
 module _ (l : List ℕ) (long : length l ≡ places) (k x n : ℕ) where
-  pub line-stored : k < 64 → view (set (set l (juniorsAt + k) x) lineCountAt n) ≡ withLines (view l) (put (view l).juniors k x) n
+  pub line_stored : k < 64 → view (set (set l (juniors_at + k) x) line_count_at n) ≡ with_lines (view l) (put (view l).juniors k x) n
   unfolding view put
   line-stored h =
-      let first = set-within l juniorsAt 64 k x h in
-      lines-counted _ _ (set-within (set l (juniorsAt + k) x) lineCountAt 1 0 n (omega arith)) n (ap (λ (f : ℕ → ℕ). f 0) (part-store (set l (juniorsAt + k) x) lineCountAt 1 0 n (omega arith) (rw first.long (omega arith))))
-      ∙ ap (λ (m : Model). withLines m m.juniors n) (juniors-changed l _ first _ (part-store l juniorsAt 64 k x h (omega arith)))
+      let first = set-within l juniors_at 64 k x h in
+      lines-counted _ _ (set-within (set l (juniors_at + k) x) line_count_at 1 0 n (omega arith)) n (ap (λ (f : ℕ → ℕ). f 0) (part-store (set l (juniors_at + k) x) line_count_at 1 0 n (omega arith) (rw first.long (omega arith))))
+      ∙ ap (λ (m : Model). with_lines m m.juniors n) (juniors-changed l _ first _ (part-store l juniors_at 64 k x h (omega arith)))
 
-  pub assignment-stored : k < 256 → view (set (set l (assignedAt + k) x) assignmentCountAt n) ≡ withAssignments (view l) (put (view l).assigned k x) n
+  pub assignment_stored : k < 256 → view (set (set l (assigned_at + k) x) assignment_count_at n) ≡ with_assignments (view l) (put (view l).assigned k x) n
   unfolding view put
   assignment-stored h =
-      let first = set-within l assignedAt 256 k x h in
-      assignments-counted _ _ (set-within (set l (assignedAt + k) x) assignmentCountAt 1 0 n (omega arith)) n (ap (λ (f : ℕ → ℕ). f 0) (part-store (set l (assignedAt + k) x) assignmentCountAt 1 0 n (omega arith) (rw first.long (omega arith))))
-      ∙ ap (λ (m : Model). withAssignments m m.assigned n) (assigned-changed l _ first _ (part-store l assignedAt 256 k x h (omega arith)))
+      let first = set-within l assigned_at 256 k x h in
+      assignments-counted _ _ (set-within (set l (assigned_at + k) x) assignment_count_at 1 0 n (omega arith)) n (ap (λ (f : ℕ → ℕ). f 0) (part-store (set l (assigned_at + k) x) assignment_count_at 1 0 n (omega arith) (rw first.long (omega arith))))
+      ∙ ap (λ (m : Model). with_assignments m m.assigned n) (assigned-changed l _ first _ (part-store l assigned_at 256 k x h (omega arith)))
 
-  pub grant-stored : k < 4096 → view (set (set l (holdersAt + k) x) grantCountAt n) ≡ withGrants (view l) (put (view l).holders k x) n
+  pub grant_stored : k < 4096 → view (set (set l (holders_at + k) x) grant_count_at n) ≡ with_grants (view l) (put (view l).holders k x) n
   unfolding view put
   grant-stored h =
-      let first = set-within l holdersAt 4096 k x h in
-      grants-counted _ _ (set-within (set l (holdersAt + k) x) grantCountAt 1 0 n (omega arith)) n (ap (λ (f : ℕ → ℕ). f 0) (part-store (set l (holdersAt + k) x) grantCountAt 1 0 n (omega arith) (rw first.long (omega arith))))
-      ∙ ap (λ (m : Model). withGrants m m.holders n) (holders-changed l _ first _ (part-store l holdersAt 4096 k x h (omega arith)))
+      let first = set-within l holders_at 4096 k x h in
+      grants-counted _ _ (set-within (set l (holders_at + k) x) grant_count_at 1 0 n (omega arith)) n (ap (λ (f : ℕ → ℕ). f 0) (part-store (set l (holders_at + k) x) grant_count_at 1 0 n (omega arith) (rw first.long (omega arith))))
+      ∙ ap (λ (m : Model). with_grants m m.holders n) (holders-changed l _ first _ (part-store l holders_at 4096 k x h (omega arith)))
 
 -- ---- the users, 64 to a number
 
 -- one member of one of the numbers is changed
-users-put : (words : ℕ → ℕ) (u : ℕ) (there : Bool) → ◌≡◌ {A = ℕ → Bool} (bits (put words (u / 64) (pickMember there (words (u / 64)) (u % 64)))) (put (bits words) u there)
+users-put : (words : ℕ → ℕ) (u : ℕ) (there : Bool) → ◌≡◌ {A = ℕ → Bool} (bits (put words (u / 64) (pick_member there (words (u / 64)) (u % 64)))) (put (bits words) u there)
 users-put words u there = fun_ext (λ k. go k (eqb k u) refl (eqb (k / 64) (u / 64)) refl)
   where
     new : ℕ
-    new = pickMember there (words (u / 64)) (u % 64)
+    new = pick_member there (words (u / 64)) (u % 64)
 
-    here : (b : Bool) → has (pickMember b (words (u / 64)) (u % 64)) (u % 64) ≡ b
+    here : (b : Bool) → has (pick_member b (words (u / 64)) (u % 64)) (u % 64) ≡ b
     here true = has-with (words (u / 64)) (u % 64) (u % 64) (omega arith) ∙ rw (eq-eqb (u % 64) (u % 64) refl) (or-true (has (words (u / 64)) (u % 64)))
     here false = has-without (words (u / 64)) (u % 64) (u % 64) (omega arith) ∙ rw (eq-eqb (u % 64) (u % 64) refl) (and-false (has (words (u / 64)) (u % 64)))
 
-    beside : (b : Bool) (j : ℕ) → j < 64 → (j ≡ u % 64 → ⊥) → has (pickMember b (words (u / 64)) (u % 64)) j ≡ has (words (u / 64)) j
+    beside : (b : Bool) (j : ℕ) → j < 64 → (j ≡ u % 64 → ⊥) → has (pick_member b (words (u / 64)) (u % 64)) j ≡ has (words (u / 64)) j
     beside true j h n = has-with (words (u / 64)) (u % 64) j h ∙ rw (ne_eqb j (u % 64) n) (or-false (has (words (u / 64)) j))
     beside false j h n = has-without (words (u / 64)) (u % 64) j h ∙ rw (ne_eqb j (u % 64) n) (and-true (has (words (u / 64)) j))
 
@@ -239,25 +239,25 @@ users-put words u there = fun_ext (λ k. go k (eqb k u) refl (eqb (k / 64) (u / 
     go k false n false d =
         ap (λ (w : ℕ). has w (k % 64)) (put_other words (u / 64) new (k / 64) (eqb-false (k / 64) (u / 64) d)) ∙ sym (put_other (bits words) u there k (eqb-false k u n))
 
-pub user-stored : (l : List ℕ) (u : ℕ) (there : Bool) → length l ≡ places → u < 256 → view (set l (usersAt + u / 64) (pickMember there (get_or l (usersAt + u / 64) 0) (u % 64))) ≡ withUsers (view l) (put (view l).users u there)
+pub user-stored : (l : List ℕ) (u : ℕ) (there : Bool) → length l ≡ places → u < 256 → view (set l (users_at + u / 64) (pick_member there (get_or l (users_at + u / 64) 0) (u % 64))) ≡ with_users (view l) (put (view l).users u there)
 unfolding view
 user-stored l u there long h =
     let w : u / 64 < 4 = omega arith in
-    let x = pickMember there (get_or l (usersAt + u / 64) 0) (u % 64) in
-    users-changed l _ (set-within l usersAt 4 (u / 64) x w) _
-    (ap bits (part-store l usersAt 4 (u / 64) x w (omega arith) ∙ ap (λ (v : ℕ). put (part l usersAt 4) (u / 64) (pickMember there v (u % 64))) (sym (part_at l usersAt 4 (u / 64) w))) ∙ users-put (part l usersAt 4) u there)
+    let x = pick_member there (get_or l (users_at + u / 64) 0) (u % 64) in
+    users-changed l _ (set-within l users_at 4 (u / 64) x w) _
+    (ap bits (part-store l users_at 4 (u / 64) x w (omega arith) ∙ ap (λ (v : ℕ). put (part l users_at 4) (u / 64) (pick_member there v (u % 64))) (sym (part_at l users_at 4 (u / 64) w))) ∙ users-put (part l users_at 4) u there)
 
 -- ---- all of a state
 
 -- two states that agree in every place mean the same
 pub all_same : (l r : List ℕ) → ((j : ℕ) → j < places → get_or l j 0 ≡ get_or r j 0) → view l ≡ view r
 unfolding view
-all_same l r e j = record { users = bits (part_same l r places e usersAt 4 (omega arith) j); roles = part_same l r places e rolesAt 1 (omega arith) j 0; juniors = part_same l r places e juniorsAt 64 (omega arith) j; assigned = part_same l r places e assignedAt 256 (omega arith) j; holders = part_same l r places e holdersAt 4096 (omega arith) j; ssd = paired setOf (part_same l r places e ssdCardsAt 16 (omega arith) j) (part_same l r places e ssdRolesAt 16 (omega arith) j); dsd = paired setOf (part_same l r places e dsdCardsAt 16 (omega arith) j) (part_same l r places e dsdRolesAt 16 (omega arith) j); sessions = paired sessionOf (part_same l r places e ownersAt 64 (omega arith) j) (part_same l r places e activeAt 64 (omega arith) j); assignmentCount = part_same l r places e assignmentCountAt 1 (omega arith) j 0; grantCount = part_same l r places e grantCountAt 1 (omega arith) j 0; lineCount = part_same l r places e lineCountAt 1 (omega arith) j 0 }
+all_same l r e j = record { users = bits (part_same l r places e users_at 4 (omega arith) j); roles = part_same l r places e roles_at 1 (omega arith) j 0; juniors = part_same l r places e juniors_at 64 (omega arith) j; assigned = part_same l r places e assigned_at 256 (omega arith) j; holders = part_same l r places e holders_at 4096 (omega arith) j; ssd = paired set_of (part_same l r places e ssd_cards_at 16 (omega arith) j) (part_same l r places e ssd_roles_at 16 (omega arith) j); dsd = paired set_of (part_same l r places e dsd_cards_at 16 (omega arith) j) (part_same l r places e dsd_roles_at 16 (omega arith) j); sessions = paired session_of (part_same l r places e owners_at 64 (omega arith) j) (part_same l r places e active_at 64 (omega arith) j); assignment_count = part_same l r places e assignment_count_at 1 (omega arith) j 0; grant_count = part_same l r places e grant_count_at 1 (omega arith) j 0; line_count = part_same l r places e line_count_at 1 (omega arith) j 0 }
 
 -- where every number is 0, there is nothing
 pub all-zero : (l : List ℕ) → ((j : ℕ) → j < places → get_or l j 0 ≡ 0) → view l ≡ empty
 unfolding view empty
-all-zero l e = zeros ∙ ap (withUsers empty) (fun_ext (λ k. has-none (k % 64)))
+all-zero l e = zeros ∙ ap (with_users empty) (fun_ext (λ k. has-none (k % 64)))
   where
-    zeros : view l ≡ withUsers empty (bits (λ k. 0))
-    zeros j = record { users = bits (part-zero l places e usersAt 4 (omega arith) j); roles = part-zero l places e rolesAt 1 (omega arith) j 0; juniors = part-zero l places e juniorsAt 64 (omega arith) j; assigned = part-zero l places e assignedAt 256 (omega arith) j; holders = part-zero l places e holdersAt 4096 (omega arith) j; ssd = paired setOf (part-zero l places e ssdCardsAt 16 (omega arith) j) (part-zero l places e ssdRolesAt 16 (omega arith) j); dsd = paired setOf (part-zero l places e dsdCardsAt 16 (omega arith) j) (part-zero l places e dsdRolesAt 16 (omega arith) j); sessions = paired sessionOf (part-zero l places e ownersAt 64 (omega arith) j) (part-zero l places e activeAt 64 (omega arith) j); assignmentCount = part-zero l places e assignmentCountAt 1 (omega arith) j 0; grantCount = part-zero l places e grantCountAt 1 (omega arith) j 0; lineCount = part-zero l places e lineCountAt 1 (omega arith) j 0 }
+    zeros : view l ≡ with_users empty (bits (λ k. 0))
+    zeros j = record { users = bits (part-zero l places e users_at 4 (omega arith) j); roles = part-zero l places e roles_at 1 (omega arith) j 0; juniors = part-zero l places e juniors_at 64 (omega arith) j; assigned = part-zero l places e assigned_at 256 (omega arith) j; holders = part-zero l places e holders_at 4096 (omega arith) j; ssd = paired set_of (part-zero l places e ssd_cards_at 16 (omega arith) j) (part-zero l places e ssd_roles_at 16 (omega arith) j); dsd = paired set_of (part-zero l places e dsd_cards_at 16 (omega arith) j) (part-zero l places e dsd_roles_at 16 (omega arith) j); sessions = paired session_of (part-zero l places e owners_at 64 (omega arith) j) (part-zero l places e active_at 64 (omega arith) j); assignment_count = part-zero l places e assignment_count_at 1 (omega arith) j 0; grant_count = part-zero l places e grant_count_at 1 (omega arith) j 0; line_count = part-zero l places e line_count_at 1 (omega arith) j 0 }

@@ -15,52 +15,52 @@ use Rattle.std.specs.Prelude.{ℕ}
 use Rattle.model.specs.declared.Kind.{Kind}
 use Rattle.model.specs.declared.Kind.TheVariants.{Static, Dynamic}
 
-abbrev pub holdersAt : ℕ
-holdersAt = 0
+abbrev pub holders_at : ℕ
+holders_at = 0
 
-abbrev pub assignedAt : ℕ
-assignedAt = 4096
+abbrev pub assigned_at : ℕ
+assigned_at = 4096
 
-abbrev pub juniorsAt : ℕ
-juniorsAt = 4352
+abbrev pub juniors_at : ℕ
+juniors_at = 4352
 
-abbrev pub ssdCardsAt : ℕ
-ssdCardsAt = 4416
+abbrev pub ssd_cards_at : ℕ
+ssd_cards_at = 4416
 
-abbrev pub ssdRolesAt : ℕ
-ssdRolesAt = 4432
+abbrev pub ssd_roles_at : ℕ
+ssd_roles_at = 4432
 
-abbrev pub dsdCardsAt : ℕ
-dsdCardsAt = 4448
+abbrev pub dsd_cards_at : ℕ
+dsd_cards_at = 4448
 
-abbrev pub dsdRolesAt : ℕ
-dsdRolesAt = 4464
+abbrev pub dsd_roles_at : ℕ
+dsd_roles_at = 4464
 
 -- where the sets of a kind stand
-abbrev pub setsAt : Kind → ℕ
-setsAt Static = ssdCardsAt
-setsAt Dynamic = dsdCardsAt
+abbrev pub sets_at : Kind → ℕ
+sets_at Static = ssd_cards_at
+sets_at Dynamic = dsd_cards_at
 
-abbrev pub ownersAt : ℕ
-ownersAt = 4480
+abbrev pub owners_at : ℕ
+owners_at = 4480
 
-abbrev pub activeAt : ℕ
-activeAt = 4544
+abbrev pub active_at : ℕ
+active_at = 4544
 
-abbrev pub usersAt : ℕ
-usersAt = 4608
+abbrev pub users_at : ℕ
+users_at = 4608
 
-abbrev pub rolesAt : ℕ
-rolesAt = 4612
+abbrev pub roles_at : ℕ
+roles_at = 4612
 
-abbrev pub assignmentCountAt : ℕ
-assignmentCountAt = 4613
+abbrev pub assignment_count_at : ℕ
+assignment_count_at = 4613
 
-abbrev pub grantCountAt : ℕ
-grantCountAt = 4614
+abbrev pub grant_count_at : ℕ
+grant_count_at = 4614
 
-abbrev pub lineCountAt : ℕ
-lineCountAt = 4615
+abbrev pub line_count_at : ℕ
+line_count_at = 4615
 
 -- how many numbers a state has
 abbrev pub places : ℕ

@@ -4,8 +4,8 @@ use Rattle.numbers.specs.Answers.{number_of}
 use Rattle.numbers.specs.declared.Answer.{Answer}
 
 -- the answer is 0, done
-abbrev pub isDone : Answer → Bool
-isDone a = eqb (number_of a) 0
+abbrev pub is_done : Answer → Bool
+is_done a = eqb (number_of a) 0
 
 -- the one result where it is done, and no results on a refusal
 abbrev pub given : Bool → ℕ → List ℕ
@@ -13,6 +13,6 @@ given true result = result ∷ []
 given false result = []
 
 -- the two results where it is done, and no results on a refusal
-abbrev pub bothGiven : Bool → ℕ → ℕ → List ℕ
-bothGiven true first second = first ∷ second ∷ []
-bothGiven false first second = []
+abbrev pub both_given : Bool → ℕ → ℕ → List ℕ
+both_given true first second = first ∷ second ∷ []
+both_given false first second = []

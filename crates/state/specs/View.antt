@@ -6,7 +6,7 @@ use Rattle.numbers.specs.Answers.{number_of}
 use Rattle.numbers.specs.declared.Answer.{Answer}
 use Rattle.model.specs.Model.{Model, RoleSet, Session}
 use Rattle.model.specs.Sheet.{Told}
-use Rattle.state.specs.Places.{holdersAt, assignedAt, juniorsAt, ssdCardsAt, ssdRolesAt, dsdCardsAt, dsdRolesAt, ownersAt, activeAt, usersAt, rolesAt, assignmentCountAt, grantCountAt, lineCountAt, places}
+use Rattle.state.specs.Places.{holders_at, assigned_at, juniors_at, ssd_cards_at, ssd_roles_at, dsd_cards_at, dsd_roles_at, owners_at, active_at, users_at, roles_at, assignment_count_at, grant_count_at, line_count_at, places}
 
 -- the n numbers from place o on, as a table; past them there is 0
 abbrev pub part : List ℕ → ℕ → ℕ → ℕ → ℕ
@@ -17,12 +17,12 @@ abbrev pub bits : (ℕ → ℕ) → ℕ → Bool
 bits words k = has (words (k / 64)) (k % 64)
 
 -- a set by the number that stands for its cardinality, 0 for one that is not there and else one more, and its roles
-abbrev pub setOf : ℕ → ℕ → RoleSet
-setOf card roles = record { there = not (eqb card 0); card = card - 1; roles = roles }
+abbrev pub set_of : ℕ → ℕ → RoleSet
+set_of card roles = record { there = not (eqb card 0); card = card - 1; roles = roles }
 
 -- a session by the number that stands for its owner, 0 for one that is closed and else one more, and its active roles
-abbrev pub sessionOf : ℕ → ℕ → Session
-sessionOf owner active = record { live = not (eqb owner 0); owner = owner - 1; active = active }
+abbrev pub session_of : ℕ → ℕ → Session
+session_of owner active = record { live = not (eqb owner 0); owner = owner - 1; active = active }
 
 -- two tables as one of sets or of sessions
 abbrev pub paired : {A : Type 0} → (ℕ → ℕ → A) → (ℕ → ℕ) → (ℕ → ℕ) → ℕ → A
@@ -32,17 +32,17 @@ paired make first second k = make (first k) (second k)
 unfoldable pub view : List ℕ → Model
 view l =
     record {
-      users = bits (part l usersAt 4);
-      roles = part l rolesAt 1 0;
-      juniors = part l juniorsAt 64;
-      assigned = part l assignedAt 256;
-      holders = part l holdersAt 4096;
-      ssd = paired setOf (part l ssdCardsAt 16) (part l ssdRolesAt 16);
-      dsd = paired setOf (part l dsdCardsAt 16) (part l dsdRolesAt 16);
-      sessions = paired sessionOf (part l ownersAt 64) (part l activeAt 64);
-      assignmentCount = part l assignmentCountAt 1 0;
-      grantCount = part l grantCountAt 1 0;
-      lineCount = part l lineCountAt 1 0;
+      users = bits (part l users_at 4);
+      roles = part l roles_at 1 0;
+      juniors = part l juniors_at 64;
+      assigned = part l assigned_at 256;
+      holders = part l holders_at 4096;
+      ssd = paired set_of (part l ssd_cards_at 16) (part l ssd_roles_at 16);
+      dsd = paired set_of (part l dsd_cards_at 16) (part l dsd_roles_at 16);
+      sessions = paired session_of (part l owners_at 64) (part l active_at 64);
+      assignment_count = part l assignment_count_at 1 0;
+      grant_count = part l grant_count_at 1 0;
+      line_count = part l line_count_at 1 0;
     }
 
 -- what a command tells that answers a and leaves the state l: the answer's number, no results, and the policy and sessions after it

@@ -1,6 +1,6 @@
 // What several refusals have in common.
 ghost use Rattle.std.specs.Prelude.{◌||◌, ◌≡◌, ◌-◌};
-ghost use Rattle.model.specs.commands.Naming.{permissionBeyond};
+ghost use Rattle.model.specs.commands.Naming.{permission_beyond};
 
 // Does one of two refusals' conditions hold?
 pub fn either(a: bool, b: bool) -> bool
@@ -11,7 +11,7 @@ pub fn either(a: bool, b: bool) -> bool
 
 // Is the operation or the object beyond its range?
 pub fn permission_beyond(op: u16, obj: u16) -> bool
-    ensures { result ≡ permissionBeyond op obj }
+    ensures { result ≡ permission_beyond op obj }
 {
     either(16 <= op, 256 <= obj)
 }

@@ -1,6 +1,6 @@
 // Parts of the state: lent as they stand, or as tables of their own, to be changed before anything is stored.
 ghost use Rattle.std.specs.Prelude.{◌≡◌};
-ghost use Rattle.state.specs.Places.{setsAt};
+ghost use Rattle.state.specs.Places.{sets_at};
 ghost use Rattle.state.specs.Stores.{Table};
 ghost use Rattle.state.specs.View.{view};
 
@@ -67,7 +67,7 @@ pub fn assigned_table(state: &[u64; PLACES]) -> [u64; 256]
 
 // Where the sets of this kind stand: 16 numbers for their cardinalities, and then 16 for their roles.
 pub fn sets_from(kind: Kind) -> usize
-    ensures { result ≡ setsAt kind }
+    ensures { result ≡ sets_at kind }
 {
     match kind {
         Kind::Static => SSD_CARDS,

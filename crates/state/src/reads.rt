@@ -1,8 +1,8 @@
 // One thing of the state, read. What is beyond its range does not exist.
 ghost use Rattle.std.specs.Prelude.{◌≡◌};
 ghost use Rattle.roleset.specs.Roles.{has};
-ghost use Rattle.model.specs.commands.Sets.{setsOf};
-ghost use Rattle.state.specs.View.{view, setOf, sessionOf};
+ghost use Rattle.model.specs.commands.Sets.{sets_of};
+ghost use Rattle.state.specs.View.{view, set_of, session_of};
 
 use crate::naming::less;
 use crate::parts::sets_from;
@@ -64,7 +64,7 @@ pub fn holders_of(state: &[u64; PLACES], p: usize) -> u64
 
 // The set with this cardinality, by the number that stands for it, and these roles.
 fn set_of(card: u64, roles: u64) -> RoleSet
-    ensures { result ≡ setOf card roles }
+    ensures { result ≡ set_of card roles }
 {
     RoleSet {
         there: card != 0,
@@ -75,7 +75,7 @@ fn set_of(card: u64, roles: u64) -> RoleSet
 
 // The set of this kind by this name.
 pub fn set_named(state: &[u64; PLACES], kind: Kind, name: SetName) -> RoleSet
-    ensures { result ≡ setsOf kind (view state.now) name.number }
+    ensures { result ≡ sets_of kind (view state.now) name.number }
 {
     let at = name.number as usize;
     if at < 16 {
@@ -88,7 +88,7 @@ pub fn set_named(state: &[u64; PLACES], kind: Kind, name: SetName) -> RoleSet
 
 // The session with this owner, by the number that stands for it, and these active roles.
 fn session_of(owner: u64, active: u64) -> SessionRecord
-    ensures { result ≡ sessionOf owner active }
+    ensures { result ≡ session_of owner active }
 {
     SessionRecord {
         live: owner != 0,
@@ -111,21 +111,21 @@ pub fn session_at(state: &[u64; PLACES], x: Session) -> SessionRecord
 
 // How many assignments stand.
 pub fn assignment_count(state: &[u64; PLACES]) -> u64
-    ensures { result ≡ (view state.now).assignmentCount }
+    ensures { result ≡ (view state.now).assignment_count }
 {
     state[ASSIGNMENT_COUNT]
 }
 
 // How many grants stand.
 pub fn grant_count(state: &[u64; PLACES]) -> u64
-    ensures { result ≡ (view state.now).grantCount }
+    ensures { result ≡ (view state.now).grant_count }
 {
     state[GRANT_COUNT]
 }
 
 // How many lines stand.
 pub fn line_count(state: &[u64; PLACES]) -> u64
-    ensures { result ≡ (view state.now).lineCount }
+    ensures { result ≡ (view state.now).line_count }
 {
     state[LINE_COUNT]
 }

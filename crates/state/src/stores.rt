@@ -1,9 +1,9 @@
 // One thing of the state, stored. At a place beyond its range nothing is.
 ghost use Rattle.std.specs.Prelude.{◌≡◌};
-ghost use Rattle.model.specs.Model.{empty, absentSet, closedSession, put, withUsers, withRoles, withLines, withAssignments, withGrants, withSessions};
-ghost use Rattle.model.specs.commands.Sessions.{openFor, sessionSet, activeSet};
-ghost use Rattle.model.specs.commands.Sets.{setsOf, aSet};
-ghost use Rattle.state.specs.Stores.{in_range, pickMember, setStored, withMembers, withActive};
+ghost use Rattle.model.specs.Model.{empty, absent_set, closed_session, put, with_users, with_roles, with_lines, with_assignments, with_grants, with_sessions};
+ghost use Rattle.model.specs.commands.Sessions.{open_for, session_set, active_set};
+ghost use Rattle.model.specs.commands.Sets.{sets_of, a_set};
+ghost use Rattle.state.specs.Stores.{in_range, pick_member, set_stored, with_members, with_active};
 ghost use Rattle.state.specs.View.{part, view};
 
 use crate::parts::sets_from;
@@ -40,7 +40,7 @@ pub fn put_all(state: &mut [u64; PLACES], other: &[u64; PLACES])
 
 // The set with the member or without it.
 fn member(set: u64, k: u16, there: bool) -> u64
-    ensures { result ≡ pickMember there set k }
+    ensures { result ≡ pick_member there set k }
 {
     if there {
         roleset::with(set, k)
@@ -51,7 +51,7 @@ fn member(set: u64, k: u16, there: bool) -> u64
 
 // The user exists from now on, or does no longer.
 pub fn put_user(state: &mut [u64; PLACES], u: User, there: bool)
-    ensures { view state.new ≡ in_range 256 u.number (view state.old) (withUsers (view state.old) (put (view state.old).users u.number there)) }
+    ensures { view state.new ≡ in_range 256 u.number (view state.old) (with_users (view state.old) (put (view state.old).users u.number there)) }
 {
     if 256 <= u.number {
         return;
@@ -63,7 +63,7 @@ pub fn put_user(state: &mut [u64; PLACES], u: User, there: bool)
 
 // The roles that exist are these.
 pub fn put_roles(state: &mut [u64; PLACES], roles: u64)
-    ensures { view state.new ≡ withRoles (view state.old) roles }
+    ensures { view state.new ≡ with_roles (view state.old) roles }
 {
     let all = &mut state[..];
     all[ROLES] = roles;
@@ -71,7 +71,7 @@ pub fn put_roles(state: &mut [u64; PLACES], roles: u64)
 
 // The roles directly below the role are these, and so many lines stand.
 pub fn put_juniors(state: &mut [u64; PLACES], r: Role, roles: u64, standing: u64)
-    ensures { view state.new ≡ in_range 64 r.number (view state.old) (withLines (view state.old) (put (view state.old).juniors r.number roles) standing) }
+    ensures { view state.new ≡ in_range 64 r.number (view state.old) (with_lines (view state.old) (put (view state.old).juniors r.number roles) standing) }
 {
     let at = r.number as usize;
     if 64 <= at {
@@ -84,7 +84,7 @@ pub fn put_juniors(state: &mut [u64; PLACES], r: Role, roles: u64, standing: u64
 
 // The roles assigned to the user are these, and so many assignments stand.
 pub fn put_assigned(state: &mut [u64; PLACES], u: User, roles: u64, standing: u64)
-    ensures { view state.new ≡ in_range 256 u.number (view state.old) (withAssignments (view state.old) (put (view state.old).assigned u.number roles) standing) }
+    ensures { view state.new ≡ in_range 256 u.number (view state.old) (with_assignments (view state.old) (put (view state.old).assigned u.number roles) standing) }
 {
     let at = u.number as usize;
     if 256 <= at {
@@ -97,7 +97,7 @@ pub fn put_assigned(state: &mut [u64; PLACES], u: User, roles: u64, standing: u6
 
 // The roles that hold the permission are these, and so many grants stand.
 pub fn put_holders(state: &mut [u64; PLACES], p: usize, roles: u64, standing: u64)
-    ensures { view state.new ≡ in_range 4096 p (view state.old) (withGrants (view state.old) (put (view state.old).holders p roles) standing) }
+    ensures { view state.new ≡ in_range 4096 p (view state.old) (with_grants (view state.old) (put (view state.old).holders p roles) standing) }
 {
     if 4096 <= p {
         return;
@@ -109,7 +109,7 @@ pub fn put_holders(state: &mut [u64; PLACES], p: usize, roles: u64, standing: u6
 
 // The lines are these, of which so many stand.
 pub fn put_lines(state: &mut [u64; PLACES], juniors: &[u64; 64], standing: u64)
-    ensures { view state.new ≡ withLines (view state.old) (part juniors.now 0 64) standing }
+    ensures { view state.new ≡ with_lines (view state.old) (part juniors.now 0 64) standing }
 {
     let all = &mut state[..];
     let mut k: usize = 0;
@@ -122,7 +122,7 @@ pub fn put_lines(state: &mut [u64; PLACES], juniors: &[u64; 64], standing: u64)
 
 // The assignments are these, of which so many stand.
 pub fn put_assignments(state: &mut [u64; PLACES], assigned: &[u64; 256], standing: u64)
-    ensures { view state.new ≡ withAssignments (view state.old) (part assigned.now 0 256) standing }
+    ensures { view state.new ≡ with_assignments (view state.old) (part assigned.now 0 256) standing }
 {
     let all = &mut state[..];
     let mut k: usize = 0;
@@ -135,7 +135,7 @@ pub fn put_assignments(state: &mut [u64; PLACES], assigned: &[u64; 256], standin
 
 // The set of this kind is there, with this cardinality and these roles.
 pub fn put_set(state: &mut [u64; PLACES], kind: Kind, name: SetName, card: u16, roles: u64)
-    ensures { view state.new ≡ in_range 16 name.number (view state.old) (setStored kind (view state.old) name.number (aSet card roles)) }
+    ensures { view state.new ≡ in_range 16 name.number (view state.old) (set_stored kind (view state.old) name.number (a_set card roles)) }
 {
     let at = name.number as usize;
     if 16 <= at {
@@ -149,7 +149,7 @@ pub fn put_set(state: &mut [u64; PLACES], kind: Kind, name: SetName, card: u16, 
 
 // The set of this kind has these roles; whether it is there, and its cardinality, stay.
 pub fn put_members(state: &mut [u64; PLACES], kind: Kind, name: SetName, roles: u64)
-    ensures { view state.new ≡ in_range 16 name.number (view state.old) (setStored kind (view state.old) name.number (withMembers (setsOf kind (view state.old) name.number) roles)) }
+    ensures { view state.new ≡ in_range 16 name.number (view state.old) (set_stored kind (view state.old) name.number (with_members (sets_of kind (view state.old) name.number) roles)) }
 {
     let at = name.number as usize;
     if 16 <= at {
@@ -162,7 +162,7 @@ pub fn put_members(state: &mut [u64; PLACES], kind: Kind, name: SetName, roles: 
 
 // The set of this kind is not there.
 pub fn clear_set(state: &mut [u64; PLACES], kind: Kind, name: SetName)
-    ensures { view state.new ≡ in_range 16 name.number (view state.old) (setStored kind (view state.old) name.number absentSet) }
+    ensures { view state.new ≡ in_range 16 name.number (view state.old) (set_stored kind (view state.old) name.number absent_set) }
 {
     let at = name.number as usize;
     if 16 <= at {
@@ -176,7 +176,7 @@ pub fn clear_set(state: &mut [u64; PLACES], kind: Kind, name: SetName)
 
 // The session is open for the user, with these roles active.
 pub fn open_session(state: &mut [u64; PLACES], x: Session, u: User, active: u64)
-    ensures { view state.new ≡ in_range 64 x.number (view state.old) (sessionSet (view state.old) x.number (openFor u.number active)) }
+    ensures { view state.new ≡ in_range 64 x.number (view state.old) (session_set (view state.old) x.number (open_for u.number active)) }
 {
     let at = x.number as usize;
     if 64 <= at {
@@ -189,7 +189,7 @@ pub fn open_session(state: &mut [u64; PLACES], x: Session, u: User, active: u64)
 
 // The session's active roles are these.
 pub fn put_active(state: &mut [u64; PLACES], x: Session, active: u64)
-    ensures { view state.new ≡ in_range 64 x.number (view state.old) (activeSet (view state.old) x.number active) }
+    ensures { view state.new ≡ in_range 64 x.number (view state.old) (active_set (view state.old) x.number active) }
 {
     let at = x.number as usize;
     if 64 <= at {
@@ -201,7 +201,7 @@ pub fn put_active(state: &mut [u64; PLACES], x: Session, active: u64)
 
 // The session is closed.
 pub fn close_session(state: &mut [u64; PLACES], x: Session)
-    ensures { view state.new ≡ in_range 64 x.number (view state.old) (sessionSet (view state.old) x.number closedSession) }
+    ensures { view state.new ≡ in_range 64 x.number (view state.old) (session_set (view state.old) x.number closed_session) }
 {
     let at = x.number as usize;
     if 64 <= at {
@@ -214,7 +214,7 @@ pub fn close_session(state: &mut [u64; PLACES], x: Session)
 
 // The active roles of the sessions are these.
 pub fn put_all_active(state: &mut [u64; PLACES], kept: &[u64; 64])
-    ensures { view state.new ≡ withSessions (view state.old) (withActive (view state.old).sessions (part kept.now 0 64)) }
+    ensures { view state.new ≡ with_sessions (view state.old) (with_active (view state.old).sessions (part kept.now 0 64)) }
 {
     let all = &mut state[..];
     let mut k: usize = 0;

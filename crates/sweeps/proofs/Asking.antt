@@ -8,16 +8,16 @@ use native.Mathlib.Omega.{arith}
 use Rattle.roleset.specs.Bounded.{some, every}
 use Rattle.roleset.specs.Roles.{has}
 use Rattle.roleset.proofs.BoundedLaws.{clash, never, every-elim, some_more, some-intro, some-none}
-use Rattle.roleset.proofs.Laws.{isEmpty-none}
+use Rattle.roleset.proofs.Laws.{is_empty-none}
 use Rattle.hierarchy.specs.Walks.{reach}
 use Rattle.hierarchy.proofs.WalkLaws.{walk-empty}
-use Rattle.model.specs.Model.{Model, RoleSet, withLines}
-use Rattle.model.specs.Words.{breaks, staticBroken, dynamicBroken}
-use Rattle.model.specs.commands.Sets.{asked_of, broken, ruleBroken}
+use Rattle.model.specs.Model.{Model, RoleSet, with_lines}
+use Rattle.model.specs.Words.{breaks, static_broken, dynamic_broken}
+use Rattle.model.specs.commands.Sets.{asked_of, broken, rule_broken}
 use Rattle.model.specs.declared.Kind.{Kind}
 use Rattle.model.specs.declared.Kind.TheVariants.{Static, Dynamic}
 use Rattle.state.specs.Stores.{Table}
-use Rattle.sweeps.specs.Sweeps.{ownRoles, asksRule, Asked}
+use Rattle.sweeps.specs.Sweeps.{own_roles, asks_rule, Asked}
 
 -- the user, or session, i breaks the rule
 abbrev pub breaking : (ℕ → Bool) → (ℕ → ℕ) → (ℕ → ℕ) → ℕ → Bool
@@ -29,17 +29,17 @@ asked-some Static = omega arith
 asked-some Dynamic = omega arith
 
 -- a rule of the kind, asked with other lines, is that of the policy with these lines: they change neither the sets nor what anybody has itself
-pub asks-lines : (kind : Kind) (m : Model) (lines : ℕ → ℕ) (n : ℕ) → asksRule kind m lines ≡ ruleBroken kind (withLines m lines n)
-unfolding staticBroken dynamicBroken
+pub asks-lines : (kind : Kind) (m : Model) (lines : ℕ → ℕ) (n : ℕ) → asks_rule kind m lines ≡ rule_broken kind (with_lines m lines n)
+unfolding static_broken dynamic_broken
 asks-lines Static m lines n = refl
 asks-lines Dynamic m lines n = refl
 
 -- what is a table of one kind is one of the kind that is that
-pub table-of : (one kind : Kind) (m : Model) (x : List ℕ) → kind ≡ one → Table (asked_of one) (ownRoles one m) x → Table (asked_of kind) (ownRoles kind m) x
-table-of one kind m x e t = subst (λ (k : Kind). Table (asked_of k) (ownRoles k m) x) (sym e) t
+pub table-of : (one kind : Kind) (m : Model) (x : List ℕ) → kind ≡ one → Table (asked_of one) (own_roles one m) x → Table (asked_of kind) (own_roles kind m) x
+table-of one kind m x e t = subst (λ (k : Kind). Table (asked_of k) (own_roles k m) x) (sym e) t
 
 -- the rule of a set is broken where somebody breaks it
-pub set-broken : (kind : Kind) (m : Model) (set : RoleSet) → broken kind m set ≡ some (asked_of kind) (breaking (breaks set) m.juniors (ownRoles kind m))
+pub set-broken : (kind : Kind) (m : Model) (set : RoleSet) → broken kind m set ≡ some (asked_of kind) (breaking (breaks set) m.juniors (own_roles kind m))
 unfolding broken
 set-broken Static m set = refl
 set-broken Dynamic m set = refl
@@ -55,19 +55,19 @@ all_held held k l h = every-elim 64 (has 18446744073709551615) all-64 k l
 -- from no roles, none is reached
 reach-none : (lines : ℕ → ℕ) → reach lines 0 ≡ 0
 unfolding reach
-reach-none lines = walk-empty lines 64 0 isEmpty-none
+reach-none lines = walk-empty lines 64 0 is_empty-none
 
 module _ (rule : ℕ → Bool) (lines own : ℕ → ℕ) where
   -- none of n breaks the rule, and neither does one more, that was walked for
-  pub passed-walk : (n held w : ℕ) → held ≡ own n → w ≡ reach lines held → rule w ≡ false → some n (breaking rule lines own) ≡ false → some (n + 1) (breaking rule lines own) ≡ false
+  pub passed_walk : (n held w : ℕ) → held ≡ own n → w ≡ reach lines held → rule w ≡ false → some n (breaking rule lines own) ≡ false → some (n + 1) (breaking rule lines own) ≡ false
   passed-walk n held w h e b p = some_more n _ p (ap rule (sym (e ∙ ap (reach lines) h)) ∙ b)
 
   -- neither does one more, with no roles, where no roles break nothing
-  pub passed-idle : (n held : ℕ) → held ≡ own n → held ≡ 0 → rule 0 ≡ false → some n (breaking rule lines own) ≡ false → some (n + 1) (breaking rule lines own) ≡ false
+  pub passed_idle : (n held : ℕ) → held ≡ own n → held ≡ 0 → rule 0 ≡ false → some n (breaking rule lines own) ≡ false → some (n + 1) (breaking rule lines own) ≡ false
   passed-idle n held h z b p = some_more n _ p (ap rule (ap (reach lines) (sym h ∙ z) ∙ reach-none lines) ∙ b)
 
   -- one breaks it
-  pub asks-walk : (n k held w : ℕ) → k < n → held ≡ own k → w ≡ reach lines held → rule w ≡ true → true ≡ some n (breaking rule lines own)
+  pub asks_walk : (n k held w : ℕ) → k < n → held ≡ own k → w ≡ reach lines held → rule w ≡ true → true ≡ some n (breaking rule lines own)
   asks-walk n k held w l h e b = sym (some-intro n (breaking rule lines own) k l (ap rule (sym (e ∙ ap (reach lines) h)) ∙ b))
 
   -- nobody does where those who break it are among all roles, and all roles together do not
@@ -75,9 +75,9 @@ module _ (rule : ℕ → Bool) (lines own : ℕ → ℕ) where
   asks_none n all grows b = sym (some-none n (breaking rule lines own) (λ i l. never (rule (reach lines (own i))) (λ e. clash (rule all) (grows _ e) b)))
 
   -- all do
-  pub asks-any : (n : ℕ) → 0 < n → ((held : ℕ) → rule held ≡ true) → true ≡ some n (breaking rule lines own)
+  pub asks_any : (n : ℕ) → 0 < n → ((held : ℕ) → rule held ≡ true) → true ≡ some n (breaking rule lines own)
   asks-any n l b = asks-walk n 0 (own 0) (reach lines (own 0)) l refl refl (b _)
 
   -- one by one, over a table of what they have themselves
-  pub asked-of-table : (n : ℕ) (x : List ℕ) (b : Bool) → Table n own x → rule 0 ≡ false → Asked rule lines x b → b ≡ some n (breaking rule lines own)
+  pub asked_of_table : (n : ℕ) (x : List ℕ) (b : Bool) → Table n own x → rule 0 ≡ false → Asked rule lines x b → b ≡ some n (breaking rule lines own)
   asked-of-table n x b t idle asked = asked idle ∙ ap₂ (λ (k : ℕ) (f : ℕ → ℕ). some k (breaking rule lines f)) t.long t.each

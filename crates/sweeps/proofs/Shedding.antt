@@ -7,18 +7,18 @@ use native.Mathlib.Omega.{arith}
 use native.Mathlib.Decide.{dec_lt}
 use lib.Seq.{get_or-take}
 use Rattle.hierarchy.specs.Walks.{reach}
-use Rattle.model.specs.Model.{Model, Session, closedSession, withSessions}
+use Rattle.model.specs.Model.{Model, Session, closed_session, with_sessions}
 use Rattle.model.specs.Words.{shed, shedded, keeping}
-use Rattle.state.specs.Places.{ownersAt, activeAt}
-use Rattle.state.specs.Stores.{withActive}
+use Rattle.state.specs.Places.{owners_at, active_at}
+use Rattle.state.specs.Stores.{with_active}
 use Rattle.state.specs.View.{part, view}
 use Rattle.state.proofs.Slots.{part_none}
 use Rattle.sweeps.specs.Sweeps.{ShedsAll}
 
 -- past the 64 sessions of a state there is none
-pub view-past : (l : List ℕ) (k : ℕ) → 64 ≤ k → (view l).sessions k ≡ closedSession
+pub view-past : (l : List ℕ) (k : ℕ) → 64 ≤ k → (view l).sessions k ≡ closed_session
 unfolding view
-view-past l k h = rw (part_none l ownersAt 64 k h, part_none l activeAt 64 k h)
+view-past l k h = rw (part_none l owners_at 64 k h, part_none l active_at 64 k h)
 
 -- the same of equal tables
 pub sheds-same : {j j' a a' : ℕ → ℕ} {s s' : ℕ → Session} (x : List ℕ) → j ≡ j' → a ≡ a' → s ≡ s' → ShedsAll j a s x → ShedsAll j' a' s' x
@@ -37,20 +37,20 @@ shedded-active juniors assigned s = go s.live
     go false = refl
 
 -- no session sheds nothing
-shedded-none : (juniors assigned : ℕ → ℕ) → shedded juniors assigned closedSession ≡ closedSession
+shedded-none : (juniors assigned : ℕ → ℕ) → shedded juniors assigned closed_session ≡ closed_session
 unfolding shedded
 shedded-none juniors assigned = refl
 
 module _ (m : Model) (kept : List ℕ) (sheds : ShedsAll m.juniors m.assigned m.sessions kept) where
   -- the sessions that it leaves are those of the model after shedding
-  pub shed-after : ((k : ℕ) → 64 ≤ k → m.sessions k ≡ closedSession) → shed m ≡ withSessions m (withActive m.sessions (part kept 0 64))
+  pub shed_after : ((k : ℕ) → 64 ≤ k → m.sessions k ≡ closed_session) → shed m ≡ with_sessions m (with_active m.sessions (part kept 0 64))
   unfolding shed
-  shed-after past = ap (withSessions m) (fun_ext (λ k. go k (dec_lt k 64)))
+  shed-after past = ap (with_sessions m) (fun_ext (λ k. go k (dec_lt k 64)))
     where
-      go : (k : ℕ) → Dec (k < 64) → shedded m.juniors m.assigned (m.sessions k) ≡ withActive m.sessions (part kept 0 64) k
+      go : (k : ℕ) → Dec (k < 64) → shedded m.juniors m.assigned (m.sessions k) ≡ with_active m.sessions (part kept 0 64) k
       go k (yes p) = shedded-active m.juniors m.assigned (m.sessions k) ∙ ap (λ (x : ℕ). record { live = (m.sessions k).live; owner = (m.sessions k).owner; active = x }) (sym (get_or-take 64 kept k 0 p ∙ sheds.each k p))
       go k (no p) = let z : 64 ≤ k = omega arith in rw (past k z, part_none kept 0 64 k z) (shedded-none m.juniors m.assigned)
 
   -- a state that holds the model, and then stores what each session keeps, holds the model after shedding
-  pub shed-stored : ((k : ℕ) → 64 ≤ k → m.sessions k ≡ closedSession) → (between after : Model) → between ≡ m → after ≡ withSessions between (withActive between.sessions (part kept 0 64)) → after ≡ shed m
-  shed-stored past between after stored e = e ∙ ap (λ (x : Model). withSessions x (withActive x.sessions (part kept 0 64))) stored ∙ sym (shed-after past)
+  pub shed_stored : ((k : ℕ) → 64 ≤ k → m.sessions k ≡ closed_session) → (between after : Model) → between ≡ m → after ≡ with_sessions between (with_active between.sessions (part kept 0 64)) → after ≡ shed m
+  shed-stored past between after stored e = e ∙ ap (λ (x : Model). with_sessions x (with_active x.sessions (part kept 0 64))) stored ∙ sym (shed-after past)

@@ -17,11 +17,11 @@ module _ (old new : ℕ → ℕ) where
     pub done : (k : ℕ) → k < n → table_of l k ≡ new k
     pub left : (k : ℕ) → n ≤ k → table_of l k ≡ old k
 
-  pub swept-start : (size : ℕ) (l : List ℕ) → length l ≡ size → ((k : ℕ) → table_of l k ≡ old k) → Swept size 0 l
+  pub swept_start : (size : ℕ) (l : List ℕ) → length l ≡ size → ((k : ℕ) → table_of l k ≡ old k) → Swept size 0 l
   swept-start size l e h = record { long = e; done = λ k p. absurd (omega arith); left = λ k p. h k }
 
   -- the new value is written at the next place
-  pub swept-store : (size n : ℕ) (l : List ℕ) (v : ℕ) → n < size → v ≡ new n → Swept size n l → Swept size (n + 1) (set l n v)
+  pub swept_store : (size n : ℕ) (l : List ℕ) (v : ℕ) → n < size → v ≡ new n → Swept size n l → Swept size (n + 1) (set l n v)
   swept-store size n l v h e s = record { long = length-set l n v ∙ s.long; done = λ k p. go k (last-or-below k n (omega arith)); left = λ k p. get_or-set_other l n k v 0 (λ q. omega arith) ∙ s.left k (omega arith) }
     where
       go : (k : ℕ) → (k ≡ n) ⊎ (k < n) → table_of (set l n v) k ≡ new k

@@ -5,20 +5,20 @@ use Rattle.roleset.specs.Roles.{without}
 use Rattle.hierarchy.specs.Lines.{table_of}
 use Rattle.hierarchy.specs.Walks.{reach}
 use Rattle.model.specs.Model.{Model, Session}
-use Rattle.model.specs.Words.{breaksSome, shedded}
-use Rattle.model.specs.commands.Sets.{setsOf, asked_of}
+use Rattle.model.specs.Words.{breaks_some, shedded}
+use Rattle.model.specs.commands.Sets.{sets_of, asked_of}
 use Rattle.model.specs.commands.Users.{holding}
 use Rattle.model.specs.declared.Kind.{Kind}
 use Rattle.model.specs.declared.Kind.TheVariants.{Static, Dynamic}
 
 -- the roles that one of those has itself of whom a rule of the kind is asked: those assigned to the user, or those active in the session
-abbrev pub ownRoles : Kind → Model → ℕ → ℕ
-ownRoles Static m u = m.assigned u
-ownRoles Dynamic m s = (m.sessions s).active
+abbrev pub own_roles : Kind → Model → ℕ → ℕ
+own_roles Static m u = m.assigned u
+own_roles Dynamic m s = (m.sessions s).active
 
 -- the rule of the kind is broken for some user, or in some session, of m, with these lines
-abbrev pub asksRule : Kind → Model → (ℕ → ℕ) → Bool
-asksRule kind m juniors = some (asked_of kind) (λ i. breaksSome (setsOf kind m) (reach juniors (ownRoles kind m i)))
+abbrev pub asks_rule : Kind → Model → (ℕ → ℕ) → Bool
+asks_rule kind m juniors = some (asked_of kind) (λ i. breaks_some (sets_of kind m) (reach juniors (own_roles kind m i)))
 
 -- b says whether one of those who have these roles themselves breaks the rule with all that these inherit by the lines, where having no role does not
 abbrev pub Asked : (ℕ → Bool) → (ℕ → ℕ) → List ℕ → Bool → Type 0

@@ -1,13 +1,14 @@
 // Sweeps over all users and over all sessions of the lent state, one walk each. Where lines or assignments are to change, a sweep goes over tables as they will be, and nothing is stored yet.
+#![tactic(auto)]
 ghost use Rattle.std.specs.Prelude.{◌≡◌};
 ghost use Rattle.hierarchy.specs.Lines.{table_of};
 ghost use Rattle.model.specs.Model.{Session};
-ghost use Rattle.model.specs.Words.{breaks, breaksSome, shedded};
-ghost use Rattle.model.specs.commands.Sessions.{lowestFree};
-ghost use Rattle.model.specs.commands.Sets.{setsOf, broken};
-ghost use Rattle.model.specs.commands.Users.{openOf, allEnded, hasOpen};
+ghost use Rattle.model.specs.Words.{breaks, breaks_some, shedded};
+ghost use Rattle.model.specs.commands.Sessions.{lowest_free};
+ghost use Rattle.model.specs.commands.Sets.{sets_of, broken};
+ghost use Rattle.model.specs.commands.Users.{open_of, all_ended, has_open};
 ghost use Rattle.state.specs.View.{part, view};
-ghost use Rattle.sweeps.specs.Sweeps.{asksRule, Asked, ShedsAll, Strips};
+ghost use Rattle.sweeps.specs.Sweeps.{asks_rule, Asked, ShedsAll, Strips};
 
 use model::{Kind, RoleSet, SessionRecord};
 use numbers::{Role, Session, User};
@@ -27,7 +28,7 @@ fn ask_each<'a>(
     juniors: &'a [u64; 64],
     own: &'a [u64],
 ) -> bool
-    ensures { Asked (breaksSome (setsOf kind (view state.now))) (table_of juniors.now) own.now result }
+    ensures { Asked (breaks_some (sets_of kind (view state.now))) (table_of juniors.now) own.now result }
 {
     let mut i: usize = 0;
     while i < own.len() {
@@ -45,7 +46,7 @@ fn ask_each<'a>(
 
 // Is a rule of the kind broken for some user, or in some session, with these lines? Where having no role breaks one, everybody does; where having all 64 breaks none, nobody does, so that with no set of the kind there is no sweep.
 pub fn ask_rule<'a>(state: &'a [u64; PLACES], kind: Kind, juniors: &'a [u64; 64]) -> bool
-    ensures { result ≡ asksRule kind (view state.now) (table_of juniors.now) }
+    ensures { result ≡ asks_rule kind (view state.now) (table_of juniors.now) }
 {
     if breaks_some(state, kind, 0) {
         return true;
@@ -126,7 +127,7 @@ pub fn shed<'a>(
 
 // Is the session open, and the user's? A closed one has the owner 0, so the owner alone does not tell.
 fn open_of(session: SessionRecord, u: User) -> bool
-    ensures { result ≡ openOf u.number session }
+    ensures { result ≡ open_of u.number session }
 {
     let live = session.live;
     let owner = session.owner;
@@ -142,7 +143,7 @@ fn open_of(session: SessionRecord, u: User) -> bool
 
 // The sessions of the user end; another's stay.
 pub fn end_all(state: &mut [u64; PLACES], u: User)
-    ensures { view state.new ≡ allEnded (view state.old) u.number }
+    ensures { view state.new ≡ all_ended (view state.old) u.number }
 {
     let mut k: u16 = 0;
     while k < 64 {
@@ -157,7 +158,7 @@ pub fn end_all(state: &mut [u64; PLACES], u: User)
 
 // Has the user an open session? The first one ends the sweep.
 pub fn has_open(state: &[u64; PLACES], u: User) -> bool
-    ensures { result ≡ hasOpen (view state.now) u.number }
+    ensures { result ≡ has_open (view state.now) u.number }
 {
     let mut at: u16 = 0;
     while at < 64 {
@@ -172,7 +173,7 @@ pub fn has_open(state: &[u64; PLACES], u: User) -> bool
 
 // The session with the lowest number that no live one has; session 64, which is beyond its range, where there is none.
 pub fn lowest_free(state: &[u64; PLACES]) -> Session
-    ensures { result ≡ record { number = lowestFree (view state.now) } }
+    ensures { result ≡ record { number = lowest_free (view state.now) } }
 {
     let mut k: u16 = 0;
     while k < 64 {

@@ -10,7 +10,7 @@ use Rattle.roleset.specs.Bounded.{only_if, members}
 use lib.ListN.{length, drop, get_or, length-append}
 use lib.Seq.{get_or-drop, drop-drop, drop-append_seam}
 use Rattle.text.specs.Bytes.{two, flat, section}
-use Rattle.text.specs.Places.{word_at, again, at_most, readSection}
+use Rattle.text.specs.Places.{word_at, again, at_most, read_section}
 
 -- what stands from a place on
 pub record Stands (bytes : List ℕ) (at : ℕ) (front rest : List ℕ) : Type 0 where
@@ -70,7 +70,7 @@ at-most-le most n = go (ltb most n) refl
 
 -- Entry after entry: where a step reads the entry that stands at its place, all of them are read, and the place is past them.
 module _ {A : Type 0} (bytes : List ℕ) (put : ℕ → List ℕ) (act : A → ℕ → A) (step : ℕ × A → ℕ × A) (P : ℕ → Type 0) (one : (k at : ℕ) (a : A) (rest : List ℕ) → P k → Stands bytes at (put k) rest → step (at, a) ≡ (at + length (put k), act a k)) where
-  pub again-flat : (ks : List ℕ) → Each P ks → (at : ℕ) (a : A) (rest : List ℕ) → Stands bytes at (flat put ks) rest → again step (length ks) (at, a) ≡ (at + length (flat put ks), foldl act a ks)
+  pub again_flat : (ks : List ℕ) → Each P ks → (at : ℕ) (a : A) (rest : List ℕ) → Stands bytes at (flat put ks) rest → again step (length ks) (at, a) ≡ (at + length (flat put ks), foldl act a ks)
   unfolding flat again
   again-flat [] p at a rest s = ap (λ (n : ℕ). (n, a)) (omega arith)
   again-flat (k ∷ ks) p at a rest s =
@@ -78,8 +78,8 @@ module _ {A : Type 0} (bytes : List ℕ) (put : ℕ → List ℕ) (act : A → �
       ∙ again-flat ks p.1 (at + length (put k)) (act a k) rest (stands-right (put k) (flat put ks) s)
       ∙ ap (λ (n : ℕ). (n, foldl act (act a k) ks)) (omega (arith, length-append (put k) (flat put ks)))
 
-  pub section-back : (most : ℕ) → most < 65536 → (ks : List ℕ) → length ks ≤ most → Each P ks → (at : ℕ) (a : A) (rest : List ℕ) → Stands bytes at (section put ks) rest → readSection bytes most step at a ≡ (at + length (section put ks), foldl act a ks)
-  unfolding section readSection
+  pub section_back : (most : ℕ) → most < 65536 → (ks : List ℕ) → length ks ≤ most → Each P ks → (at : ℕ) (a : A) (rest : List ℕ) → Stands bytes at (section put ks) rest → read_section bytes most step at a ≡ (at + length (section put ks), foldl act a ks)
+  unfolding section read_section
   section-back most l ks h p at a rest s =
       ap (λ (n : ℕ). again step n (at + 2, a)) (ap (at_most most) (word_back (length ks) (omega arith) (stands-left (two (length ks)) (flat put ks) s)) ∙ at-most most (length ks) h)
       ∙ again-flat ks p (at + 2) a rest (stands-right (two (length ks)) (flat put ks) s)

@@ -22,5 +22,5 @@ again step (suc n) a = again step n (step a)
 
 -- A section as it is read, without asking whether it is one: the count at the place, and then so many steps, at most `most`. A step
 -- takes the place and what was read so far to the next place and what is read then.
-unfoldable pub readSection : {A : Type 0} → List ℕ → ℕ → (ℕ × A → ℕ × A) → ℕ → A → ℕ × A
-readSection bytes most step at a = again step (at_most most (word_at bytes at)) (at + 2, a)
+unfoldable pub read_section : {A : Type 0} → List ℕ → ℕ → (ℕ × A → ℕ × A) → ℕ → A → ℕ × A
+read_section bytes most step at a = again step (at_most most (word_at bytes at)) (at + 2, a)

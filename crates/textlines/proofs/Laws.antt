@@ -10,7 +10,7 @@ use lib.Dec.{eqb}
 use lib.ListN.{length, get_or, take, drop, drop_of_length-le, length-drop}
 use lib.Seq.{drop-cons, drop-drop}
 use borrow.Author.Tests.{eq-eqb, ne_eqb}
-use Rattle.textlines.specs.Parts.{joined, parts_of, up_to, partAt, placePast}
+use Rattle.textlines.specs.Parts.{joined, parts_of, up_to, part_at, place_past}
 
 -- ---- the first part, byte by byte
 
@@ -69,40 +69,40 @@ parts_next stop b (x ∷ l) = one_more stop b (x ∷ l) (ap (joined b) (parts_ne
 
 module _ (stop : ℕ) (s : List ℕ) (at : ℕ) where
   -- at a stop byte, at another byte, and at the end
-  pub part-stops : at < length s → get_or s at 0 ≡ stop → partAt stop s at ≡ []
+  pub part_stops : at < length s → get_or s at 0 ≡ stop → part_at stop s at ≡ []
   part-stops h e = rw (drop-cons s at 0 h) (at-stop stop (get_or s at 0) (drop (suc at) s) (eq-eqb (get_or s at 0) stop e))
 
-  pub part-goes-on : at < length s → (get_or s at 0 ≡ stop → ⊥) → partAt stop s at ≡ get_or s at 0 ∷ partAt stop s (at + 1)
+  pub part_goes_on : at < length s → (get_or s at 0 ≡ stop → ⊥) → part_at stop s at ≡ get_or s at 0 ∷ part_at stop s (at + 1)
   part-goes-on h n = rw (drop-cons s at 0 h, add-one at) (before-stop stop (get_or s at 0) (drop (suc at) s) (ne_eqb (get_or s at 0) stop n))
 
-  pub part_none : length s ≤ at → partAt stop s at ≡ []
+  pub part_none : length s ≤ at → part_at stop s at ≡ []
   unfolding up_to
   part_none h = rw (drop_of_length-le s h)
 
   -- the part ends within the text
-  pub part-within : at ≤ length s → at + length (partAt stop s at) ≤ length s
+  pub part_within : at ≤ length s → at + length (part_at stop s at) ≤ length s
   part-within h = omega (arith, up-short stop (drop at s), length-drop at s)
 
-  pub part-front : take (length (partAt stop s at)) (drop at s) ≡ partAt stop s at
-  part-front = up-front stop (drop at s)
+  pub part_front : take (length (part_at stop s at)) (drop at s) ≡ part_at stop s at
+  part_front = up-front stop (drop at s)
 
   -- what is left after a part
-  pub after : drop (placePast stop s at) s ≡ After stop (drop at s)
-  after = go (dec_lt (at + length (partAt stop s at) + 1) (length s))
+  pub after : drop (place_past stop s at) s ≡ After stop (drop at s)
+  after = go (dec_lt (at + length (part_at stop s at) + 1) (length s))
     where
-      whole : drop (at + length (partAt stop s at) + 1) s ≡ After stop (drop at s)
-      whole = let e : at + length (partAt stop s at) + 1 ≡ at + suc (length (partAt stop s at)) = omega arith in rw e (sym (drop-drop (suc (length (partAt stop s at))) at s))
+      whole : drop (at + length (part_at stop s at) + 1) s ≡ After stop (drop at s)
+      whole = let e : at + length (part_at stop s at) + 1 ≡ at + suc (length (part_at stop s at)) = omega arith in rw e (sym (drop-drop (suc (length (part_at stop s at))) at s))
 
-      go : Dec (at + length (partAt stop s at) + 1 < length s) → drop (placePast stop s at) s ≡ After stop (drop at s)
-      go (yes h) = let e : placePast stop s at ≡ at + length (partAt stop s at) + 1 = omega arith in rw e whole
-      go (no h) = let e : placePast stop s at ≡ length s = omega arith in let p : length s ≤ length s = omega arith in let q : length s ≤ at + length (partAt stop s at) + 1 = omega arith in rw e (drop_of_length-le s p ∙ sym (drop_of_length-le s q) ∙ whole)
+      go : Dec (at + length (part_at stop s at) + 1 < length s) → drop (place_past stop s at) s ≡ After stop (drop at s)
+      go (yes h) = let e : place_past stop s at ≡ at + length (part_at stop s at) + 1 = omega arith in rw e whole
+      go (no h) = let e : place_past stop s at ≡ length s = omega arith in let p : length s ≤ length s = omega arith in let q : length s ≤ at + length (part_at stop s at) + 1 = omega arith in rw e (drop_of_length-le s p ∙ sym (drop_of_length-le s q) ∙ whole)
 
-  pub parts_at : at < length s → parts_of stop (drop at s) ≡ partAt stop s at ∷ parts_of stop (drop (placePast stop s at) s)
+  pub parts_at : at < length s → parts_of stop (drop at s) ≡ part_at stop s at ∷ parts_of stop (drop (place_past stop s at) s)
   parts_at h = rw (after, drop-cons s at 0 h) (parts_next stop (get_or s at 0) (drop (suc at) s))
 
   pub parts_none : length s ≤ at → parts_of stop (drop at s) ≡ []
   unfolding parts_of
   parts_none h = rw (drop_of_length-le s h)
 
-  pub past_more : at < length s → at < placePast stop s at
+  pub past_more : at < length s → at < place_past stop s at
   past_more h = omega arith

@@ -17,9 +17,9 @@ up_to stop [] = []
 up_to stop (b ∷ rest) = elim (eqb b stop) [ true ↦ [] | false ↦ b ∷ up_to stop rest ]
 
 -- the part that starts at a place of a text
-abbrev pub partAt : ℕ → List ℕ → ℕ → List ℕ
-partAt stop s at = up_to stop (drop at s)
+abbrev pub part_at : ℕ → List ℕ → ℕ → List ℕ
+part_at stop s at = up_to stop (drop at s)
 
 -- the place past that part and its stop byte, which is never past the end of the text
-abbrev pub placePast : ℕ → List ℕ → ℕ → ℕ
-placePast stop s at = min (at + length (partAt stop s at) + 1) (length s)
+abbrev pub place_past : ℕ → List ℕ → ℕ → ℕ
+place_past stop s at = min (at + length (part_at stop s at) + 1) (length s)

@@ -1,12 +1,13 @@
 // A text in parts, read one after another, and the count of a script's lines.
+#![tactic(auto)]
 ghost use Rattle.std.specs.Prelude.{◌≡◌, ◌+◌, ◌≤◌, length};
-ghost use Rattle.textlines.specs.Parts.{partAt, placePast};
-ghost use Rattle.textlines.specs.Tallies.{counted, oneMore};
+ghost use Rattle.textlines.specs.Parts.{part_at, place_past};
+ghost use Rattle.textlines.specs.Tallies.{counted, one_more};
 
 // The place where the part that starts at a place ends: the next stop byte, or the end of the text.
 fn end_of(s: &[u8], at: usize, stop: u8) -> usize
     requires { at ≤ length s.now }
-    ensures { result ≡ at + length (partAt stop s.now at) }
+    ensures { result ≡ at + length (part_at stop s.now at) }
 {
     let mut end = at;
     while end < s.len() {
@@ -20,7 +21,7 @@ fn end_of(s: &[u8], at: usize, stop: u8) -> usize
 
 // The part that starts at a place. At the end of the text, and past it, there is an empty one.
 pub fn part_at(s: &[u8], at: usize, stop: u8) -> &[u8]
-    ensures { result.now ≡ partAt stop s.now at }
+    ensures { result.now ≡ part_at stop s.now at }
 {
     if at <= s.len() {
         let end = end_of(s, at, stop);
@@ -32,7 +33,7 @@ pub fn part_at(s: &[u8], at: usize, stop: u8) -> &[u8]
 
 // The place past that part and its stop byte.
 pub fn past(s: &[u8], at: usize, stop: u8) -> usize
-    ensures { result ≡ placePast stop s.now at }
+    ensures { result ≡ place_past stop s.now at }
 {
     if s.len() <= at {
         return s.len();
@@ -50,7 +51,7 @@ pub struct Reader<'a> {
 
 // The next part, a line or a number, and the reader moves past it.
 pub fn next<'s, 'a>(r: &'s mut Reader<'a>, stop: u8) -> &'a [u8]
-    ensures { (result.now ≡ partAt stop r.old.src.now r.old.at) × ((r.new.src ≡ r.old.src) × (r.new.at ≡ placePast stop r.old.src.now r.old.at)) }
+    ensures { (result.now ≡ part_at stop r.old.src.now r.old.at) × ((r.new.src ≡ r.old.src) × (r.new.at ≡ place_past stop r.old.src.now r.old.at)) }
 {
     let src = r.src;
     let at = r.at;
@@ -60,7 +61,7 @@ pub fn next<'s, 'a>(r: &'s mut Reader<'a>, stop: u8) -> &'a [u8]
 
 // The same on a plain text and a place, for callers that keep no reader.
 pub fn next_from<'a, 'b>(s: &'a [u8], at: &'b mut usize, stop: u8) -> &'a [u8]
-    ensures { (result.now ≡ partAt stop s.now at.old) × (at.new ≡ placePast stop s.now at.old) }
+    ensures { (result.now ≡ part_at stop s.now at.old) × (at.new ≡ place_past stop s.now at.old) }
 {
     let mut r = Reader { src: s, at: *at };
     let p = next(&mut r, stop);
@@ -77,7 +78,7 @@ pub struct Tally {
 
 // One more, or the most that the counter holds.
 fn one_more(n: u16) -> u16
-    ensures { result ≡ oneMore n }
+    ensures { result ≡ one_more n }
 {
     if n < 65535 { n + 1 } else { n }
 }

@@ -14,10 +14,10 @@ use Rattle.sound.proofs.Empty.{empty-sound}
 use Rattle.sound.proofs.Sheet.{settle-done}
 use Rattle.textlines.specs.Parts.{joined, parts_of}
 use Rattle.textlines.proofs.Laws.{cut, kept}
-use Rattle.script.specs.Script.{lineFeed, run_from, runScript, obey, afterLines, afterScript}
+use Rattle.script.specs.Script.{line_feed, run_from, run_script, obey, after_lines, after_script}
 use Rattle.script.proofs.Turning.{leaves_lines, leaves-it}
 use Rattle.program.proofs.Whole.{whole_from}
-use Rattle.policyform.specs.Rules.{rulesBroken}
+use Rattle.policyform.specs.Rules.{rules_broken}
 use Rattle.policyfile.proofs.Laws.{empty-file}
 use Rattle.policyfile.proofs.Sounding.{sound-formed, sound-clear}
 use Rattle.demands.specs.Reachable.{Reachable, start, loaded}
@@ -28,22 +28,22 @@ use Rattle.transcripts.proofs.ScriptLines.{script-lines}
 
 -- ---- what a script leaves can be reached
 
-lines-reach : (m : Model) (lines : List (List ℕ)) → Reachable m → Reachable (afterLines m lines)
-unfolding afterLines
+lines-reach : (m : Model) (lines : List (List ℕ)) → Reachable m → Reachable (after_lines m lines)
+unfolding after_lines
 lines-reach m [] r = r
 lines-reach m (text ∷ rest) r = lines-reach (obey m text).after rest (script-lines.reachable m text r)
 
-script-reaches : (script : List ℕ) (m : Model) → Reachable m → Reachable (afterScript m script)
+script-reaches : (script : List ℕ) (m : Model) → Reachable m → Reachable (after_script m script)
 script-reaches script m r = go (dec_lt 32768 (length script))
   where
-    go : Dec (32768 < length script) → Reachable (afterScript m script)
+    go : Dec (32768 < length script) → Reachable (after_script m script)
     go (yes h) = subst Reachable (sym (leaves-it m script h)) r
-    go (no h) = subst Reachable (sym (leaves_lines m script (omega arith))) (lines-reach m (parts_of lineFeed (drop 0 script)) r)
+    go (no h) = subst Reachable (sym (leaves_lines m script (omega arith))) (lines-reach m (parts_of line_feed (drop 0 script)) r)
 
 -- ---- a script in two halves
 
-lines_then : (m : Model) (first second : List (List ℕ)) → afterLines (afterLines m first) second ≡ afterLines m (first ++ second)
-unfolding afterLines
+lines_then : (m : Model) (first second : List (List ℕ)) → after_lines (after_lines m first) second ≡ after_lines m (first ++ second)
+unfolding after_lines
 lines_then m [] second = refl
 lines_then m (text ∷ rest) second = lines_then (obey m text).after rest second
 
@@ -56,49 +56,49 @@ joined-some : (b : ℕ) (parts : List (List ℕ)) → joined b parts ≡ [] → 
 joined-some b [] e = omega (arith, ap length e)
 joined-some b (part ∷ parts) e = omega (arith, ap length e)
 
-parts-some : (first : List ℕ) → parts_of lineFeed (first ++ (lineFeed ∷ [])) ≡ [] → ⊥
-parts-some [] e = omega (arith, ap length (sym (cut lineFeed lineFeed [] (eq-eqb lineFeed lineFeed refl)) ∙ e))
-parts-some (b ∷ first) e = go (eqb b lineFeed) refl
+parts-some : (first : List ℕ) → parts_of line_feed (first ++ (line_feed ∷ [])) ≡ [] → ⊥
+parts-some [] e = omega (arith, ap length (sym (cut line_feed line_feed [] (eq-eqb line_feed line_feed refl)) ∙ e))
+parts-some (b ∷ first) e = go (eqb b line_feed) refl
   where
-    go : (t : Bool) → eqb b lineFeed ≡ t → ⊥
-    go true is = omega (arith, ap length (sym (cut lineFeed b (first ++ (lineFeed ∷ [])) is) ∙ e))
-    go false is = joined-some b (parts_of lineFeed (first ++ (lineFeed ∷ []))) (sym (kept lineFeed b (first ++ (lineFeed ∷ [])) is) ∙ e)
+    go : (t : Bool) → eqb b line_feed ≡ t → ⊥
+    go true is = omega (arith, ap length (sym (cut line_feed b (first ++ (line_feed ∷ [])) is) ∙ e))
+    go false is = joined-some b (parts_of line_feed (first ++ (line_feed ∷ []))) (sym (kept line_feed b (first ++ (line_feed ∷ [])) is) ∙ e)
 
-parts_then : (first second : List ℕ) → parts_of lineFeed (first ++ (lineFeed ∷ second)) ≡ parts_of lineFeed (first ++ (lineFeed ∷ [])) ++ parts_of lineFeed second
+parts_then : (first second : List ℕ) → parts_of line_feed (first ++ (line_feed ∷ second)) ≡ parts_of line_feed (first ++ (line_feed ∷ [])) ++ parts_of line_feed second
 unfolding parts_of
-parts_then [] second = cut lineFeed lineFeed second (eq-eqb lineFeed lineFeed refl) ∙ ap (λ (l : List (List ℕ)). l ++ parts_of lineFeed second) (sym (cut lineFeed lineFeed [] (eq-eqb lineFeed lineFeed refl)))
-parts_then (b ∷ first) second = go (eqb b lineFeed) refl (parts_then first second)
+parts_then [] second = cut line_feed line_feed second (eq-eqb line_feed line_feed refl) ∙ ap (λ (l : List (List ℕ)). l ++ parts_of line_feed second) (sym (cut line_feed line_feed [] (eq-eqb line_feed line_feed refl)))
+parts_then (b ∷ first) second = go (eqb b line_feed) refl (parts_then first second)
   where
-    go : (t : Bool) → eqb b lineFeed ≡ t → parts_of lineFeed (first ++ (lineFeed ∷ second)) ≡ parts_of lineFeed (first ++ (lineFeed ∷ [])) ++ parts_of lineFeed second → parts_of lineFeed (b ∷ (first ++ (lineFeed ∷ second))) ≡ parts_of lineFeed (b ∷ (first ++ (lineFeed ∷ []))) ++ parts_of lineFeed second
-    go true is e = cut lineFeed b (first ++ (lineFeed ∷ second)) is ∙ ap (λ (l : List (List ℕ)). [] ∷ l) e ∙ ap (λ (l : List (List ℕ)). l ++ parts_of lineFeed second) (sym (cut lineFeed b (first ++ (lineFeed ∷ [])) is))
+    go : (t : Bool) → eqb b line_feed ≡ t → parts_of line_feed (first ++ (line_feed ∷ second)) ≡ parts_of line_feed (first ++ (line_feed ∷ [])) ++ parts_of line_feed second → parts_of line_feed (b ∷ (first ++ (line_feed ∷ second))) ≡ parts_of line_feed (b ∷ (first ++ (line_feed ∷ []))) ++ parts_of line_feed second
+    go true is e = cut line_feed b (first ++ (line_feed ∷ second)) is ∙ ap (λ (l : List (List ℕ)). [] ∷ l) e ∙ ap (λ (l : List (List ℕ)). l ++ parts_of line_feed second) (sym (cut line_feed b (first ++ (line_feed ∷ [])) is))
     go false is e =
-        kept lineFeed b (first ++ (lineFeed ∷ second)) is
+        kept line_feed b (first ++ (line_feed ∷ second)) is
         ∙ ap (joined b) e
-        ∙ joined-first b (parts_of lineFeed (first ++ (lineFeed ∷ []))) (parts_of lineFeed second) (parts-some first)
-        ∙ ap (λ (l : List (List ℕ)). l ++ parts_of lineFeed second) (sym (kept lineFeed b (first ++ (lineFeed ∷ [])) is))
+        ∙ joined-first b (parts_of line_feed (first ++ (line_feed ∷ []))) (parts_of line_feed second) (parts-some first)
+        ∙ ap (λ (l : List (List ℕ)). l ++ parts_of line_feed second) (sym (kept line_feed b (first ++ (line_feed ∷ [])) is))
 
-halves : (m : Model) (first second : List ℕ) → length (first ++ (lineFeed ∷ second)) ≤ 32768 → afterScript (afterScript m (first ++ (lineFeed ∷ []))) second ≡ afterScript m (first ++ (lineFeed ∷ second))
+halves : (m : Model) (first second : List ℕ) → length (first ++ (line_feed ∷ second)) ≤ 32768 → after_script (after_script m (first ++ (line_feed ∷ []))) second ≡ after_script m (first ++ (line_feed ∷ second))
 halves m first second h =
-    let n : length (first ++ (lineFeed ∷ [])) ≤ 32768 = omega (arith, length-append first (lineFeed ∷ []), length-append first (lineFeed ∷ second)) in
-    let k : length second ≤ 32768 = omega (arith, length-append first (lineFeed ∷ second)) in
+    let n : length (first ++ (line_feed ∷ [])) ≤ 32768 = omega (arith, length-append first (line_feed ∷ []), length-append first (line_feed ∷ second)) in
+    let k : length second ≤ 32768 = omega (arith, length-append first (line_feed ∷ second)) in
     leaves_lines _ second k
-    ∙ ap (λ (x : Model). afterLines x (parts_of lineFeed second)) (leaves_lines m (first ++ (lineFeed ∷ [])) n)
-    ∙ lines_then m (parts_of lineFeed (first ++ (lineFeed ∷ []))) (parts_of lineFeed second)
-    ∙ ap (afterLines m) (sym (parts_then first second))
-    ∙ sym (leaves_lines m (first ++ (lineFeed ∷ second)) h)
+    ∙ ap (λ (x : Model). after_lines x (parts_of line_feed second)) (leaves_lines m (first ++ (line_feed ∷ [])) n)
+    ∙ lines_then m (parts_of line_feed (first ++ (line_feed ∷ []))) (parts_of line_feed second)
+    ∙ ap (after_lines m) (sym (parts_then first second))
+    ∙ sym (leaves_lines m (first ++ (line_feed ∷ second)) h)
 
 -- ----
 
 pub desk : Desk
-unfolding runScript
+unfolding run_script
 desk =
     record {
       prints = λ script out l last r b runs. (whole_from script out l last r b runs).0;
       leaves = λ script out l last r b runs. (whole_from script out l last r b runs).1;
-      new = inr (record { model = empty; file = record { formed = sound-formed empty empty-sound; written = empty-file }; tells = sym (settle-done (rulesBroken empty) empty [] empty (sound-clear empty empty-sound)) });
+      new = inr (record { model = empty; file = record { formed = sound-formed empty empty-sound; written = empty-file }; tells = sym (settle-done (rules_broken empty) empty [] empty (sound-clear empty empty-sound)) });
       from_empty = λ script. refl;
       reachable = script-reaches;
-      rules = λ file script m h. demand3.rules (afterScript m script) (script-reaches script m (loaded start file _ h));
-      again = λ file script m before told h l. faithful.itself (afterScript m script) before told (script-reaches script m (loaded start file _ h)) l;
+      rules = λ file script m h. demand3.rules (after_script m script) (script-reaches script m (loaded start file _ h));
+      again = λ file script m before told h l. faithful.itself (after_script m script) before told (script-reaches script m (loaded start file _ h)) l;
       halves = halves;
     }

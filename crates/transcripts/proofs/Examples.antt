@@ -3,46 +3,46 @@ use mathlib.Core.Bool.{true}
 use mathlib.Core.Path.{◌≡◌, refl}
 use Rattle.roleset.specs.Bounded.{some, every, tally, total, members}
 use Rattle.roleset.specs.Roles.{has, pack, those, with, without, union, common, minus, subset, is_empty, count}
-use Rattle.hierarchy.specs.Walks.{juniorsOf, walk, reach}
-use Rattle.model.specs.Lists.{rising, someFrom, listed, setOf, upToFirst}
+use Rattle.hierarchy.specs.Walks.{juniors_of, walk, reach}
+use Rattle.model.specs.Lists.{rising, some_from, listed, set_of, up_to_first}
 use Rattle.model.specs.Model.{empty, put}
-use Rattle.model.specs.Questions.{ask, assignedUsers, assignedRoles, authRoles, sessionRoles}
+use Rattle.model.specs.Questions.{ask, assigned_users, assigned_roles, auth_roles, session_roles}
 use Rattle.model.specs.Sheet.{verdict, settle}
 use Rattle.model.specs.Step.{step}
-use Rattle.model.specs.Words.{breaks, breaksSome, staticBroken, dynamicBroken, shedded, shed, assignments, grants, linesStanding, sessionsOpen}
-use Rattle.model.specs.commands.Users.{user, role, ended_of, allEnded, endAll, hasOpen, withoutUser, nouser, norole, in_set, withoutRole}
+use Rattle.model.specs.Words.{breaks, breaks_some, static_broken, dynamic_broken, shedded, shed, assignments, grants, lines_standing, sessions_open}
+use Rattle.model.specs.commands.Users.{user, role, ended_of, all_ended, end_all, has_open, without_user, nouser, norole, in_set, without_role}
 use Rattle.model.specs.commands.Assigning.{assign, assigned, deassign, deassigned, grant, granted}
 use Rattle.model.specs.commands.Inheriting.{inherit, lined, disinherit, unlined}
-use Rattle.model.specs.commands.Sets.{broken, makeSet, dropMember}
-use Rattle.model.specs.commands.Sessions.{freeFrom, opened, session, activeSet, activate, permitted, looked, check, end}
+use Rattle.model.specs.commands.Sets.{broken, make_set, drop_member}
+use Rattle.model.specs.commands.Sessions.{free_from, opened, session, active_set, activate, permitted, looked, check, end}
 use Rattle.words.specs.Bytes.{same}
 use Rattle.words.specs.ScriptWords.{words, spelling, takes, place_in, which}
-use Rattle.reading.specs.Form.{render, word_in, numbersIn, parse}
+use Rattle.reading.specs.Form.{render, word_in, numbers_in, parse}
 use Rattle.meaning.specs.Meaning.{meanings, meant}
-use Rattle.decimal.specs.Decimal.{decimal, lead, numbered, takenFrom}
+use Rattle.decimal.specs.Decimal.{decimal, lead, numbered, taken_from}
 use Rattle.textlines.specs.Parts.{parts_of, up_to}
-use Rattle.script.specs.Script.{obey, answerText, totalText}
+use Rattle.script.specs.Script.{obey, answer_text, total_text}
 use Rattle.transcripts.specs.Program.{example}
 use Rattle.transcripts.specs.Rows.{Prints}
 use Rattle.transcripts.specs.Story.{story}
 use Rattle.transcripts.specs.Leaver.{leaver}
 use Rattle.transcripts.specs.Student.{student}
-use Rattle.transcripts.proofs.Scripts.{plain, tallies, rightLines, noFeed, noFeeds, rightScript, prints-rows}
+use Rattle.transcripts.proofs.Scripts.{plain, tallies, right_lines, no_feed, no_feeds, right_script, prints-rows}
 
-paper-right : rightScript (plain example) "total 14 2" ≡ true
-unfolding some every tally total members has pack those with without union common minus subset is_empty count juniorsOf walk reach rising someFrom listed setOf upToFirst empty put ask assignedRoles authRoles sessionRoles verdict settle step breaks breaksSome staticBroken dynamicBroken shedded shed assignments grants linesStanding sessionsOpen user role norole in_set withoutRole assign assigned deassign deassigned grant granted inherit lined disinherit unlined broken makeSet dropMember freeFrom opened session activeSet activate permitted looked check end decimal lead numbered takenFrom same words spelling takes place_in which parts_of up_to render word_in numbersIn parse meanings meant obey answerText totalText tallies rightLines noFeed noFeeds rightScript
+paper-right : right_script (plain example) "total 14 2" ≡ true
+unfolding some every tally total members has pack those with without union common minus subset is_empty count juniors_of walk reach rising some_from listed set_of up_to_first empty put ask assigned_roles auth_roles session_roles verdict settle step breaks breaks_some static_broken dynamic_broken shedded shed assignments grants lines_standing sessions_open user role norole in_set without_role assign assigned deassign deassigned grant granted inherit lined disinherit unlined broken make_set drop_member free_from opened session active_set activate permitted looked check end decimal lead numbered taken_from same words spelling takes place_in which parts_of up_to render word_in numbers_in parse meanings meant obey answer_text total_text tallies right_lines no_feed no_feeds right_script
 paper-right = refl
 
-story-right : rightScript (plain story) "total 22 3" ≡ true
-unfolding some every tally total members has pack those with without union common minus subset is_empty count juniorsOf walk reach rising someFrom listed setOf upToFirst empty put ask assignedRoles authRoles sessionRoles verdict settle step breaks breaksSome staticBroken dynamicBroken shedded shed assignments grants linesStanding sessionsOpen user role norole in_set withoutRole assign assigned deassign deassigned grant granted inherit lined disinherit unlined broken makeSet dropMember freeFrom opened session activeSet activate permitted looked check end decimal lead numbered takenFrom same words spelling takes place_in which parts_of up_to render word_in numbersIn parse meanings meant obey answerText totalText tallies rightLines noFeed noFeeds rightScript
+story-right : right_script (plain story) "total 22 3" ≡ true
+unfolding some every tally total members has pack those with without union common minus subset is_empty count juniors_of walk reach rising some_from listed set_of up_to_first empty put ask assigned_roles auth_roles session_roles verdict settle step breaks breaks_some static_broken dynamic_broken shedded shed assignments grants lines_standing sessions_open user role norole in_set without_role assign assigned deassign deassigned grant granted inherit lined disinherit unlined broken make_set drop_member free_from opened session active_set activate permitted looked check end decimal lead numbered taken_from same words spelling takes place_in which parts_of up_to render word_in numbers_in parse meanings meant obey answer_text total_text tallies right_lines no_feed no_feeds right_script
 story-right = refl
 
-leaver-right : rightScript (plain leaver) "total 17 2" ≡ true
-unfolding some every tally total members has pack those with without union common minus subset is_empty count juniorsOf walk reach rising someFrom listed setOf upToFirst empty put ask assignedUsers assignedRoles authRoles sessionRoles verdict settle step breaks breaksSome staticBroken dynamicBroken shedded shed assignments grants linesStanding sessionsOpen user role ended_of allEnded endAll hasOpen withoutUser nouser norole in_set withoutRole assign assigned deassign deassigned grant granted inherit lined disinherit unlined broken makeSet dropMember freeFrom opened session activeSet activate permitted looked check end decimal lead numbered takenFrom same words spelling takes place_in which parts_of up_to render word_in numbersIn parse meanings meant obey answerText totalText tallies rightLines noFeed noFeeds rightScript
+leaver-right : right_script (plain leaver) "total 17 2" ≡ true
+unfolding some every tally total members has pack those with without union common minus subset is_empty count juniors_of walk reach rising some_from listed set_of up_to_first empty put ask assigned_users assigned_roles auth_roles session_roles verdict settle step breaks breaks_some static_broken dynamic_broken shedded shed assignments grants lines_standing sessions_open user role ended_of all_ended end_all has_open without_user nouser norole in_set without_role assign assigned deassign deassigned grant granted inherit lined disinherit unlined broken make_set drop_member free_from opened session active_set activate permitted looked check end decimal lead numbered taken_from same words spelling takes place_in which parts_of up_to render word_in numbers_in parse meanings meant obey answer_text total_text tallies right_lines no_feed no_feeds right_script
 leaver-right = refl
 
-student-right : rightScript (plain student) "total 21 4" ≡ true
-unfolding some every tally total members has pack those with without union common minus subset is_empty count juniorsOf walk reach rising someFrom listed setOf upToFirst empty put ask assignedUsers assignedRoles authRoles sessionRoles verdict settle step breaks breaksSome staticBroken dynamicBroken shedded shed assignments grants linesStanding sessionsOpen user role norole in_set withoutRole assign assigned deassign deassigned grant granted inherit lined disinherit unlined broken makeSet dropMember freeFrom opened session activeSet activate permitted looked check end decimal lead numbered takenFrom same words spelling takes place_in which parts_of up_to render word_in numbersIn parse meanings meant obey answerText totalText tallies rightLines noFeed noFeeds rightScript
+student-right : right_script (plain student) "total 21 4" ≡ true
+unfolding some every tally total members has pack those with without union common minus subset is_empty count juniors_of walk reach rising some_from listed set_of up_to_first empty put ask assigned_users assigned_roles auth_roles session_roles verdict settle step breaks breaks_some static_broken dynamic_broken shedded shed assignments grants lines_standing sessions_open user role norole in_set without_role assign assigned deassign deassigned grant granted inherit lined disinherit unlined broken make_set drop_member free_from opened session active_set activate permitted looked check end decimal lead numbered taken_from same words spelling takes place_in which parts_of up_to render word_in numbers_in parse meanings meant obey answer_text total_text tallies right_lines no_feed no_feeds right_script
 student-right = refl
 
 pub paper-printed : Prints example "total 14 2"

@@ -15,7 +15,7 @@ use Rattle.words.specs.ScriptWords.{word_of, spelling, takes}
 use Rattle.words.proofs.Tables.{fits}
 use Rattle.reading.specs.Form.{render, Small, Written, Parsed, line, noLine, parse}
 use Rattle.reading.proofs.Back.{written-parsed, parsed-written, none_written}
-use Rattle.transcripts.specs.LineForm.{Digits, valueAfter, NumberForm, NumberForms, spaced, LineForm, LineForms}
+use Rattle.transcripts.specs.LineForm.{Digits, value_after, NumberForm, NumberForms, spaced, LineForm, LineForms}
 
 -- the first of several digits is not 0
 not-leading : (a k : ℕ) → (a ≡ 48 → k ≡ 1) → (k ≡ 1 → ⊥) → 48 ≤ a → 49 ≤ a
@@ -35,17 +35,17 @@ not-le p q h = go (dec_lt q p)
 -- ---- what the writer writes is of the form
 
 module _ (n : ℕ) where
-  units : valueAfter (n / 10) (digit 1 n ∷ []) ≡ n
+  units : value_after (n / 10) (digit 1 n ∷ []) ≡ n
   units = omega arith
 
-  tens : valueAfter (n / 100) (digit 10 n ∷ digit 1 n ∷ []) ≡ n
-  tens = let e : 10 * (n / 100) + (digit 10 n - 48) ≡ n / 10 = omega arith in ap (λ (v : ℕ). valueAfter v (digit 1 n ∷ [])) e ∙ units
+  tens : value_after (n / 100) (digit 10 n ∷ digit 1 n ∷ []) ≡ n
+  tens = let e : 10 * (n / 100) + (digit 10 n - 48) ≡ n / 10 = omega arith in ap (λ (v : ℕ). value_after v (digit 1 n ∷ [])) e ∙ units
 
-  hundreds : valueAfter (n / 1000) (digit 100 n ∷ digit 10 n ∷ digit 1 n ∷ []) ≡ n
-  hundreds = let e : 10 * (n / 1000) + (digit 100 n - 48) ≡ n / 100 = omega arith in ap (λ (v : ℕ). valueAfter v (digit 10 n ∷ digit 1 n ∷ [])) e ∙ tens
+  hundreds : value_after (n / 1000) (digit 100 n ∷ digit 10 n ∷ digit 1 n ∷ []) ≡ n
+  hundreds = let e : 10 * (n / 1000) + (digit 100 n - 48) ≡ n / 100 = omega arith in ap (λ (v : ℕ). value_after v (digit 10 n ∷ digit 1 n ∷ [])) e ∙ tens
 
-  thousands : valueAfter (n / 10000) (digit 1000 n ∷ digit 100 n ∷ digit 10 n ∷ digit 1 n ∷ []) ≡ n
-  thousands = let e : 10 * (n / 10000) + (digit 1000 n - 48) ≡ n / 1000 = omega arith in ap (λ (v : ℕ). valueAfter v (digit 100 n ∷ digit 10 n ∷ digit 1 n ∷ [])) e ∙ hundreds
+  thousands : value_after (n / 10000) (digit 1000 n ∷ digit 100 n ∷ digit 10 n ∷ digit 1 n ∷ []) ≡ n
+  thousands = let e : 10 * (n / 10000) + (digit 1000 n - 48) ≡ n / 1000 = omega arith in ap (λ (v : ℕ). value_after v (digit 100 n ∷ digit 10 n ∷ digit 1 n ∷ [])) e ∙ hundreds
 
 -- by how far the number reaches
 pub decimal-form : (n : ℕ) → n ≤ 65535 → NumberForm (decimal n) n
@@ -59,19 +59,19 @@ decimal-form n h = go (dec_lt n 10) (dec_lt n 100) (dec_lt n 1000) (dec_lt n 100
     go (no a) (yes b) c d =
         let none : n / 100 ≡ 0 = omega arith in
         rw (lead-gone 10000 n (omega arith), lead-gone 1000 n (omega arith), lead-gone 100 n (omega arith), lead-there 10 n (omega arith))
-        (record { digits = (omega arith, omega arith, (omega arith, omega arith, tt)); least = omega arith; most = omega arith; small = h; leading = λ z. absurd (omega arith); is = ap (λ (v : ℕ). valueAfter v (digit 10 n ∷ digit 1 n ∷ [])) (sym none) ∙ tens n })
+        (record { digits = (omega arith, omega arith, (omega arith, omega arith, tt)); least = omega arith; most = omega arith; small = h; leading = λ z. absurd (omega arith); is = ap (λ (v : ℕ). value_after v (digit 10 n ∷ digit 1 n ∷ [])) (sym none) ∙ tens n })
     go (no a) (no b) (yes c) d =
         let none : n / 1000 ≡ 0 = omega arith in
         rw (lead-gone 10000 n (omega arith), lead-gone 1000 n (omega arith), lead-there 100 n (omega arith), lead-there 10 n (omega arith))
-        (record { digits = (omega arith, omega arith, (omega arith, omega arith, (omega arith, omega arith, tt))); least = omega arith; most = omega arith; small = h; leading = λ z. absurd (omega arith); is = ap (λ (v : ℕ). valueAfter v (digit 100 n ∷ digit 10 n ∷ digit 1 n ∷ [])) (sym none) ∙ hundreds n })
+        (record { digits = (omega arith, omega arith, (omega arith, omega arith, (omega arith, omega arith, tt))); least = omega arith; most = omega arith; small = h; leading = λ z. absurd (omega arith); is = ap (λ (v : ℕ). value_after v (digit 100 n ∷ digit 10 n ∷ digit 1 n ∷ [])) (sym none) ∙ hundreds n })
     go (no a) (no b) (no c) (yes d) =
         let none : n / 10000 ≡ 0 = omega arith in
         rw (lead-gone 10000 n (omega arith), lead-there 1000 n (omega arith), lead-there 100 n (omega arith), lead-there 10 n (omega arith))
-        (record { digits = (omega arith, omega arith, (omega arith, omega arith, (omega arith, omega arith, (omega arith, omega arith, tt)))); least = omega arith; most = omega arith; small = h; leading = λ z. absurd (omega arith); is = ap (λ (v : ℕ). valueAfter v (digit 1000 n ∷ digit 100 n ∷ digit 10 n ∷ digit 1 n ∷ [])) (sym none) ∙ thousands n })
+        (record { digits = (omega arith, omega arith, (omega arith, omega arith, (omega arith, omega arith, (omega arith, omega arith, tt)))); least = omega arith; most = omega arith; small = h; leading = λ z. absurd (omega arith); is = ap (λ (v : ℕ). value_after v (digit 1000 n ∷ digit 100 n ∷ digit 10 n ∷ digit 1 n ∷ [])) (sym none) ∙ thousands n })
     go (no a) (no b) (no c) (no d) =
         let first : 10 * 0 + (digit 10000 n - 48) ≡ n / 10000 = omega arith in
         rw (lead-there 10000 n (omega arith), lead-there 1000 n (omega arith), lead-there 100 n (omega arith), lead-there 10 n (omega arith))
-        (record { digits = (omega arith, omega arith, (omega arith, omega arith, (omega arith, omega arith, (omega arith, omega arith, (omega arith, omega arith, tt))))); least = omega arith; most = omega arith; small = h; leading = λ z. absurd (omega arith); is = ap (λ (v : ℕ). valueAfter v (digit 1000 n ∷ digit 100 n ∷ digit 10 n ∷ digit 1 n ∷ [])) first ∙ thousands n })
+        (record { digits = (omega arith, omega arith, (omega arith, omega arith, (omega arith, omega arith, (omega arith, omega arith, (omega arith, omega arith, tt))))); least = omega arith; most = omega arith; small = h; leading = λ z. absurd (omega arith); is = ap (λ (v : ℕ). value_after v (digit 1000 n ∷ digit 100 n ∷ digit 10 n ∷ digit 1 n ∷ [])) first ∙ thousands n })
 
 -- ---- what is of the form is what the writer writes
 
@@ -98,12 +98,12 @@ one_more v b l low high h =
     let d : digit 1 n ≡ b = omega arith in
     decimal-last n (omega arith) h ∙ ap₂ (λ (x y : ℕ). decimal x ++ (y ∷ [])) e d
 
-value_grows : (v : ℕ) (rest : List ℕ) → v ≤ valueAfter v rest
+value_grows : (v : ℕ) (rest : List ℕ) → v ≤ value_after v rest
 value_grows v [] = omega arith
 value_grows v (b ∷ rest) = let h = value_grows (10 * v + (b - 48)) rest in omega arith
 
 -- the digits after a front, one by one
-digits-after : (v : ℕ) (front rest : List ℕ) → 1 ≤ v → front ≡ decimal v → Digits rest → valueAfter v rest ≤ 65535 → front ++ rest ≡ decimal (valueAfter v rest)
+digits-after : (v : ℕ) (front rest : List ℕ) → 1 ≤ v → front ≡ decimal v → Digits rest → value_after v rest ≤ 65535 → front ++ rest ≡ decimal (value_after v rest)
 digits-after v front [] l e ds h = append-nil front ∙ e
 digits-after v front (b ∷ rest) l e ds h =
     let grows = value_grows (10 * v + (b - 48)) rest in

@@ -7,13 +7,13 @@ use lib.Dec.{eqb}
 use borrow.Author.Tests.{eqb-true}
 use Rattle.roleset.specs.Bounded.{members}
 use Rattle.roleset.specs.Roles.{has, with, none, common, is_empty}
-use Rattle.roleset.proofs.Laws.{has-common, has-none, isEmpty-intro}
+use Rattle.roleset.proofs.Laws.{has-common, has-none, is_empty-intro}
 use Rattle.roleset.proofs.MembersLaws.{members-ext}
 use Rattle.model.specs.Model.{Model}
-use Rattle.model.specs.Questions.{holds, rolePerms, userPerms, sessionPerms, review, ask}
+use Rattle.model.specs.Questions.{holds, role_perms, user_perms, session_perms, review, ask}
 use Rattle.model.specs.Sheet.{Told}
 use Rattle.model.specs.Words.{reached, authorised, effective}
-use Rattle.model.specs.commands.Naming.{userBeyond, roleBeyond, sessionBeyond, userMissing, roleMissing, sessionMissing}
+use Rattle.model.specs.commands.Naming.{user_beyond, role_beyond, session_beyond, user_missing, role_missing, session_missing}
 use Rattle.model.specs.declared.Question.TheVariants.{RolePerms, UserPerms, SessionPerms}
 use Rattle.script.specs.Script.{room}
 
@@ -27,7 +27,7 @@ and_none true b e = e
 and_none false b e = refl
 
 none-common : (a : ℕ) → is_empty (common a 0) ≡ true
-none-common a = isEmpty-intro (common a 0) (λ k l. has-common a 0 k l ∙ and_none (has a k) (has 0 k) (has-none k))
+none-common a = is_empty-intro (common a 0) (λ k l. has-common a 0 k l ∙ and_none (has a k) (has 0 k) (has-none k))
 
 quick-is : (m : Model) (roles : ℕ) → members 4096 (holds m roles) ≡ quick m.holders roles
 unfolding quick
@@ -39,23 +39,23 @@ quick-is m roles = members-ext 4096 (holds m roles) _ (λ p l. go p (eqb (m.hold
 
 -- ---- the three questions
 
-abbrev pub roleTold : ℕ → Model → Told
-roleTold r m = review m room (roleBeyond r) (roleMissing m r) (quick m.holders (reached m (with none r)))
+abbrev pub role_told : ℕ → Model → Told
+role_told r m = review m room (role_beyond r) (role_missing m r) (quick m.holders (reached m (with none r)))
 
-abbrev pub userTold : ℕ → Model → Told
-userTold u m = review m room (userBeyond u) (userMissing m u) (quick m.holders (authorised m u))
+abbrev pub user_told : ℕ → Model → Told
+user_told u m = review m room (user_beyond u) (user_missing m u) (quick m.holders (authorised m u))
 
-abbrev pub sessionTold : ℕ → Model → Told
-sessionTold s m = review m room (sessionBeyond s) (sessionMissing m s) (quick m.holders (effective m s))
+abbrev pub session_told : ℕ → Model → Told
+session_told s m = review m room (session_beyond s) (session_missing m s) (quick m.holders (effective m s))
 
-pub role-told : (r : ℕ) (m : Model) → ask m room (RolePerms (record { number = r })) ≡ roleTold r m
-unfolding ask rolePerms
-role-told r m = ap (λ (l : List ℕ). review m room (roleBeyond r) (roleMissing m r) l) (quick-is m (reached m (with none r)))
+pub role-told : (r : ℕ) (m : Model) → ask m room (RolePerms (record { number = r })) ≡ role_told r m
+unfolding ask role_perms
+role-told r m = ap (λ (l : List ℕ). review m room (role_beyond r) (role_missing m r) l) (quick-is m (reached m (with none r)))
 
-pub user-told : (u : ℕ) (m : Model) → ask m room (UserPerms (record { number = u })) ≡ userTold u m
-unfolding ask userPerms
-user-told u m = ap (λ (l : List ℕ). review m room (userBeyond u) (userMissing m u) l) (quick-is m (authorised m u))
+pub user-told : (u : ℕ) (m : Model) → ask m room (UserPerms (record { number = u })) ≡ user_told u m
+unfolding ask user_perms
+user-told u m = ap (λ (l : List ℕ). review m room (user_beyond u) (user_missing m u) l) (quick-is m (authorised m u))
 
-pub session-told : (s : ℕ) (m : Model) → ask m room (SessionPerms (record { number = s })) ≡ sessionTold s m
-unfolding ask sessionPerms
-session-told s m = ap (λ (l : List ℕ). review m room (sessionBeyond s) (sessionMissing m s) l) (quick-is m (effective m s))
+pub session-told : (s : ℕ) (m : Model) → ask m room (SessionPerms (record { number = s })) ≡ session_told s m
+unfolding ask session_perms
+session-told s m = ap (λ (l : List ℕ). review m room (session_beyond s) (session_missing m s) l) (quick-is m (effective m s))

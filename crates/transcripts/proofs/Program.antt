@@ -3,7 +3,7 @@ use mathlib.Core.List.{[], ◌++◌}
 use mathlib.Core.Path.{◌≡◌, refl, ◌∙◌}
 use Rattle.decimal.specs.Decimal.{decimal, lead, numbered}
 use Rattle.textlines.specs.Parts.{parts_of}
-use Rattle.script.specs.Script.{answerText, totalText, runLines, runScript}
+use Rattle.script.specs.Script.{answer_text, total_text, run_lines, run_script}
 use Rattle.script.proofs.Turning.{from_start, too_long}
 use Rattle.program.proofs.Whole.{whole}
 use Rattle.transcripts.specs.Program.{Program}
@@ -13,13 +13,13 @@ use Rattle.transcripts.specs.Leaver.{Leaver}
 use Rattle.transcripts.specs.Student.{Student}
 use Rattle.transcripts.proofs.Examples.{paper-printed, story-printed, leaver-printed, student-printed}
 
-nothing : runScript [] ≡ line_of "total 0 0"
-unfolding runScript runLines totalText numbered decimal lead parts_of
+nothing : run_script [] ≡ line_of "total 0 0"
+unfolding run_script run_lines total_text numbered decimal lead parts_of
 nothing = refl
 
 -- the answer to a script that is too long
-refusal : answerText 14 [] ++ totalText 0 1 ≡ line_of "14" ++ line_of "total 0 1"
-unfolding answerText totalText numbered decimal lead
+refusal : answer_text 14 [] ++ total_text 0 1 ≡ line_of "14" ++ line_of "total 0 1"
+unfolding answer_text total_text numbered decimal lead
 refusal = refl
 
 pub story-holds : Story
@@ -36,7 +36,7 @@ program =
     record {
       prints = whole;
       too_long = λ script h. too_long script h ∙ refusal;
-      line-by-line = from_start;
+      line_by_line = from_start;
       nothing = nothing;
       paper = paper-printed;
     }

@@ -7,28 +7,28 @@ use Rattle.model.specs.Model.{Model}
 use Rattle.model.specs.Sheet.{Told}
 use Rattle.words.specs.Bytes.{bytes, same}
 use Rattle.words.proofs.Laws.{and-true, same-equal}
-use Rattle.script.specs.Script.{obey, answerText}
-use Rattle.transcripts.specs.Rows.{Row, ◌⇒◌, line_of, afterRows, Answered, ends, prints}
+use Rattle.script.specs.Script.{obey, answer_text}
+use Rattle.transcripts.specs.Rows.{Row, ◌⇒◌, line_of, after_rows, Answered, ends, prints}
 
 -- what was told is the answer, and the later test passes of the policy after it
 unfoldable pub tells : Told → String → (Model → Bool) → Bool
-tells told answer later = same (answerText told.answer told.results) (line_of answer) && later told.after
+tells told answer later = same (answer_text told.answer told.results) (line_of answer) && later told.after
 
 -- each line prints its answer, and the later test passes of the policy after them all
-unfoldable pub rightThen : List Row → (Model → Bool) → Model → Bool
-rightThen [] later m = later m
-rightThen ((line ⇒ answer) ∷ rest) later m = tells (obey m (bytes line)) answer (rightThen rest later)
+unfoldable pub right_then : List Row → (Model → Bool) → Model → Bool
+right_then [] later m = later m
+right_then ((line ⇒ answer) ∷ rest) later m = tells (obey m (bytes line)) answer (right_then rest later)
 
 -- each line prints its answer
 abbrev pub right : List Row → Model → Bool
-right rows m = rightThen rows (λ n. true) m
+right rows m = right_then rows (λ n. true) m
 
-pub answered-then : (m : Model) (rows : List Row) (later : Model → Bool) → rightThen rows later m ≡ true → Answered m rows × (later (afterRows m rows) ≡ true)
-unfolding tells rightThen afterRows
+pub answered-then : (m : Model) (rows : List Row) (later : Model → Bool) → right_then rows later m ≡ true → Answered m rows × (later (after_rows m rows) ≡ true)
+unfolding tells right_then after_rows
 answered-then m [] later e = (ends, e)
 answered-then m ((line ⇒ answer) ∷ rest) later e =
     let told = obey m (bytes line) in
-    let p = and-true (same (answerText told.answer told.results) (line_of answer)) (rightThen rest later told.after) e in
+    let p = and-true (same (answer_text told.answer told.results) (line_of answer)) (right_then rest later told.after) e in
     let q = answered-then told.after rest later p.1 in
     (prints (same-equal _ _ p.0) q.0, q.1)
 

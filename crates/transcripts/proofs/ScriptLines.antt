@@ -28,17 +28,17 @@ not-formed m text none = go (parse text) (λ k ns e. none k ns (parsed-line text
     go noLine h = refl
 
 -- the word and the numbers of a line that was read
-wordOfLine : Parsed → ℕ
-wordOfLine (line k ns) = k
-wordOfLine noLine = 0
+word_of_line : Parsed → ℕ
+word_of_line (line k ns) = k
+word_of_line noLine = 0
 
-numbersOfLine : Parsed → List ℕ
-numbersOfLine (line k ns) = ns
-numbersOfLine noLine = []
+numbers_of_line : Parsed → List ℕ
+numbers_of_line (line k ns) = ns
+numbers_of_line noLine = []
 
 one_line : (text : List ℕ) (k k' : ℕ) (ns ns' : List ℕ) → LineForm text k ns → LineForm text k' ns' → (k ≡ k') × (ns ≡ ns')
-unfolding wordOfLine numbersOfLine
-one_line text k k' ns ns' w w' = let e = sym (line-parsed text k ns w) ∙ line-parsed text k' ns' w' in (ap wordOfLine e, ap numbersOfLine e)
+unfolding word_of_line numbers_of_line
+one_line text k k' ns ns' w w' = let e = sym (line-parsed text k ns w) ∙ line-parsed text k' ns' w' in (ap word_of_line e, ap numbers_of_line e)
 
 -- whatever a line means, it is not answered 15
 never_done : (m : Model) (x : Meant) (list : List ℕ) → (doing m x list).answer ≡ 15 → ⊥
@@ -65,8 +65,8 @@ unfolding obey
 script-lines =
     record {
       formed = λ m text k ns w. ap (obeyed m) (line-parsed text k ns w);
-      not-formed = not-formed;
+      not_formed = not-formed;
       one_line = one_line;
-      never-short = λ m text e. never-obeyed m (parse text) e;
+      never_short = λ m text e. never-obeyed m (parse text) e;
       reachable = λ m text r. reachable-obeyed m (parse text) r;
     }

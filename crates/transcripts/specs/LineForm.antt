@@ -1,7 +1,7 @@
 -- The form of a script's line, byte by byte, in the paper's words. Assumes nothing.
 use Rattle.std.specs.Prelude.{true, false, List, [], ◌∷◌, ◌++◌, ◌↔◌, ◌≡◌, ℕ, ◌+◌, ◌*◌, ◌-◌, ◌≤◌, ◌<◌, length, get_or}
 use Rattle.decimal.specs.Decimal.{decimal}
-use Rattle.words.specs.ScriptWords.{word_of, wordCount}
+use Rattle.words.specs.ScriptWords.{word_of, word_count}
 use Rattle.reading.specs.Form.{line, noLine, parse}
 
 -- ---- a number
@@ -12,9 +12,9 @@ Digits [] = Unit
 Digits (b ∷ rest) = (48 ≤ b) × (b ≤ 57) × Digits rest
 
 -- the value of digits by the usual rule: what stands before a digit counts ten times as much
-abbrev pub valueAfter : ℕ → List ℕ → ℕ
-valueAfter before [] = before
-valueAfter before (b ∷ rest) = valueAfter (10 * before + (b - 48)) rest
+abbrev pub value_after : ℕ → List ℕ → ℕ
+value_after before [] = before
+value_after before (b ∷ rest) = value_after (10 * before + (b - 48)) rest
 
 -- "A number is 1 to 5 digits, at most 65,535, with no leading zero except 0 itself." The text is the number n.
 pub record NumberForm (text : List ℕ) (n : ℕ) : Type 0 where
@@ -23,7 +23,7 @@ pub record NumberForm (text : List ℕ) (n : ℕ) : Type 0 where
   pub most : length text ≤ 5
   pub small : n ≤ 65535
   pub leading : get_or text 0 0 ≡ 48 → length text ≡ 1
-  pub is : valueAfter 0 text ≡ n
+  pub is : value_after 0 text ≡ n
 
 -- ---- a line
 
@@ -42,7 +42,7 @@ spaced (text ∷ texts) = (32 ∷ text) ++ spaced texts
 -- The text is a line: the word with the number k, these numbers, and nothing else.
 pub record LineForm (text : List ℕ) (k : ℕ) (ns : List ℕ) : Type 0 where
   -- there are so many words; one that is none of them is "an unknown word"
-  pub known : k < wordCount
+  pub known : k < word_count
   -- no "wrong number of numbers": as many as the word takes, or that many and more where a list of roles follows
   pub exact : (word_of k).listed ≡ false → length ns ≡ (word_of k).numbers
   pub listed : (word_of k).listed ≡ true → (word_of k).numbers ≤ length ns

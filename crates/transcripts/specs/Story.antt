@@ -2,8 +2,8 @@
 -- between, while the separation rule looked at direct roles only. A session went on releasing all afternoon after its role was taken away."
 -- Here it is a script, line by line with its answers, and that the engine answers so is proved. Assumes nothing.
 use Rattle.std.specs.Prelude.{List, [], ◌∷◌, ◌≡◌}
-use Rattle.script.specs.Script.{runScript}
-use Rattle.transcripts.specs.Rows.{Row, ◌⇒◌, scriptOf, printedFor}
+use Rattle.script.specs.Script.{run_script}
+use Rattle.transcripts.specs.Rows.{Row, ◌⇒◌, script_of, printed_for}
 
 abbrev pub story : List Row
 story =
@@ -56,4 +56,4 @@ story =
     []
 
 pub record Story : Type 0 where
-  pub told : runScript (scriptOf story) ≡ printedFor story "total 22 3"
+  pub told : run_script (script_of story) ≡ printed_for story "total 22 3"

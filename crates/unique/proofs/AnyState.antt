@@ -12,7 +12,7 @@ use Rattle.model.specs.Words.{reached}
 use Rattle.model.specs.commands.Sessions.{looked}
 use Rattle.sound.proofs.Words.{permitted-exact}
 use Rattle.demands.proofs.Looking.{how-far, at-most-64}
-use Rattle.state.specs.Places.{juniorsAt}
+use Rattle.state.specs.Places.{juniors_at}
 use Rattle.state.specs.View.{view}
 use Rattle.state.proofs.OneToOne.{part_small}
 use Rattle.state.proofs.Slots.{part_none}
@@ -22,7 +22,7 @@ use Rattle.unique.proofs.Unique.{numbers_of}
 
 lines : (l : List ℕ) → State l → Small (view l).juniors
 unfolding view
-lines l v = small-intro (λ s h. part_none l juniorsAt 64 s h) (λ s h. part_small l (numbers_of l v) juniorsAt 64 s)
+lines l v = small-intro (λ s h. part_none l juniors_at 64 s h) (λ s h. part_small l (numbers_of l v) juniors_at 64 s)
 
 reaches : (l : List ℕ) → State l → (from r : ℕ) → (has (reached (view l) from) r ≡ true) ↔ Under (view l).juniors from r
 reaches l v from = (reach-reaches (view l).juniors from (reached (view l) from) refl).exactly (lines l v)
@@ -39,5 +39,5 @@ any-state =
           let exact = permitted-exact (view l) s p in
           ((λ e. let q = exact.0 e in (q.0, (one q.0).0 q.1, q.2)), (λ q. exact.1 (q.0, (one q.0).1 q.1, q.2)));
       looks = λ l v s p. how-far (reached (view l) ((view l).sessions s).active) ((view l).holders p) (reach-small (view l).juniors ((view l).sessions s).active) (reaches l v ((view l).sessions s).active);
-      at-most = λ l v s p. at-most-64 (reached (view l) ((view l).sessions s).active) ((view l).holders p) (reach-small (view l).juniors ((view l).sessions s).active) (reaches l v ((view l).sessions s).active);
+      at_most = λ l v s p. at-most-64 (reached (view l) ((view l).sessions s).active) ((view l).holders p) (reach-small (view l).juniors ((view l).sessions s).active) (reaches l v ((view l).sessions s).active);
     }

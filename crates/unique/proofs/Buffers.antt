@@ -21,14 +21,14 @@ use Rattle.state.specs.View.{view}
 use Rattle.reviews.specs.Reviewing.{Reviewed, fitted}
 use Rattle.reviews.specs.declared.Review.{Review}
 use Rattle.reviews.proofs.Promised.{reviews-fit}
-use Rattle.reviews.proofs.WhichReview.{isReview}
+use Rattle.reviews.proofs.WhichReview.{is_review}
 use Rattle.policyform.specs.Encode.{encode}
 use Rattle.policyform.specs.Promises.{Saves}
 use Rattle.text.specs.Putting.{Put}
 use Rattle.text.specs.Places.{Wrote}
 use Rattle.text.proofs.Putting.{put-length}
 use Rattle.text.proofs.Writing.{wrote-length}
-use Rattle.clibrary.specs.Calls.{answerLine, Obeys, SavesAt}
+use Rattle.clibrary.specs.Calls.{answer_line, Obeys, SavesAt}
 use Rattle.unique.specs.Buffers.{Lent, Texted, Around, Buffers}
 
 -- ---- results at the front
@@ -56,7 +56,7 @@ lent {told} {before} {after} {x} silent fits r =
 -- ---- the reviews
 
 -- a review by its own function
-reviewed : {before after : List ℕ} {x : Review} (m : Model) (q : Question) → isReview q ≡ true → Reviewed (ask m (length before) q) before after x → Lent (number_of x.answer) x.count before after
+reviewed : {before after : List ℕ} {x : Review} (m : Model) (q : Question) → is_review q ≡ true → Reviewed (ask m (length before) q) before after x → Lent (number_of x.answer) x.count before after
 reviewed {before} m q h r = lent (demand1.questions m (length before) q).silent (reviews-fit m (length before) q h) r
 
 -- and any question through `ask`: what is told fits, or is refused with 15
@@ -106,13 +106,13 @@ put-past {text} {before} {after} {at} p k h = go (dec_le (at + length text) k)
     go (no m) = get_or-eq_default after 0 (omega (arith, p.ends, put-length p)) ∙ sym (get_or-eq_default before 0 (omega (arith, p.ends)))
 
 put-around : {text before after : List ℕ} {at next : ℕ} → Put before at text after next → Around at next before after
-put-around {text} {before} {after} {at} p = record { long = put-length p; before-it = λ k h. ap (λ (l : List ℕ). get_or l k 0) p.holds ∙ stored-before before at text k h; past = put-past p }
+put-around {text} {before} {after} {at} p = record { long = put-length p; before_it = λ k h. ap (λ (l : List ℕ). get_or l k 0) p.holds ∙ stored-before before at text k h; past = put-past p }
 
 wrote-around : {bytes before after : List ℕ} {at next : ℕ} → Wrote before after at next bytes → Around at next before after
 wrote-around {bytes} {before} {after} {at} w =
     record {
       long = wrote-length w;
-      before-it = λ k h. ap (λ (l : List ℕ). get_or l k 0) w.buffer ∙ stored-before before at bytes k h;
+      before_it = λ k h. ap (λ (l : List ℕ). get_or l k 0) w.buffer ∙ stored-before before at bytes k h;
       past = λ k h. ap (λ (l : List ℕ). get_or l k 0) w.buffer ∙ stored_past before at bytes k (omega (arith, w.next));
     }
 
@@ -131,13 +131,13 @@ front-around : (bytes : List ℕ) {before after : List ℕ} {size : ℕ} → aft
 front-around bytes {before} {after} {size} e l =
     record {
       long = ap length e ∙ length-sets before 0 bytes;
-      before-it = λ k h. absurd (let z : ⊥ = omega arith in z);
+      before_it = λ k h. absurd (let z : ⊥ = omega arith in z);
       past = λ k h. ap (λ (x : List ℕ). get_or x k 0) e ∙ stored_past before 0 bytes k (omega (arith, l));
     }
 
 obeyed-around : {m : Model} {told : Told} {before after l : List ℕ} {size : ℕ} → Obeys m told before after size l → Around 0 size before after
-obeyed-around (inl x) = record { long = ap length x.untouched; before-it = λ k h. absurd (let z : ⊥ = omega arith in z); past = λ k h. ap (λ (l : List ℕ). get_or l k 0) x.untouched }
-obeyed-around {told = told} (inr x) = front-around (answerLine told) x.stored x.long
+obeyed-around (inl x) = record { long = ap length x.untouched; before_it = λ k h. absurd (let z : ⊥ = omega arith in z); past = λ k h. ap (λ (l : List ℕ). get_or l k 0) x.untouched }
+obeyed-around {told = told} (inr x) = front-around (answer_line told) x.stored x.long
 
 saved-around : {m : Model} {before after : List ℕ} {old size answer : ℕ} → SavesAt m before after old size answer → ((answer ≡ 0 → ⊥) → after ≡ before) × (answer ≡ 0 → Around 0 size before after)
 saved-around {answer = answer} (inl x) = ((λ h. x.refused.untouched), (λ z. absurd (let y : 15 ≡ 0 = sym x.refused.answered ∙ z in omega arith)))
@@ -156,39 +156,39 @@ saved {m} {before} {after} {answer} {size} (inr x) =
     }
 
 pub buffers : Buffers
-unfolding isReview
+unfolding is_review
 buffers =
     record {
       -- ---- written by tests/unique.py: the reviews
-      assigned-users = λ c. reviewed (view c.given.0.now) (questions.AssignedUsers c.given.1.0) refl c.met;
-      assigned-roles = λ c. reviewed (view c.given.0.now) (questions.AssignedRoles c.given.1.0) refl c.met;
-      auth-users = λ c. reviewed (view c.given.0.now) (questions.AuthUsers c.given.1.0) refl c.met;
-      auth-roles = λ c. reviewed (view c.given.0.now) (questions.AuthRoles c.given.1.0) refl c.met;
-      role-perms = λ c. reviewed (view c.given.0.now) (questions.RolePerms c.given.1.0) refl c.met;
-      user-perms = λ c. reviewed (view c.given.0.now) (questions.UserPerms c.given.1.0) refl c.met;
-      session-roles = λ c. reviewed (view c.given.0.now) (questions.SessionRoles c.given.1.0) refl c.met;
-      session-perms = λ c. reviewed (view c.given.0.now) (questions.SessionPerms c.given.1.0) refl c.met;
-      role-ops = λ c. reviewed (view c.given.0.now) (questions.RoleOps c.given.1.0 c.given.1.1.0) refl c.met;
-      user-ops = λ c. reviewed (view c.given.0.now) (questions.UserOps c.given.1.0 c.given.1.1.0) refl c.met;
-      set-names = λ c. reviewed (view c.given.0.now) (questions.Sets c.given.1.0) refl c.met;
-      set-roles = λ c. reviewed (view c.given.0.now) (questions.SetRoles c.given.1.0 c.given.1.1.0) refl c.met;
-      set-count = λ c. reviewed (view c.given.0.now) (questions.SetCount c.given.1.0 c.given.1.1.0) refl c.met;
+      assigned_users = λ c. reviewed (view c.given.0.now) (questions.AssignedUsers c.given.1.0) refl c.met;
+      assigned_roles = λ c. reviewed (view c.given.0.now) (questions.AssignedRoles c.given.1.0) refl c.met;
+      auth_users = λ c. reviewed (view c.given.0.now) (questions.AuthUsers c.given.1.0) refl c.met;
+      auth_roles = λ c. reviewed (view c.given.0.now) (questions.AuthRoles c.given.1.0) refl c.met;
+      role_perms = λ c. reviewed (view c.given.0.now) (questions.RolePerms c.given.1.0) refl c.met;
+      user_perms = λ c. reviewed (view c.given.0.now) (questions.UserPerms c.given.1.0) refl c.met;
+      session_roles = λ c. reviewed (view c.given.0.now) (questions.SessionRoles c.given.1.0) refl c.met;
+      session_perms = λ c. reviewed (view c.given.0.now) (questions.SessionPerms c.given.1.0) refl c.met;
+      role_ops = λ c. reviewed (view c.given.0.now) (questions.RoleOps c.given.1.0 c.given.1.1.0) refl c.met;
+      user_ops = λ c. reviewed (view c.given.0.now) (questions.UserOps c.given.1.0 c.given.1.1.0) refl c.met;
+      set_names = λ c. reviewed (view c.given.0.now) (questions.Sets c.given.1.0) refl c.met;
+      set_roles = λ c. reviewed (view c.given.0.now) (questions.SetRoles c.given.1.0 c.given.1.1.0) refl c.met;
+      set_count = λ c. reviewed (view c.given.0.now) (questions.SetCount c.given.1.0 c.given.1.1.0) refl c.met;
       ask = λ c. asked-any (view c.given.0.now) c.given.1.0 c.met;
       -- ---- end of what tests/unique.py writes
       save = λ c. saved c.met;
-      answer-line = λ c. texted c.met.puts.text;
+      answer_line = λ c. texted c.met.puts.text;
       turn = λ c. texted c.met.text;
       next = λ c. texted c.met.puts.text;
-      marruskil-obey = λ c. obeyed-around c.met;
-      marruskil-save = λ c. saved-around c.met;
+      marruskil_obey = λ c. obeyed-around c.met;
+      marruskil_save = λ c. saved-around c.met;
       -- ---- written by tests/unique.py: what puts a text
       put = λ c. put-around c.met;
-      put-text = λ c. put-around c.met;
+      put_text = λ c. put-around c.met;
       write = λ c. wrote-around c.met;
-      put-number = λ c. put-around c.met;
-      put-numbers = λ c. put-around c.met;
+      put_number = λ c. put-around c.met;
+      put_numbers = λ c. put-around c.met;
       put_word = λ c. put-around c.met;
-      answer-text = λ c. put-around c.met;
-      total-text = λ c. put-around c.met;
+      answer_text = λ c. put-around c.met;
+      total_text = λ c. put-around c.met;
       -- ---- end of what tests/unique.py writes
     }

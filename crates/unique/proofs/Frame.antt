@@ -9,8 +9,8 @@ use lib.Dec.{eqb}
 use lib.ListN.{get_or}
 use Rattle.model.specs.Model.{Model, RoleSet, Session}
 use Rattle.demands.proofs.Demand1.{demand1}
-use Rattle.state.specs.Places.{holdersAt, assignedAt, juniorsAt, ssdCardsAt, ssdRolesAt, dsdCardsAt, dsdRolesAt, ownersAt, activeAt, usersAt, rolesAt, assignmentCountAt, grantCountAt, lineCountAt}
-use Rattle.state.specs.View.{part, paired, setOf, sessionOf, bits, view}
+use Rattle.state.specs.Places.{holders_at, assigned_at, juniors_at, ssd_cards_at, ssd_roles_at, dsd_cards_at, dsd_roles_at, owners_at, active_at, users_at, roles_at, assignment_count_at, grant_count_at, line_count_at}
+use Rattle.state.specs.View.{part, paired, set_of, session_of, bits, view}
 use Rattle.state.proofs.Slots.{part_at}
 use Rattle.state.proofs.OneToOne.{one_more, words-one, part_small}
 use Rattle.unique.specs.Frame.{Frame, Same}
@@ -39,18 +39,18 @@ pairs {A} make o n before after apart e k h = go (dec_lt k n)
         rw place at (sym (part_at after (o + n) n (k - n) q) ∙ (here (k - n)).1 ∙ part_at before (o + n) n (k - n) q)
 
 -- what a number makes gives the number back
-set_apart : (a b x y : ℕ) → setOf a x ≡ setOf b y → (a ≡ b) × (x ≡ y)
+set_apart : (a b x y : ℕ) → set_of a x ≡ set_of b y → (a ≡ b) × (x ≡ y)
 set_apart a b x y e = (one_more a b (ap (λ (s : RoleSet). s.there) e) (ap (λ (s : RoleSet). s.card) e), ap (λ (s : RoleSet). s.roles) e)
 
-session-apart : (a b x y : ℕ) → sessionOf a x ≡ sessionOf b y → (a ≡ b) × (x ≡ y)
+session-apart : (a b x y : ℕ) → session_of a x ≡ session_of b y → (a ≡ b) × (x ≡ y)
 session-apart a b x y e = (one_more a b (ap (λ (s : Session). s.live) e) (ap (λ (s : Session). s.owner) e), ap (λ (s : Session). s.active) e)
 
-in-users : (before after : List ℕ) → State before → State after → (view after).users ≡ (view before).users → Same usersAt 4 before after
+in-users : (before after : List ℕ) → State before → State after → (view after).users ≡ (view before).users → Same users_at 4 before after
 unfolding view
 in-users before after sb sa e k h =
-    sym (part_at after usersAt 4 k h)
-    ∙ words-one (part after usersAt 4) (part before usersAt 4) (part_small after (numbers_of after sa) usersAt 4) (part_small before (numbers_of before sb) usersAt 4) e k
-    ∙ part_at before usersAt 4 k h
+    sym (part_at after users_at 4 k h)
+    ∙ words-one (part after users_at 4) (part before users_at 4) (part_small after (numbers_of after sa) users_at 4) (part_small before (numbers_of before sb) users_at 4) e k
+    ∙ part_at before users_at 4 k h
 
 -- one number
 number : (o : ℕ) (before after : List ℕ) → part after o 1 0 ≡ part before o 1 0 → Same o 1 before after
@@ -65,15 +65,15 @@ frame =
       one = λ before after sb sa e. states sa sb e refl;
       refused = λ before after sb sa c list h e. states sa sb (e ∙ (demand1.commands (view before) c list).unchanged h) refl;
       unloaded = λ before after sb sa bytes told l h e. states sa sb (e ∙ (demand1.loads (view before) bytes told l).unchanged h) refl;
-      holders = λ before after e. table holdersAt 4096 before after e;
-      assigned = λ before after e. table assignedAt 256 before after e;
-      juniors = λ before after e. table juniorsAt 64 before after e;
-      ssd = λ before after e. pairs setOf ssdCardsAt 16 before after set_apart e;
-      dsd = λ before after e. pairs setOf dsdCardsAt 16 before after set_apart e;
-      sessions = λ before after e. pairs sessionOf ownersAt 64 before after session-apart e;
+      holders = λ before after e. table holders_at 4096 before after e;
+      assigned = λ before after e. table assigned_at 256 before after e;
+      juniors = λ before after e. table juniors_at 64 before after e;
+      ssd = λ before after e. pairs set_of ssd_cards_at 16 before after set_apart e;
+      dsd = λ before after e. pairs set_of dsd_cards_at 16 before after set_apart e;
+      sessions = λ before after e. pairs session_of owners_at 64 before after session-apart e;
       users = in-users;
-      roles = λ before after e. number rolesAt before after e;
-      assignmentCount = λ before after e. number assignmentCountAt before after e;
-      grantCount = λ before after e. number grantCountAt before after e;
-      lineCount = λ before after e. number lineCountAt before after e;
+      roles = λ before after e. number roles_at before after e;
+      assignment_count = λ before after e. number assignment_count_at before after e;
+      grant_count = λ before after e. number grant_count_at before after e;
+      line_count = λ before after e. number line_count_at before after e;
     }

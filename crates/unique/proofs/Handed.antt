@@ -10,12 +10,12 @@ use Rattle.model.specs.Step as steps
 use Rattle.model.specs.declared.Command.{Command}
 use Rattle.model.specs.declared.Command.TheVariants as commands
 use Rattle.state.specs.View.{view, told}
-use Rattle.sessions.specs.Answering.{toldOpened}
-use Rattle.textlines.specs.Parts.{partAt}
-use Rattle.script.specs.Script.{lineFeed, obey}
+use Rattle.sessions.specs.Answering.{told_opened}
+use Rattle.textlines.specs.Parts.{part_at}
+use Rattle.script.specs.Script.{line_feed, obey}
 use Rattle.script.specs.declared.Progress.{Progress}
 use Rattle.clibrary.specs.Calls.{Obeys}
-use Rattle.program.specs.Printing.{Stage, stageOf, over, total, tooLong, line, piece}
+use Rattle.program.specs.Printing.{Stage, stage_of, over, total, tooLong, line, piece}
 use Rattle.transcripts.proofs.ScriptLines.{script-lines}
 use Rattle.demands.specs.Reachable.{Reachable, start, after, loaded}
 use Rattle.demands.proofs.Conditions.{conditions}
@@ -36,7 +36,7 @@ piece-reachable : (s : Stage) (script l : List ℕ) (p : Progress) → Reachable
 piece-reachable over script l p r = r
 piece-reachable total script l p r = r
 piece-reachable tooLong script l p r = r
-piece-reachable line script l p r = script-lines.reachable _ (partAt lineFeed script p.at) r
+piece-reachable line script l p r = script-lines.reachable _ (part_at line_feed script p.at) r
 
 -- and what a C program's line leaves, obeyed or not
 obeyed-reachable : (m : Model) (text out put : List ℕ) (n : ℕ) (l : List ℕ) → Reachable m → Obeys m (obey m text) out put n l → Reachable (view l)
@@ -44,7 +44,7 @@ obeyed-reachable m text out put n l r (inl p) = subst Reachable (sym p.unchanged
 obeyed-reachable m text out put n l r (inr p) = subst Reachable (sym p.state) (script-lines.reachable m text r)
 
 pub reachable : {l : List ℕ} → Handed l → Reachable (view l)
-unfolding steps.step told toldOpened
+unfolding steps.step told told_opened
 reachable (empty c) = subst Reachable (sym c.met) start
 -- ---- written by tests/unique.py: the commands
 reachable (user c h) = stepped _ (reachable h) (commands.AddUser c.given.1.0) [] c.result _ c.met
@@ -70,9 +70,9 @@ reachable (end c h) = stepped _ (reachable h) (commands.EndSession c.given.1.0 c
 reachable (session c h) = subst Reachable (sym (ap (λ (t : Told). t.after) c.met.tells)) (after (reachable h) (commands.OpenSession c.given.1.0) c.given.1.1.0.now)
 reachable (step c h) = subst Reachable (sym c.met.after) (after (reachable h) c.given.1.0 c.given.1.1.0.now)
 reachable (answer-line c h) = subst Reachable (sym c.met.state) (script-lines.reachable _ c.given.1.0.now (reachable h))
-reachable (turn c h) = subst Reachable (sym c.met.state) (script-lines.reachable _ (partAt lineFeed c.given.0.now c.given.1.1.0.at) (reachable h))
+reachable (turn c h) = subst Reachable (sym c.met.state) (script-lines.reachable _ (part_at line_feed c.given.0.now c.given.1.1.0.at) (reachable h))
 reachable (begin c) = subst Reachable (sym c.met.state) start
-reachable (next c h) = subst Reachable (sym c.met.state) (piece-reachable (stageOf c.given.0.now c.given.1.1.0) c.given.0.now c.given.1.0.now c.given.1.1.0.progress (reachable h))
+reachable (next c h) = subst Reachable (sym c.met.state) (piece-reachable (stage_of c.given.0.now c.given.1.1.0) c.given.0.now c.given.1.0.now c.given.1.1.0.progress (reachable h))
 reachable (marruskil-start c) = subst Reachable (sym c.met) start
 reachable (marruskil-obey c h) = obeyed-reachable _ c.given.1.0.now _ _ _ _ (reachable h) c.met
 reachable (marruskil-load c h) = loaded (reachable h) c.given.1.0.now _ c.met

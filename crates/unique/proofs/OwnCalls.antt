@@ -24,8 +24,8 @@ use Rattle.model.specs.declared.Command.TheVariants as commands
 use Rattle.model.specs.declared.Question.{Question}
 use Rattle.model.specs.declared.Question.TheVariants as questions
 use Rattle.state.specs.View.{view, told}
-use Rattle.state.specs.Results.{isDone, given, bothGiven}
-use Rattle.checking.specs.Answering.{toldChecked, Owns, toldOwned}
+use Rattle.state.specs.Results.{is_done, given, both_given}
+use Rattle.checking.specs.Answering.{told_checked, Owns, told_owned}
 use Rattle.checking.specs.declared.Checked as code
 use Rattle.checking.specs.declared.Owned.{Owned}
 use Rattle.engine.specs.Stepping.{Steps}
@@ -42,13 +42,13 @@ use Rattle.meaning.specs.Meaning.{meant}
 use Rattle.meaning.specs.declared.Meant.{Meant}
 use Rattle.meaning.specs.declared.Meant.TheVariants.{Do, Ask, Nothing}
 use Rattle.text.specs.Putting.{Put}
-use Rattle.textlines.specs.Parts.{partAt}
-use Rattle.script.specs.Script.{obey, doing, lineFeed}
-use Rattle.script.specs.LineAnswers.{toldAt}
+use Rattle.textlines.specs.Parts.{part_at}
+use Rattle.script.specs.Script.{obey, doing, line_feed}
+use Rattle.script.specs.LineAnswers.{told_at}
 use Rattle.program.specs.Printing.{Stage, piece}
 use Rattle.transcripts.proofs.ScriptLines.{script-lines}
 use Rattle.demands.specs.Authorised.{InOrBelow, Effective}
-use Rattle.demands.specs.Demand2.{Exactly, Applies, ◌beyond◌, checkRefusals, Checked}
+use Rattle.demands.specs.Demand2.{Exactly, Applies, ◌beyond◌, check_refusals, Checked}
 use Rattle.demands.specs.Demand3.{Shape}
 use Rattle.demands.specs.Reachable.{Reachable}
 use Rattle.demands.specs.Reviews as reviewing
@@ -59,10 +59,10 @@ use Rattle.demands.proofs.Exact.{exact, applies-none, none-applies}
 use Rattle.demands.proofs.PolicyFile.{faithful}
 use Rattle.unique.specs.Handed.{Handed}
 use Rattle.unique.specs.Unique.{State}
-use Rattle.unique.specs.OwnCalls.{Does, toldStepped, Commands, MayDo, toldReview, Questions, Means, LineTells, Lines, Files, OwnCalls, FromC, InPlaces, OwnerTold}
-use Rattle.clibrary.specs.Calls.{Obeys, ChecksAt, SavesAt, answerLine, placed}
+use Rattle.unique.specs.OwnCalls.{Does, told_stepped, Commands, MayDo, told_review, Questions, Means, LineTells, Lines, Files, OwnCalls, FromC, InPlaces, OwnerTold}
+use Rattle.clibrary.specs.Calls.{Obeys, ChecksAt, SavesAt, answer_line, placed}
 use Rattle.model.specs.Words.{permission}
-use Rattle.model.specs.commands.Naming.{sessionBeyond, permissionBeyond, sessionMissing}
+use Rattle.model.specs.commands.Naming.{session_beyond, permission_beyond, session_missing}
 use Rattle.model.specs.commands.Sessions.{permitted, looked, check, owner}
 use Rattle.unique.proofs.Handed.{reachable, owned}
 use Rattle.unique.proofs.Unique.{states}
@@ -73,8 +73,8 @@ use Rattle.unique.proofs.Unique.{states}
 does : {l : List ℕ} {t : Told} → Handed l → (c : Command) (list : List ℕ) → t ≡ steps.step (view l) c list → Does (view l) c list t
 does {l} h c list e = subst (Does (view l) c list) (sym e) (demand2.commands (view l) (reachable h) c list)
 
-stepped-tells : {t : Told} {x : Stepped} {l : List ℕ} → Steps t x l → toldStepped x l ≡ t
-unfolding toldStepped
+stepped-tells : {t : Told} {x : Stepped} {l : List ℕ} → Steps t x l → told_stepped x l ≡ t
+unfolding told_stepped
 stepped-tells s = λ i. record { answer = s.answer i; results = s.results i; after = s.after i }
 
 of-commands : Commands
@@ -83,7 +83,7 @@ of-commands =
     record {
       -- ---- written by tests/unique.py: the commands
       user = λ c h. does h (commands.AddUser c.given.1.0) [] c.met;
-      end-all = λ c h. does h (commands.EndAll c.given.1.0) [] c.met;
+      end_all = λ c h. does h (commands.EndAll c.given.1.0) [] c.met;
       nouser = λ c h. does h (commands.NoUser c.given.1.0) [] c.met;
       role = λ c h. does h (commands.AddRole c.given.1.0) [] c.met;
       norole = λ c h. does h (commands.NoRole c.given.1.0) [] c.met;
@@ -93,11 +93,11 @@ of-commands =
       revoke = λ c h. does h (commands.Revoke c.given.1.0 c.given.1.1.0 c.given.1.1.1.0) [] c.met;
       inherit = λ c h. does h (commands.Inherit c.given.1.0 c.given.1.1.0) [] c.met;
       disinherit = λ c h. does h (commands.Disinherit c.given.1.0 c.given.1.1.0) [] c.met;
-      make-set = λ c h. does h (commands.MakeSet c.given.1.0 c.given.1.1.0 c.given.1.1.1.0) c.given.1.1.1.1.0.now c.met;
-      drop-set = λ c h. does h (commands.DropSet c.given.1.0 c.given.1.1.0) [] c.met;
-      add-member = λ c h. does h (commands.AddMember c.given.1.0 c.given.1.1.0 c.given.1.1.1.0) [] c.met;
-      drop-member = λ c h. does h (commands.DropMember c.given.1.0 c.given.1.1.0 c.given.1.1.1.0) [] c.met;
-      set-cardinality = λ c h. does h (commands.SetCardinality c.given.1.0 c.given.1.1.0 c.given.1.1.1.0) [] c.met;
+      make_set = λ c h. does h (commands.MakeSet c.given.1.0 c.given.1.1.0 c.given.1.1.1.0) c.given.1.1.1.1.0.now c.met;
+      drop_set = λ c h. does h (commands.DropSet c.given.1.0 c.given.1.1.0) [] c.met;
+      add_member = λ c h. does h (commands.AddMember c.given.1.0 c.given.1.1.0 c.given.1.1.1.0) [] c.met;
+      drop_member = λ c h. does h (commands.DropMember c.given.1.0 c.given.1.1.0 c.given.1.1.1.0) [] c.met;
+      set_cardinality = λ c h. does h (commands.SetCardinality c.given.1.0 c.given.1.1.0 c.given.1.1.1.0) [] c.met;
       session = λ c h. does h (commands.OpenSession c.given.1.0) c.given.1.1.0.now c.met.tells;
       activate = λ c h. does h (commands.Activate c.given.1.0 c.given.1.1.0 c.given.1.1.1.0) [] c.met;
       drop = λ c h. does h (commands.DropActive c.given.1.0 c.given.1.1.0 c.given.1.1.1.0) [] c.met;
@@ -109,8 +109,8 @@ of-commands =
 -- ---- the questions
 
 -- what a review hands back is what was told, where that changes nothing
-reviewed-tells : {t : Told} {m : Model} {before after : List ℕ} {x : Review} → t.after ≡ m → Reviewed t before after x → toldReview m x after ≡ t
-unfolding toldReview
+reviewed-tells : {t : Told} {m : Model} {before after : List ℕ} {x : Review} → t.after ≡ m → Reviewed t before after x → told_review m x after ≡ t
+unfolding told_review
 reviewed-tells {t} {m} {before} {after} {x} same r = λ i. record { answer = r.answer i; results = results i; after = sym same i }
   where
     results : take x.count after ≡ t.results
@@ -126,7 +126,7 @@ fitted-after room t = go (ltb room (length t.results)) refl
     go false e = rw (e, fitted)
 
 -- in a buffer with so many places
-in-places : (m : Model) (q : Question) {before after : List ℕ} {x : Review} → Reviewed (fitted (length before) (ask m (length before) q)) before after x → InPlaces (length before) m (ask m (length before) q) (toldReview m x after)
+in-places : (m : Model) (q : Question) {before after : List ℕ} {x : Review} → Reviewed (fitted (length before) (ask m (length before) q)) before after x → InPlaces (length before) m (ask m (length before) q) (told_review m x after)
 unfolding fitted
 in-places m q {before} {after} {x} r = go (ltb room (length t.results)) refl
   where
@@ -136,10 +136,10 @@ in-places m q {before} {after} {x} r = go (ltb room (length t.results)) refl
     t : Told
     t = ask m room q
 
-    told : toldReview m x after ≡ fitted room t
+    told : told_review m x after ≡ fitted room t
     told = reviewed-tells (fitted-after room t ∙ demand1.asking m room q) r
 
-    go : (b : Bool) → ltb room (length t.results) ≡ b → InPlaces room m t (toldReview m x after)
+    go : (b : Bool) → ltb room (length t.results) ≡ b → InPlaces room m t (told_review m x after)
     go true e = inr (ltb-true room (length t.results) e, told ∙ rw (e, fitted) (ap (refused 15) (demand1.asking m room q)))
     go false e = inl (ltb-false room (length t.results) e, told ∙ rw (e, fitted))
 
@@ -154,12 +154,12 @@ two-or-15 false false m said n room = go (ltb room 2) refl
     go true e = ((λ z. (refl, ltb-true room 2 e)), λ q. refl)
     go false e = ((λ z. absurd (omega (arith, z))), λ q. absurd (omega (arith, q.1, ltb-false room 2 e)))
 
-check-15 : (m : Model) (q : Question) (s : Session) (op obj : ℕ) {before after : List ℕ} {x : Review} → q ≡ questions.Check s op obj → Reviewed (fitted (length before) (ask m (length before) q)) before after x → (number_of x.answer ≡ 15) ↔ (((n : ℕ) → Applies (checkRefusals m s.number op obj) n → ⊥) × (length before < 2))
+check-15 : (m : Model) (q : Question) (s : Session) (op obj : ℕ) {before after : List ℕ} {x : Review} → q ≡ questions.Check s op obj → Reviewed (fitted (length before) (ask m (length before) q)) before after x → (number_of x.answer ≡ 15) ↔ (((n : ℕ) → Applies (check_refusals m s.number op obj) n → ⊥) × (length before < 2))
 unfolding ask check
 check-15 m q s op obj {before} {after} {x} e r =
     let told : number_of x.answer ≡ (fitted (length before) (check m s.number op obj)).answer = (rw e at r.answer) in
-    let both = two-or-15 (sessionBeyond s.number || permissionBeyond op obj) (sessionMissing m s.number) m (bit (permitted m s.number (permission op obj))) (looked m s.number (permission op obj)) (length before) in
-    let whole : Exactly m (checkRefusals m s.number op obj) _ m (check m s.number op obj) = exact (checkRefusals m s.number op obj) m _ m refl refl in
+    let both = two-or-15 (session_beyond s.number || permission_beyond op obj) (session_missing m s.number) m (bit (permitted m s.number (permission op obj))) (looked m s.number (permission op obj)) (length before) in
+    let whole : Exactly m (check_refusals m s.number op obj) _ m (check m s.number op obj) = exact (check_refusals m s.number op obj) m _ m refl refl in
     ((λ z. let y = both.0 (sym told ∙ z) in (whole.done.0 y.0, y.1)), λ z. told ∙ both.1 (whole.done.1 z.0, z.1))
 
 -- a session with an effective role is open, and is one of the 64
@@ -174,21 +174,21 @@ open-session {m} {s} {r} shape e = go e.through
     go (inr (a, h, below)) = live a h
 
 -- a first result that is 1 says yes
-said : (b y : Bool) (n k : ℕ) → bothGiven b (bit y) n ≡ 1 ∷ k ∷ [] → y ≡ true
+said : (b y : Bool) (n k : ℕ) → both_given b (bit y) n ≡ 1 ∷ k ∷ [] → y ≡ true
 said b true n k e = refl
 said true false n k e = absurd (let z : ◌≡◌ {A = ℕ} 0 1 = cc in omega arith)
 said false false n k e = absurd (omega (arith, ap length e))
 
 -- what `check` hands back says yes exactly where access is granted
-says-yes : (m : Model) (s op obj : ℕ) (x : code.Checked) → Shape m → Checked m s op obj (toldChecked m x) → (isDone x.answer ≡ false → (x.yes ≡ false) × (x.looked ≡ 0)) → (x.yes ≡ true) ↔ MayDo m s op obj
-unfolding toldChecked
-says-yes m s op obj x shape c silent = (granted (isDone x.answer) refl, yes)
+says-yes : (m : Model) (s op obj : ℕ) (x : code.Checked) → Shape m → Checked m s op obj (told_checked m x) → (is_done x.answer ≡ false → (x.yes ≡ false) × (x.looked ≡ 0)) → (x.yes ≡ true) ↔ MayDo m s op obj
+unfolding told_checked
+says-yes m s op obj x shape c silent = (granted (is_done x.answer) refl, yes)
   where
-    granted : (b : Bool) → isDone x.answer ≡ b → x.yes ≡ true → MayDo m s op obj
+    granted : (b : Bool) → is_done x.answer ≡ b → x.yes ≡ true → MayDo m s op obj
     granted false d y = clash x.yes y (silent d).0
     granted true d y =
         let zero = eqb-true (number_of x.answer) 0 d in
-        let clear = (applies-none (checkRefusals m s op obj) (c.done.0 zero)).0 in
+        let clear = (applies-none (check_refusals m s op obj) (c.done.0 zero)).0 in
         let ranges = or-clear (op beyond 15) (obj beyond 255) (or-clear (s beyond 63) (op beyond 15 || obj beyond 255) clear).1 in
         record { operation = omega (arith, leb-false 16 op ranges.0); object = omega (arith, leb-false 256 obj ranges.1); granted = (c.exactly zero).0 (x.looked, rw (d, y)) }
 
@@ -196,12 +196,12 @@ says-yes m s op obj x shape c silent = (granted (isDone x.answer) refl, yes)
     yes may =
         let there = open-session shape may.granted.effective in
         let within : (s beyond 63 || (op beyond 15 || obj beyond 255)) ≡ false = rw (lt-leb 64 s (omega (arith, there.1)), lt-leb 16 op (omega arith), lt-leb 256 obj (omega arith)) in
-        let zero = c.done.1 (none-applies (checkRefusals m s op obj) (within, (rw there.0, tt))) in
-        let told = (c.exactly zero).1 may.granted in said (isDone x.answer) x.yes x.looked told.0 told.1
+        let zero = c.done.1 (none-applies (check_refusals m s op obj) (within, (rw there.0, tt))) in
+        let told = (c.exactly zero).1 may.granted in said (is_done x.answer) x.yes x.looked told.0 told.1
 
 -- whose a session is
 owner-told : (m : Model) (s : ℕ) (x : Owned) → Owns m (owner m s) x → OwnerTold m s (number_of x.answer) x.owner
-unfolding toldOwned owner
+unfolding told_owned owner
 owner-told m s x o = subst (Exactly m _ _ m) (sym o.tells) (exact (1 when (s beyond 63) ∷ 2 when not (m.sessions s).live ∷ []) m ((m.sessions s).owner ∷ []) m refl refl)
 
 of-questions : Questions
@@ -212,23 +212,23 @@ of-questions =
       yes = λ c h. says-yes _ _ _ _ c.result (owned.shape h) (subst (Checked _ _ _ _) (sym c.met.tells) (demand2.access _ (reachable h) _ _ _)) c.met.silent;
       ask = λ c h. reviewed-tells (demand1.asking _ _ c.given.1.0) (rw (asked-with-room _ _ c.given.1.0 h) at c.met);
       asked = λ c h room. subst (reviewing.Answered (view c.given.0.now) (length c.given.1.1.0.now) c.given.1.0) (sym (reviewed-tells (demand1.asking _ _ c.given.1.0) (rw (asked-with-room _ _ c.given.1.0 room) at c.met))) (questions-demand.questions (view c.given.0.now) (reachable h) (length c.given.1.1.0.now) c.given.1.0);
-      in-places = λ c. in-places (view c.given.0.now) c.given.1.0 c.met;
-      two-places = λ c s op obj e. check-15 (view c.given.0.now) c.given.1.0 s op obj e c.met;
+      in_places = λ c. in-places (view c.given.0.now) c.given.1.0 c.met;
+      two_places = λ c s op obj e. check-15 (view c.given.0.now) c.given.1.0 s op obj e c.met;
       owner = λ c. owner-told _ _ _ c.met;
       -- ---- written by tests/unique.py: the reviews
-      assigned-users = λ c. reviewed-tells (demand1.asking _ _ (questions.AssignedUsers c.given.1.0)) c.met;
-      assigned-roles = λ c. reviewed-tells (demand1.asking _ _ (questions.AssignedRoles c.given.1.0)) c.met;
-      auth-users = λ c. reviewed-tells (demand1.asking _ _ (questions.AuthUsers c.given.1.0)) c.met;
-      auth-roles = λ c. reviewed-tells (demand1.asking _ _ (questions.AuthRoles c.given.1.0)) c.met;
-      role-perms = λ c. reviewed-tells (demand1.asking _ _ (questions.RolePerms c.given.1.0)) c.met;
-      user-perms = λ c. reviewed-tells (demand1.asking _ _ (questions.UserPerms c.given.1.0)) c.met;
-      session-roles = λ c. reviewed-tells (demand1.asking _ _ (questions.SessionRoles c.given.1.0)) c.met;
-      session-perms = λ c. reviewed-tells (demand1.asking _ _ (questions.SessionPerms c.given.1.0)) c.met;
-      role-ops = λ c. reviewed-tells (demand1.asking _ _ (questions.RoleOps c.given.1.0 c.given.1.1.0)) c.met;
-      user-ops = λ c. reviewed-tells (demand1.asking _ _ (questions.UserOps c.given.1.0 c.given.1.1.0)) c.met;
-      set-names = λ c. reviewed-tells (demand1.asking _ _ (questions.Sets c.given.1.0)) c.met;
-      set-roles = λ c. reviewed-tells (demand1.asking _ _ (questions.SetRoles c.given.1.0 c.given.1.1.0)) c.met;
-      set-count = λ c. reviewed-tells (demand1.asking _ _ (questions.SetCount c.given.1.0 c.given.1.1.0)) c.met;
+      assigned_users = λ c. reviewed-tells (demand1.asking _ _ (questions.AssignedUsers c.given.1.0)) c.met;
+      assigned_roles = λ c. reviewed-tells (demand1.asking _ _ (questions.AssignedRoles c.given.1.0)) c.met;
+      auth_users = λ c. reviewed-tells (demand1.asking _ _ (questions.AuthUsers c.given.1.0)) c.met;
+      auth_roles = λ c. reviewed-tells (demand1.asking _ _ (questions.AuthRoles c.given.1.0)) c.met;
+      role_perms = λ c. reviewed-tells (demand1.asking _ _ (questions.RolePerms c.given.1.0)) c.met;
+      user_perms = λ c. reviewed-tells (demand1.asking _ _ (questions.UserPerms c.given.1.0)) c.met;
+      session_roles = λ c. reviewed-tells (demand1.asking _ _ (questions.SessionRoles c.given.1.0)) c.met;
+      session_perms = λ c. reviewed-tells (demand1.asking _ _ (questions.SessionPerms c.given.1.0)) c.met;
+      role_ops = λ c. reviewed-tells (demand1.asking _ _ (questions.RoleOps c.given.1.0 c.given.1.1.0)) c.met;
+      user_ops = λ c. reviewed-tells (demand1.asking _ _ (questions.UserOps c.given.1.0 c.given.1.1.0)) c.met;
+      set_names = λ c. reviewed-tells (demand1.asking _ _ (questions.Sets c.given.1.0)) c.met;
+      set_roles = λ c. reviewed-tells (demand1.asking _ _ (questions.SetRoles c.given.1.0 c.given.1.1.0)) c.met;
+      set_count = λ c. reviewed-tells (demand1.asking _ _ (questions.SetCount c.given.1.0 c.given.1.1.0)) c.met;
       -- ---- end of what tests/unique.py writes
     }
 
@@ -240,7 +240,7 @@ means {m} r (Ask q) list = refl
 means {m} r Nothing list = refl
 
 line-tells : {m : Model} → Reachable m → (text : List ℕ) → LineTells m text (obey m text)
-line-tells {m} r text = record { formed = formed; not-formed = script-lines.not-formed m text }
+line-tells {m} r text = record { formed = formed; not_formed = script-lines.not_formed m text }
   where
     formed : (k : ℕ) (ns : List ℕ) → LineForm text k ns → Means m (meant k (get_or ns 0 0) (get_or ns 1 0) (get_or ns 2 0)) (drop (word_of k).numbers ns) (obey m text)
     formed k ns w =
@@ -251,7 +251,7 @@ line-tells {m} r text = record { formed = formed; not-formed = script-lines.not-
 of-lines : Lines
 of-lines =
     record {
-      answer-line = λ c h. (record { line = _; tells = line-tells (reachable h) _; puts = c.met.puts.text; state = c.met.state }, c.met.puts.ok);
+      answer_line = λ c h. (record { line = _; tells = line-tells (reachable h) _; puts = c.met.puts.text; state = c.met.state }, c.met.puts.ok);
       turn = λ c h. (record { line = _; tells = line-tells (reachable h) _; puts = c.met.text; state = c.met.state }, c.met.tally, c.met.place);
       begin = λ c. c.met;
       next = λ c h e.
@@ -259,8 +259,8 @@ of-lines =
           let l = c.given.1.0.now in
           let p = c.given.1.1.0.progress in
           record {
-            line = toldAt script l p;
-            tells = line-tells (reachable h) (partAt lineFeed script p.at);
+            line = told_at script l p;
+            tells = line-tells (reachable h) (part_at line_feed script p.at);
             puts = subst (λ (x : Stage). Put c.given.1.1.1.0.now 0 (piece x script l p).text c.exits.1.1.1.0.now c.result.len) e c.met.puts.text;
             state = c.met.state ∙ ap (λ (x : Stage). (piece x script l p).after) e;
           };
@@ -303,13 +303,13 @@ of-files =
 
 -- the answer line has room and is written, or it has none and nothing is obeyed
 obeyed-at : {m : Model} {t : Told} {out after l : List ℕ} {size : ℕ} → Obeys m t out after size l
-    → (length (answerLine t) ≤ length out → (size ≡ length (answerLine t)) × (after ≡ sets out 0 (answerLine t)) × (view l ≡ t.after)) × (length out < length (answerLine t) → (size ≡ 0) × (after ≡ out) × (view l ≡ m))
+    → (length (answer_line t) ≤ length out → (size ≡ length (answer_line t)) × (after ≡ sets out 0 (answer_line t)) × (view l ≡ t.after)) × (length out < length (answer_line t) → (size ≡ 0) × (after ≡ out) × (view l ≡ m))
 obeyed-at (inl x) = ((λ h. absurd (omega (arith, h, x.short))), (λ h. (x.no_length, x.untouched, x.unchanged)))
 obeyed-at (inr x) = ((λ h. (x.long, x.stored, x.state)), (λ h. absurd (omega (arith, h, x.fits))))
 
 -- what `check` stores where the caller says is its results
 module _ {m : Model} {s op obj before after lookedBefore lookedAfter answer : ℕ} {t : Told} (x : Checked m s op obj t) (p : ChecksAt t before after lookedBefore lookedAfter answer) where
-  stored : (b : Bool) → eqb answer 0 ≡ b → t.results ≡ bothGiven b after lookedAfter
+  stored : (b : Bool) → eqb answer 0 ≡ b → t.results ≡ both_given b after lookedAfter
   stored true e = let q = x.answers (sym p.answered ∙ eqb-true answer 0 e) in both q.0 q.1
     where
       two : (a k : ℕ) → t.results ≡ a ∷ k ∷ [] → t.results ≡ after ∷ lookedAfter ∷ []
@@ -320,8 +320,8 @@ module _ {m : Model} {s op obj before after lookedBefore lookedAfter answer : �
       both k (inr q) = two 0 k q
   stored false e = x.silent (λ z. eqb-false answer 0 e (p.answered ∙ z))
 
-  checked-at : Checked m s op obj (record { answer = answer; results = bothGiven (eqb answer 0) after lookedAfter; after = m }) × ((answer ≡ 0 → ⊥) → (after ≡ before) × (lookedAfter ≡ lookedBefore))
-  checked-at = (
+  checked_at : Checked m s op obj (record { answer = answer; results = both_given (eqb answer 0) after lookedAfter; after = m }) × ((answer ≡ 0 → ⊥) → (after ≡ before) × (lookedAfter ≡ lookedBefore))
+  checked_at = (
     subst (Checked m s op obj) (λ i. record { answer = sym p.answered i; results = stored (eqb answer 0) refl i; after = x.unchanged i }) x,
     λ z. let none = x.silent (λ e. z (p.answered ∙ e)) in (p.result ∙ ap (λ (l : List ℕ). placed l before) none, p.looked ∙ ap (λ (l : List ℕ). placed (drop 1 l) lookedBefore) none),
   )
@@ -334,11 +334,11 @@ saved-at {size = size} (inr p) = (size, inr p, (λ z. refl), λ n. absurd (n p.a
 of_c : FromC
 of_c =
     record {
-      marruskil-start = λ c. c.met;
-      marruskil-obey = λ c h. (obey (view c.given.0.now) c.given.1.0.now, line-tells (reachable h) c.given.1.0.now, (obeyed-at c.met).0, (obeyed-at c.met).1);
-      marruskil-check = λ c h. checked-at (demand2.access (view c.given.0.now) (reachable h) c.given.1.0 c.given.1.1.0 c.given.1.1.1.0) c.met;
-      marruskil-load = λ c. c.met;
-      marruskil-save = λ c. saved-at c.met;
+      marruskil_start = λ c. c.met;
+      marruskil_obey = λ c h. (obey (view c.given.0.now) c.given.1.0.now, line-tells (reachable h) c.given.1.0.now, (obeyed-at c.met).0, (obeyed-at c.met).1);
+      marruskil_check = λ c h. checked-at (demand2.access (view c.given.0.now) (reachable h) c.given.1.0 c.given.1.1.0 c.given.1.1.1.0) c.met;
+      marruskil_load = λ c. c.met;
+      marruskil_save = λ c. saved-at c.met;
     }
 
 pub own-calls : OwnCalls
@@ -349,5 +349,5 @@ own-calls =
       questions = of-questions;
       lines = of-lines;
       files = of-files;
-      from-c = of_c;
+      from_c = of_c;
     }

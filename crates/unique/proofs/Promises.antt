@@ -15,7 +15,7 @@ roleset =
       common = λ κs a x y e f vx vy p q. laws.made_one p q;
       minus = λ κs a x y e f vx vy p q. laws.made_one p q;
       subset = λ κs a x y e f vx vy p q. laws.answers_one p q;
-      is-empty = λ κs a x y e f vx vy p q. laws.answers_one p q;
+      is_empty = λ κs a x y e f vx vy p q. laws.answers_one p q;
       count = λ κs a x y e f vx vy p q. p.0 ∙ sym q.0;
       lowest = λ κs a x y e f vx vy p q. laws.lowest-one a.0 x y p q;
       size = λ κs a x y e f vx vy p q. p.0 ∙ sym q.0;
@@ -25,14 +25,14 @@ roleset =
 pub numbers : promises.Numbers
 numbers =
     record {
-      number-of = λ κs a x y e f vx vy p q. p ∙ sym q;
-      answer-of = λ κs a x y e f vx vy p q. p ∙ sym q;
-      is-done = λ κs a x y e f vx vy p q. p ∙ sym q;
-      user-beyond = λ κs a x y e f vx vy p q. p ∙ sym q;
-      role-beyond = λ κs a x y e f vx vy p q. p ∙ sym q;
-      session-beyond = λ κs a x y e f vx vy p q. p ∙ sym q;
+      number_of = λ κs a x y e f vx vy p q. p ∙ sym q;
+      answer_of = λ κs a x y e f vx vy p q. p ∙ sym q;
+      is_done = λ κs a x y e f vx vy p q. p ∙ sym q;
+      user_beyond = λ κs a x y e f vx vy p q. p ∙ sym q;
+      role_beyond = λ κs a x y e f vx vy p q. p ∙ sym q;
+      session_beyond = λ κs a x y e f vx vy p q. p ∙ sym q;
       set_beyond = λ κs a x y e f vx vy p q. p ∙ sym q;
-      activation-beyond = λ κs a x y e f vx vy p q. p ∙ sym q;
+      activation_beyond = λ κs a x y e f vx vy p q. p ∙ sym q;
     }
 
 pub hierarchy : promises.Hierarchy
@@ -41,49 +41,49 @@ hierarchy =
       reach = λ κs a x y e f vx vy p q. laws.reaches-one p q;
       circular = λ κs a x y e f vx vy p q. laws.tells-circle-one p q;
       turned = λ κs a x y e f vx vy p q. laws.arrays 64 x y _ vx.1.1.0.1 vy.1.1.0.1 p q;
-      at-or-above = λ κs a x y e f vx vy p q. laws.reaches-up-one p q;
+      at_or_above = λ κs a x y e f vx vy p q. laws.reaches-up-one p q;
     }
 
 pub state : promises.State
 state =
     record {
       either = λ κs a x y e f vx vy p q. p ∙ sym q;
-      permission-beyond = λ κs a x y e f vx vy p q. p ∙ sym q;
+      permission_beyond = λ κs a x y e f vx vy p q. p ∙ sym q;
       less = λ κs a x y e f vx vy p q. p ∙ sym q;
-      juniors = λ κs a x y e f p q. laws.table-one p q;
-      assigned = λ κs a x y e f p q. laws.table-one p q;
-      active = λ κs a x y e f p q. laws.table-one p q;
-      holders = λ κs a x y e f p q. laws.table-one p q;
-      juniors-table = λ κs a x y e f vx vy p q. laws.table-one p q;
-      assigned-table = λ κs a x y e f vx vy p q. laws.table-one p q;
-      sets-from = λ κs a x y e f vx vy p q. p ∙ sym q;
-      has-user = λ κs a x y e f vx vy p q. p ∙ sym q;
+      juniors = λ κs a x y e f p q. laws.table_one p q;
+      assigned = λ κs a x y e f p q. laws.table_one p q;
+      active = λ κs a x y e f p q. laws.table_one p q;
+      holders = λ κs a x y e f p q. laws.table_one p q;
+      juniors_table = λ κs a x y e f vx vy p q. laws.table_one p q;
+      assigned_table = λ κs a x y e f vx vy p q. laws.table_one p q;
+      sets_from = λ κs a x y e f vx vy p q. p ∙ sym q;
+      has_user = λ κs a x y e f vx vy p q. p ∙ sym q;
       roles = λ κs a x y e f vx vy p q. p ∙ sym q;
-      has-role = λ κs a x y e f vx vy p q. p ∙ sym q;
-      directly-below = λ κs a x y e f vx vy p q. p ∙ sym q;
-      assigned-to = λ κs a x y e f vx vy p q. p ∙ sym q;
-      holders-of = λ κs a x y e f vx vy p q. p ∙ sym q;
-      set-named = λ κs a x y e f vx vy p q. p ∙ sym q;
-      session-at = λ κs a x y e f vx vy p q. p ∙ sym q;
-      assignment-count = λ κs a x y e f vx vy p q. p ∙ sym q;
-      grant-count = λ κs a x y e f vx vy p q. p ∙ sym q;
-      line-count = λ κs a x y e f vx vy p q. p ∙ sym q;
+      has_role = λ κs a x y e f vx vy p q. p ∙ sym q;
+      directly_below = λ κs a x y e f vx vy p q. p ∙ sym q;
+      assigned_to = λ κs a x y e f vx vy p q. p ∙ sym q;
+      holders_of = λ κs a x y e f vx vy p q. p ∙ sym q;
+      set_named = λ κs a x y e f vx vy p q. p ∙ sym q;
+      session_at = λ κs a x y e f vx vy p q. p ∙ sym q;
+      assignment_count = λ κs a x y e f vx vy p q. p ∙ sym q;
+      grant_count = λ κs a x y e f vx vy p q. p ∙ sym q;
+      line_count = λ κs a x y e f vx vy p q. p ∙ sym q;
       start = λ κs a x y e f sx sy p q. (refl, laws.states sx sy p q);
       put_all = λ κs a x y e f sx sy p q. (refl, laws.states sx sy p q);
-      put-user = λ κs a x y e f sx sy p q. (refl, laws.states sx sy p q);
-      put-roles = λ κs a x y e f sx sy p q. (refl, laws.states sx sy p q);
-      put-juniors = λ κs a x y e f sx sy p q. (refl, laws.states sx sy p q);
-      put-assigned = λ κs a x y e f sx sy p q. (refl, laws.states sx sy p q);
-      put-holders = λ κs a x y e f sx sy p q. (refl, laws.states sx sy p q);
-      put-lines = λ κs a x y e f sx sy p q. (refl, laws.states sx sy p q);
-      put-assignments = λ κs a x y e f sx sy p q. (refl, laws.states sx sy p q);
-      put-set = λ κs a x y e f sx sy p q. (refl, laws.states sx sy p q);
-      put-members = λ κs a x y e f sx sy p q. (refl, laws.states sx sy p q);
-      clear-set = λ κs a x y e f sx sy p q. (refl, laws.states sx sy p q);
-      open-session = λ κs a x y e f sx sy p q. (refl, laws.states sx sy p q);
-      put-active = λ κs a x y e f sx sy p q. (refl, laws.states sx sy p q);
-      close-session = λ κs a x y e f sx sy p q. (refl, laws.states sx sy p q);
-      put-all-active = λ κs a x y e f sx sy p q. (refl, laws.states sx sy p q);
+      put_user = λ κs a x y e f sx sy p q. (refl, laws.states sx sy p q);
+      put_roles = λ κs a x y e f sx sy p q. (refl, laws.states sx sy p q);
+      put_juniors = λ κs a x y e f sx sy p q. (refl, laws.states sx sy p q);
+      put_assigned = λ κs a x y e f sx sy p q. (refl, laws.states sx sy p q);
+      put_holders = λ κs a x y e f sx sy p q. (refl, laws.states sx sy p q);
+      put_lines = λ κs a x y e f sx sy p q. (refl, laws.states sx sy p q);
+      put_assignments = λ κs a x y e f sx sy p q. (refl, laws.states sx sy p q);
+      put_set = λ κs a x y e f sx sy p q. (refl, laws.states sx sy p q);
+      put_members = λ κs a x y e f sx sy p q. (refl, laws.states sx sy p q);
+      clear_set = λ κs a x y e f sx sy p q. (refl, laws.states sx sy p q);
+      open_session = λ κs a x y e f sx sy p q. (refl, laws.states sx sy p q);
+      put_active = λ κs a x y e f sx sy p q. (refl, laws.states sx sy p q);
+      close_session = λ κs a x y e f sx sy p q. (refl, laws.states sx sy p q);
+      put_all_active = λ κs a x y e f sx sy p q. (refl, laws.states sx sy p q);
     }
 
 pub walking : promises.Walking
@@ -96,19 +96,19 @@ pub separation : promises.Separation
 separation =
     record {
       breaks = λ κs a x y e f vx vy p q. p ∙ sym q;
-      bad-cardinality = λ κs a x y e f vx vy p q. p ∙ sym q;
-      breaks-some = λ κs a x y e f vx vy p q. p ∙ sym q;
+      bad_cardinality = λ κs a x y e f vx vy p q. p ∙ sym q;
+      breaks_some = λ κs a x y e f vx vy p q. p ∙ sym q;
     }
 
 pub sweeps : promises.Sweeps
 sweeps =
     record {
-      ask-rule = λ κs a x y e f vx vy p q. p ∙ sym q;
-      ask-set = λ κs a x y e f vx vy p q. p ∙ sym q;
+      ask_rule = λ κs a x y e f vx vy p q. p ∙ sym q;
+      ask_set = λ κs a x y e f vx vy p q. p ∙ sym q;
       shed = λ κs a x y e f vx vy p q. laws.sheds-all-one p q;
-      end-all = λ κs a x y e f sx sy p q. (refl, laws.states sx sy p q);
-      has-open = λ κs a x y e f vx vy p q. p ∙ sym q;
-      lowest-free = λ κs a x y e f vx vy p q. p ∙ sym q;
+      end_all = λ κs a x y e f sx sy p q. (refl, laws.states sx sy p q);
+      has_open = λ κs a x y e f vx vy p q. p ∙ sym q;
+      lowest_free = λ κs a x y e f vx vy p q. p ∙ sym q;
       strip = λ κs a x y e f vx vy p q. laws.strips-one p q;
     }
 
@@ -122,7 +122,7 @@ pub users : promises.Users
 users =
     record {
       user = λ κs a x y e f sx sy p q. laws.outcomes sx sy p q;
-      end-all = λ κs a x y e f sx sy p q. laws.outcomes sx sy p q;
+      end_all = λ κs a x y e f sx sy p q. laws.outcomes sx sy p q;
       nouser = λ κs a x y e f sx sy p q. laws.outcomes sx sy p q;
     }
 
@@ -157,11 +157,11 @@ inheriting =
 pub sets : promises.Sets
 sets =
     record {
-      make-set = λ κs a x y e f sx sy p q. laws.outcomes sx sy p q;
-      drop-set = λ κs a x y e f sx sy p q. laws.outcomes sx sy p q;
-      add-member = λ κs a x y e f sx sy p q. laws.outcomes sx sy p q;
-      drop-member = λ κs a x y e f sx sy p q. laws.outcomes sx sy p q;
-      set-cardinality = λ κs a x y e f sx sy p q. laws.outcomes sx sy p q;
+      make_set = λ κs a x y e f sx sy p q. laws.outcomes sx sy p q;
+      drop_set = λ κs a x y e f sx sy p q. laws.outcomes sx sy p q;
+      add_member = λ κs a x y e f sx sy p q. laws.outcomes sx sy p q;
+      drop_member = λ κs a x y e f sx sy p q. laws.outcomes sx sy p q;
+      set_cardinality = λ κs a x y e f sx sy p q. laws.outcomes sx sy p q;
     }
 
 pub sessions : promises.Sessions
@@ -183,19 +183,19 @@ checking =
 pub reviews : promises.Reviews
 reviews =
     record {
-      assigned-users = λ κs a x y e f vx vy p q. laws.reviewed-one p q;
-      assigned-roles = λ κs a x y e f vx vy p q. laws.reviewed-one p q;
-      auth-users = λ κs a x y e f vx vy p q. laws.reviewed-one p q;
-      auth-roles = λ κs a x y e f vx vy p q. laws.reviewed-one p q;
-      role-perms = λ κs a x y e f vx vy p q. laws.reviewed-one p q;
-      user-perms = λ κs a x y e f vx vy p q. laws.reviewed-one p q;
-      session-roles = λ κs a x y e f vx vy p q. laws.reviewed-one p q;
-      session-perms = λ κs a x y e f vx vy p q. laws.reviewed-one p q;
-      role-ops = λ κs a x y e f vx vy p q. laws.reviewed-one p q;
-      user-ops = λ κs a x y e f vx vy p q. laws.reviewed-one p q;
-      set-names = λ κs a x y e f vx vy p q. laws.reviewed-one p q;
-      set-roles = λ κs a x y e f vx vy p q. laws.reviewed-one p q;
-      set-count = λ κs a x y e f vx vy p q. laws.reviewed-one p q;
+      assigned_users = λ κs a x y e f vx vy p q. laws.reviewed-one p q;
+      assigned_roles = λ κs a x y e f vx vy p q. laws.reviewed-one p q;
+      auth_users = λ κs a x y e f vx vy p q. laws.reviewed-one p q;
+      auth_roles = λ κs a x y e f vx vy p q. laws.reviewed-one p q;
+      role_perms = λ κs a x y e f vx vy p q. laws.reviewed-one p q;
+      user_perms = λ κs a x y e f vx vy p q. laws.reviewed-one p q;
+      session_roles = λ κs a x y e f vx vy p q. laws.reviewed-one p q;
+      session_perms = λ κs a x y e f vx vy p q. laws.reviewed-one p q;
+      role_ops = λ κs a x y e f vx vy p q. laws.reviewed-one p q;
+      user_ops = λ κs a x y e f vx vy p q. laws.reviewed-one p q;
+      set_names = λ κs a x y e f vx vy p q. laws.reviewed-one p q;
+      set_roles = λ κs a x y e f vx vy p q. laws.reviewed-one p q;
+      set_count = λ κs a x y e f vx vy p q. laws.reviewed-one p q;
     }
 
 pub engine : promises.Engine
@@ -209,7 +209,7 @@ pub text : promises.Text
 text =
     record {
       put = λ κs a x y e f vx vy p q. laws.put_one p q;
-      put-text = λ κs a x y e f vx vy p q. laws.put_one p q;
+      put_text = λ κs a x y e f vx vy p q. laws.put_one p q;
       word_at = λ κs a x y e f vx vy p q. p ∙ sym q;
     }
 
@@ -229,7 +229,7 @@ pub policycheck : promises.Policycheck
 policycheck =
     record {
       formed = λ κs a x y e f vx vy p q. laws.tells-one p q;
-      broken = λ κs a x y e f vx vy p q. laws.numbers-one p q;
+      broken = λ κs a x y e f vx vy p q. laws.numbers_one p q;
     }
 
 pub policyfile : promises.Policyfile
@@ -242,8 +242,8 @@ policyfile =
 pub decimal : promises.Decimal
 decimal =
     record {
-      put-number = λ κs a x y e f vx vy p q. laws.put_one p q;
-      put-numbers = λ κs a x y e f vx vy p q. laws.put_one p q;
+      put_number = λ κs a x y e f vx vy p q. laws.put_one p q;
+      put_numbers = λ κs a x y e f vx vy p q. laws.put_one p q;
       value = λ κs a x y e f vx vy p q. p ∙ sym q;
     }
 
@@ -252,7 +252,7 @@ words =
     record {
       which = λ κs a x y e f vx vy p q. p ∙ sym q;
       put_word = λ κs a x y e f vx vy p q. laws.put_one p q;
-      before-list = λ κs a x y e f vx vy p q. p ∙ sym q;
+      before_list = λ κs a x y e f vx vy p q. p ∙ sym q;
       takes = λ κs a x y e f vx vy p q. p ∙ sym q;
       same = λ κs a x y e f vx vy p q. p ∙ sym q;
     }
@@ -262,7 +262,7 @@ textlines =
     record {
       part_at = λ κs a x y e f p q. p ∙ sym q;
       past = λ κs a x y e f vx vy p q. p ∙ sym q;
-      next-from = λ κs a x y e f p q. λ i. ((p.0 ∙ sym q.0) i, (p.1 ∙ sym q.1) i);
+      next_from = λ κs a x y e f p q. λ i. ((p.0 ∙ sym q.0) i, (p.1 ∙ sym q.1) i);
       bumped = λ κs a x y e f vx vy p q. p ∙ sym q;
       tallied = λ κs a x y e f vx vy p q. p ∙ sym q;
     }
@@ -270,7 +270,7 @@ textlines =
 pub reading : promises.Reading
 reading =
     record {
-      read-line = λ κs a x y e f vx vy p q. p ∙ sym q;
+      read_line = λ κs a x y e f vx vy p q. p ∙ sym q;
     }
 
 pub meaning : promises.Meaning
@@ -282,9 +282,9 @@ meaning =
 pub script : promises.Script
 script =
     record {
-      answer-text = λ κs a x y e f vx vy p q. laws.put_one p q;
-      total-text = λ κs a x y e f vx vy p q. laws.put_one p q;
-      answer-line = λ κs a x y e f sx sy p q. laws.answered-one sx sy p q;
+      answer_text = λ κs a x y e f vx vy p q. laws.put_one p q;
+      total_text = λ κs a x y e f vx vy p q. laws.put_one p q;
+      answer_line = λ κs a x y e f sx sy p q. laws.answered-one sx sy p q;
       turn = λ κs a x y e f sx sy p q. laws.turns-one sx sy p q;
     }
 
@@ -299,11 +299,11 @@ program =
 pub clibrary : promises.Clibrary
 clibrary =
     record {
-      marruskil-start = λ κs a x y e f sx sy p q. (refl, laws.states sx sy p q);
-      marruskil-obey = λ κs a x y e f sx sy p q. laws.obeys-one sx sy p q;
-      marruskil-check = λ κs a x y e f vx vy p q. laws.checks-at-one p q;
-      marruskil-load = λ κs a x y e f sx sy p q. laws.loaded-one sx sy p q;
-      marruskil-save = λ κs a x y e f vx vy p q. laws.saves-at-one p q;
+      marruskil_start = λ κs a x y e f sx sy p q. (refl, laws.states sx sy p q);
+      marruskil_obey = λ κs a x y e f sx sy p q. laws.obeys-one sx sy p q;
+      marruskil_check = λ κs a x y e f vx vy p q. laws.checks-at-one p q;
+      marruskil_load = λ κs a x y e f sx sy p q. laws.loaded-one sx sy p q;
+      marruskil_save = λ κs a x y e f vx vy p q. laws.saves-at-one p q;
     }
 
 -- ---- end of what tests/unique.py writes

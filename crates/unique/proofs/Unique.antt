@@ -31,9 +31,9 @@ use Rattle.state.proofs.OneToOne.{view-one-to-one}
 use Rattle.state.proofs.Tables as tables
 use Rattle.hierarchy.specs.Walks.{Reaches, ReachesUp, TellsCircle}
 use Rattle.sweeps.specs.Sweeps.{ShedsAll, Strips}
-use Rattle.state.specs.Results.{isDone, given, bothGiven}
-use Rattle.sessions.specs.Answering.{Opens, toldOpened}
-use Rattle.checking.specs.Answering.{Checks, Owns, toldChecked, toldOwned}
+use Rattle.state.specs.Results.{is_done, given, both_given}
+use Rattle.sessions.specs.Answering.{Opens, told_opened}
+use Rattle.checking.specs.Answering.{Checks, Owns, told_checked, told_owned}
 use Rattle.sessions.specs.declared.Opened.{Opened}
 use Rattle.checking.specs.declared.Checked.{Checked}
 use Rattle.checking.specs.declared.Owned.{Owned}
@@ -123,7 +123,7 @@ reaches-up-one p q = p.is ∙ sym q.is
 
 -- two tables of so many numbers are one
 pub table-one : {n : ℕ} {t : ℕ → ℕ} {x y : List ℕ} → Table n t x → Table n t y → x ≡ y
-table-one {x = x} {y} p q = tables.table-one x y 0 (p.long ∙ sym q.long) (p.each ∙ sym q.each)
+table-one {x = x} {y} p q = tables.table_one x y 0 (p.long ∙ sym q.long) (p.each ∙ sym q.each)
 
 pub reads-one : {list : List ℕ} {x y : Listed} → Reads list x → Reads list y → x ≡ y
 reads-one p q = λ i. record { ascending = (p.ascending ∙ sym q.ascending) i; beyond = (p.beyond ∙ sym q.beyond) i; roles = (p.roles ∙ sym q.roles) i }
@@ -153,7 +153,7 @@ results-one false true m n e sm sn = absurd (omega (arith, ap length e))
 results-one false false m n e sm sn = (refl, sm refl ∙ sym (sn refl))
 
 -- The same of two that are given together.
-both_one : (b d : Bool) (m n k j : ℕ) → bothGiven b m k ≡ bothGiven d n j → (b ≡ false → (m ≡ 0) × (k ≡ 0)) → (d ≡ false → (n ≡ 0) × (j ≡ 0)) → (m ≡ n) × (k ≡ j)
+both_one : (b d : Bool) (m n k j : ℕ) → both_given b m k ≡ both_given d n j → (b ≡ false → (m ≡ 0) × (k ≡ 0)) → (d ≡ false → (n ≡ 0) × (j ≡ 0)) → (m ≡ n) × (k ≡ j)
 unfolding first second
 both_one true true m n k j e sm sn = (ap first e, ap second e)
 both_one true false m n k j e sm sn = absurd (omega (arith, ap length e))
@@ -167,36 +167,36 @@ bits-one false true e = absurd (omega arith)
 bits-one false false e = refl
 
 pub opens_one : {t : Told} {x y : Opened} {l r : List ℕ} → State l → State r → Opens t x l → Opens t y r → (x ≡ y) × (l ≡ r)
-unfolding toldOpened
+unfolding told_opened
 opens_one {x = x} {y} {l} {r} sl sr p q = ((λ i. record { answer = answers i; session = record { number = numbers-one i } }), states sl sr (ap (λ (t : Told). t.after) p.tells) (ap (λ (t : Told). t.after) q.tells))
   where
-    same : toldOpened x l ≡ toldOpened y r
+    same : told_opened x l ≡ told_opened y r
     same = p.tells ∙ sym q.tells
 
     answers : x.answer ≡ y.answer
     answers = number-one-to-one x.answer y.answer (ap (λ (t : Told). t.answer) same)
 
-    numbers-one : x.session.number ≡ y.session.number
-    numbers-one = (results-one (isDone x.answer) (isDone y.answer) x.session.number y.session.number (ap (λ (t : Told). t.results) same) p.silent q.silent).1
+    numbers_one : x.session.number ≡ y.session.number
+    numbers_one = (results-one (is_done x.answer) (is_done y.answer) x.session.number y.session.number (ap (λ (t : Told). t.results) same) p.silent q.silent).1
 
 pub checks-one : {m : Model} {told : Told} {x y : Checked} → Checks m told x → Checks m told y → x ≡ y
-unfolding toldChecked
+unfolding told_checked
 checks-one {m} {x = x} {y} p q = λ i. record { answer = answers i; yes = bits-one x.yes y.yes both.0 i; looked = both.1 i }
   where
-    same : toldChecked m x ≡ toldChecked m y
+    same : told_checked m x ≡ told_checked m y
     same = p.tells ∙ sym q.tells
 
     answers : x.answer ≡ y.answer
     answers = number-one-to-one x.answer y.answer (ap (λ (t : Told). t.answer) same)
 
     both : (bit x.yes ≡ bit y.yes) × (x.looked ≡ y.looked)
-    both = both_one (isDone x.answer) (isDone y.answer) (bit x.yes) (bit y.yes) x.looked y.looked (ap (λ (t : Told). t.results) same) (λ h. (ap bit (p.silent h).0, (p.silent h).1)) (λ h. (ap bit (q.silent h).0, (q.silent h).1))
+    both = both_one (is_done x.answer) (is_done y.answer) (bit x.yes) (bit y.yes) x.looked y.looked (ap (λ (t : Told). t.results) same) (λ h. (ap bit (p.silent h).0, (p.silent h).1)) (λ h. (ap bit (q.silent h).0, (q.silent h).1))
 
 pub owns-one : {m : Model} {told : Told} {x y : Owned} → Owns m told x → Owns m told y → x ≡ y
-unfolding toldOwned
-owns-one {m} {x = x} {y} p q = λ i. record { answer = answers i; owner = (results-one (isDone x.answer) (isDone y.answer) x.owner y.owner (ap (λ (t : Told). t.results) same) p.silent q.silent).1 i }
+unfolding told_owned
+owns-one {m} {x = x} {y} p q = λ i. record { answer = answers i; owner = (results-one (is_done x.answer) (is_done y.answer) x.owner y.owner (ap (λ (t : Told). t.results) same) p.silent q.silent).1 i }
   where
-    same : toldOwned m x ≡ toldOwned m y
+    same : told_owned m x ≡ told_owned m y
     same = p.tells ∙ sym q.tells
 
     answers : x.answer ≡ y.answer

@@ -17,4 +17,4 @@ pub record AnyState : Type 0 where
   pub permits : (l : List ℕ) → State l → (s p : ℕ) → (permitted (view l) s p ≡ true) ↔ ((r : ℕ) × Under (view l).juniors ((view l).sessions s).active r × (has ((view l).holders p) r ≡ true))
   -- To see that, a check looks at those of them that are above none that holds it: as many as `looked`, and 64 at most.
   pub looks : (l : List ℕ) → State l → (s p : ℕ) → HowMany (λ k. Under (view l).juniors ((view l).sessions s).active k × ((r : ℕ) → Under (view l).juniors ((view l).sessions s).active r → has ((view l).holders p) r ≡ true → k ≤ r)) (looked (view l) s p)
-  pub at-most : (l : List ℕ) → State l → (s p : ℕ) → looked (view l) s p ≤ 64
+  pub at_most : (l : List ℕ) → State l → (s p : ℕ) → looked (view l) s p ≤ 64

@@ -4,9 +4,9 @@
 use Rattle.std.specs.Prelude.{List, ◌≡◌, ℕ, ◌≤◌, ◌<◌, length, get_or}
 use Rattle.numbers.specs.Answers.{number_of}
 use Rattle.state.specs.View.{view}
-use Rattle.textlines.specs.Parts.{partAt}
-use Rattle.script.specs.Script.{answerText, obey, lineFeed}
-use Rattle.program.specs.Printing.{stageOf, piece}
+use Rattle.textlines.specs.Parts.{part_at}
+use Rattle.script.specs.Script.{answer_text, obey, line_feed}
+use Rattle.program.specs.Printing.{stage_of, piece}
 use Rattle.unique.specs.Handed.{Call}
 -- ---- written by tests/unique.py: the crates
 use Rattle.reviews.proofs as reviews
@@ -45,51 +45,51 @@ pub record Texted (text : List ℕ) (len : ℕ) (before after : List ℕ) : Type
 -- A buffer before and after bytes were put into it from the place `at` on: the places before that and from `next` on are as they were.
 pub record Around (at next : ℕ) (before after : List ℕ) : Type 0 where
   pub long : length after ≡ length before
-  pub before-it : (k : ℕ) → k < at → get_or after k 0 ≡ get_or before k 0
+  pub before_it : (k : ℕ) → k < at → get_or after k 0 ≡ get_or before k 0
   pub past : (k : ℕ) → next ≤ k → get_or after k 0 ≡ get_or before k 0
 
 pub record Buffers : Type 0 where
   -- Every review, by its own function and by `ask`: the buffer has the results at its front.
   -- ---- written by tests/unique.py: the reviews
-  pub assigned-users : (c : Call reviews.assigned_users.Kinds.ps reviews.assigned_users.Kinds.r reviews.assigned_users.Reads.Post) → Lent (number_of c.result.answer) c.result.count c.given.1.1.0.now c.exits.1.1.0.now
-  pub assigned-roles : (c : Call reviews.assigned_roles.Kinds.ps reviews.assigned_roles.Kinds.r reviews.assigned_roles.Reads.Post) → Lent (number_of c.result.answer) c.result.count c.given.1.1.0.now c.exits.1.1.0.now
-  pub auth-users : (c : Call reviews.auth_users.Kinds.ps reviews.auth_users.Kinds.r reviews.auth_users.Reads.Post) → Lent (number_of c.result.answer) c.result.count c.given.1.1.0.now c.exits.1.1.0.now
-  pub auth-roles : (c : Call reviews.auth_roles.Kinds.ps reviews.auth_roles.Kinds.r reviews.auth_roles.Reads.Post) → Lent (number_of c.result.answer) c.result.count c.given.1.1.0.now c.exits.1.1.0.now
-  pub role-perms : (c : Call reviews.role_perms.Kinds.ps reviews.role_perms.Kinds.r reviews.role_perms.Reads.Post) → Lent (number_of c.result.answer) c.result.count c.given.1.1.0.now c.exits.1.1.0.now
-  pub user-perms : (c : Call reviews.user_perms.Kinds.ps reviews.user_perms.Kinds.r reviews.user_perms.Reads.Post) → Lent (number_of c.result.answer) c.result.count c.given.1.1.0.now c.exits.1.1.0.now
-  pub session-roles : (c : Call reviews.session_roles.Kinds.ps reviews.session_roles.Kinds.r reviews.session_roles.Reads.Post) → Lent (number_of c.result.answer) c.result.count c.given.1.1.0.now c.exits.1.1.0.now
-  pub session-perms : (c : Call reviews.session_perms.Kinds.ps reviews.session_perms.Kinds.r reviews.session_perms.Reads.Post) → Lent (number_of c.result.answer) c.result.count c.given.1.1.0.now c.exits.1.1.0.now
-  pub role-ops : (c : Call reviews.role_ops.Kinds.ps reviews.role_ops.Kinds.r reviews.role_ops.Reads.Post) → Lent (number_of c.result.answer) c.result.count c.given.1.1.1.0.now c.exits.1.1.1.0.now
-  pub user-ops : (c : Call reviews.user_ops.Kinds.ps reviews.user_ops.Kinds.r reviews.user_ops.Reads.Post) → Lent (number_of c.result.answer) c.result.count c.given.1.1.1.0.now c.exits.1.1.1.0.now
-  pub set-names : (c : Call reviews.set_names.Kinds.ps reviews.set_names.Kinds.r reviews.set_names.Reads.Post) → Lent (number_of c.result.answer) c.result.count c.given.1.1.0.now c.exits.1.1.0.now
-  pub set-roles : (c : Call reviews.set_roles.Kinds.ps reviews.set_roles.Kinds.r reviews.set_roles.Reads.Post) → Lent (number_of c.result.answer) c.result.count c.given.1.1.1.0.now c.exits.1.1.1.0.now
-  pub set-count : (c : Call reviews.set_count.Kinds.ps reviews.set_count.Kinds.r reviews.set_count.Reads.Post) → Lent (number_of c.result.answer) c.result.count c.given.1.1.1.0.now c.exits.1.1.1.0.now
+  pub assigned_users : (c : Call reviews.assigned_users.Kinds.ps reviews.assigned_users.Kinds.r reviews.assigned_users.Reads.Post) → Lent (number_of c.result.answer) c.result.count c.given.1.1.0.now c.exits.1.1.0.now
+  pub assigned_roles : (c : Call reviews.assigned_roles.Kinds.ps reviews.assigned_roles.Kinds.r reviews.assigned_roles.Reads.Post) → Lent (number_of c.result.answer) c.result.count c.given.1.1.0.now c.exits.1.1.0.now
+  pub auth_users : (c : Call reviews.auth_users.Kinds.ps reviews.auth_users.Kinds.r reviews.auth_users.Reads.Post) → Lent (number_of c.result.answer) c.result.count c.given.1.1.0.now c.exits.1.1.0.now
+  pub auth_roles : (c : Call reviews.auth_roles.Kinds.ps reviews.auth_roles.Kinds.r reviews.auth_roles.Reads.Post) → Lent (number_of c.result.answer) c.result.count c.given.1.1.0.now c.exits.1.1.0.now
+  pub role_perms : (c : Call reviews.role_perms.Kinds.ps reviews.role_perms.Kinds.r reviews.role_perms.Reads.Post) → Lent (number_of c.result.answer) c.result.count c.given.1.1.0.now c.exits.1.1.0.now
+  pub user_perms : (c : Call reviews.user_perms.Kinds.ps reviews.user_perms.Kinds.r reviews.user_perms.Reads.Post) → Lent (number_of c.result.answer) c.result.count c.given.1.1.0.now c.exits.1.1.0.now
+  pub session_roles : (c : Call reviews.session_roles.Kinds.ps reviews.session_roles.Kinds.r reviews.session_roles.Reads.Post) → Lent (number_of c.result.answer) c.result.count c.given.1.1.0.now c.exits.1.1.0.now
+  pub session_perms : (c : Call reviews.session_perms.Kinds.ps reviews.session_perms.Kinds.r reviews.session_perms.Reads.Post) → Lent (number_of c.result.answer) c.result.count c.given.1.1.0.now c.exits.1.1.0.now
+  pub role_ops : (c : Call reviews.role_ops.Kinds.ps reviews.role_ops.Kinds.r reviews.role_ops.Reads.Post) → Lent (number_of c.result.answer) c.result.count c.given.1.1.1.0.now c.exits.1.1.1.0.now
+  pub user_ops : (c : Call reviews.user_ops.Kinds.ps reviews.user_ops.Kinds.r reviews.user_ops.Reads.Post) → Lent (number_of c.result.answer) c.result.count c.given.1.1.1.0.now c.exits.1.1.1.0.now
+  pub set_names : (c : Call reviews.set_names.Kinds.ps reviews.set_names.Kinds.r reviews.set_names.Reads.Post) → Lent (number_of c.result.answer) c.result.count c.given.1.1.0.now c.exits.1.1.0.now
+  pub set_roles : (c : Call reviews.set_roles.Kinds.ps reviews.set_roles.Kinds.r reviews.set_roles.Reads.Post) → Lent (number_of c.result.answer) c.result.count c.given.1.1.1.0.now c.exits.1.1.1.0.now
+  pub set_count : (c : Call reviews.set_count.Kinds.ps reviews.set_count.Kinds.r reviews.set_count.Reads.Post) → Lent (number_of c.result.answer) c.result.count c.given.1.1.1.0.now c.exits.1.1.1.0.now
   pub ask : (c : Call engine.ask.Kinds.ps engine.ask.Kinds.r engine.ask.Reads.Post) → Lent (number_of c.result.answer) c.result.count c.given.1.1.0.now c.exits.1.1.0.now
   -- ---- end of what tests/unique.py writes
   -- "Saving answers 15 or 0 with the length".
   pub save : (c : Call policyfile.save.Kinds.ps policyfile.save.Kinds.r policyfile.save.Reads.Post) → Lent (number_of c.result.answer) c.result.length c.given.1.0.now c.exits.1.0.now
   -- A line of a script puts its answer's text, done or refused, and nothing else.
-  pub answer-line : (c : Call script.answer_line.Kinds.ps script.answer_line.Kinds.r script.answer_line.Reads.Post)
-      → let t = obey (view c.given.0.now) c.given.1.0.now in Texted (answerText t.answer t.results) c.result.len c.given.1.1.0.now c.exits.1.1.0.now
+  pub answer_line : (c : Call script.answer_line.Kinds.ps script.answer_line.Kinds.r script.answer_line.Reads.Post)
+      → let t = obey (view c.given.0.now) c.given.1.0.now in Texted (answer_text t.answer t.results) c.result.len c.given.1.1.0.now c.exits.1.1.0.now
   -- So does the line at a place of a script.
   pub turn : (c : Call script.turn.Kinds.ps script.turn.Kinds.r script.turn.Reads.Post)
-      → let t = obey (view c.given.1.0.now) (partAt lineFeed c.given.0.now c.given.1.1.0.at) in Texted (answerText t.answer t.results) c.result.len c.given.1.1.1.0.now c.exits.1.1.1.0.now
+      → let t = obey (view c.given.1.0.now) (part_at line_feed c.given.0.now c.given.1.1.0.at) in Texted (answer_text t.answer t.results) c.result.len c.given.1.1.1.0.now c.exits.1.1.1.0.now
   -- A call of the program puts what is printed next.
   pub next : (c : Call program.next.Kinds.ps program.next.Kinds.r program.next.Reads.Post)
-      → Texted (piece (stageOf c.given.0.now c.given.1.1.0) c.given.0.now c.given.1.0.now c.given.1.1.0.progress).text c.result.len c.given.1.1.1.0.now c.exits.1.1.1.0.now
+      → Texted (piece (stage_of c.given.0.now c.given.1.1.0) c.given.0.now c.given.1.0.now c.given.1.1.0.progress).text c.result.len c.given.1.1.1.0.now c.exits.1.1.1.0.now
   -- For C: an answer line, or nothing, stands at the front of the buffer up to the length that is handed back; and so does a file, which a refusal does
   -- not write.
-  pub marruskil-obey : (c : Call clibrary.marruskil_obey.Kinds.ps clibrary.marruskil_obey.Kinds.r clibrary.marruskil_obey.Reads.Post) → Around 0 c.result c.given.1.1.0.now c.exits.1.1.0.now
-  pub marruskil-save : (c : Call clibrary.marruskil_save.Kinds.ps clibrary.marruskil_save.Kinds.r clibrary.marruskil_save.Reads.Post)
+  pub marruskil_obey : (c : Call clibrary.marruskil_obey.Kinds.ps clibrary.marruskil_obey.Kinds.r clibrary.marruskil_obey.Reads.Post) → Around 0 c.result c.given.1.1.0.now c.exits.1.1.0.now
+  pub marruskil_save : (c : Call clibrary.marruskil_save.Kinds.ps clibrary.marruskil_save.Kinds.r clibrary.marruskil_save.Reads.Post)
       → ((c.result ≡ 0 → ⊥) → c.exits.1.0.now ≡ c.given.1.0.now) × (c.result ≡ 0 → Around 0 c.exits.1.1.0.now c.given.1.0.now c.exits.1.0.now)
   -- Every other function that puts bytes into a lent buffer: from the place that it is given on, or from the front, up to the place that it hands back.
   -- ---- written by tests/unique.py: what puts a text
   pub put : (c : Call text.put.Kinds.ps text.put.Kinds.r text.put.Reads.Post) → Around c.given.1.0 c.result c.given.0.now c.exits.0.now
-  pub put-text : (c : Call text.put_text.Kinds.ps text.put_text.Kinds.r text.put_text.Reads.Post) → Around c.given.1.0 c.result c.given.0.now c.exits.0.now
+  pub put_text : (c : Call text.put_text.Kinds.ps text.put_text.Kinds.r text.put_text.Reads.Post) → Around c.given.1.0 c.result c.given.0.now c.exits.0.now
   pub write : (c : Call policywrite.write.Kinds.ps policywrite.write.Kinds.r policywrite.write.Reads.Post) → Around 0 c.result c.given.1.0.now c.exits.1.0.now
-  pub put-number : (c : Call decimal.put_number.Kinds.ps decimal.put_number.Kinds.r decimal.put_number.Reads.Post) → Around c.given.1.0 c.result c.given.0.now c.exits.0.now
-  pub put-numbers : (c : Call decimal.put_numbers.Kinds.ps decimal.put_numbers.Kinds.r decimal.put_numbers.Reads.Post) → Around c.given.1.0 c.result c.given.0.now c.exits.0.now
+  pub put_number : (c : Call decimal.put_number.Kinds.ps decimal.put_number.Kinds.r decimal.put_number.Reads.Post) → Around c.given.1.0 c.result c.given.0.now c.exits.0.now
+  pub put_numbers : (c : Call decimal.put_numbers.Kinds.ps decimal.put_numbers.Kinds.r decimal.put_numbers.Reads.Post) → Around c.given.1.0 c.result c.given.0.now c.exits.0.now
   pub put_word : (c : Call words.put_word.Kinds.ps words.put_word.Kinds.r words.put_word.Reads.Post) → Around c.given.1.0 c.result c.given.0.now c.exits.0.now
-  pub answer-text : (c : Call script.answer_text.Kinds.ps script.answer_text.Kinds.r script.answer_text.Reads.Post) → Around 0 c.result c.given.0.now c.exits.0.now
-  pub total-text : (c : Call script.total_text.Kinds.ps script.total_text.Kinds.r script.total_text.Reads.Post) → Around 0 c.result c.given.0.now c.exits.0.now
+  pub answer_text : (c : Call script.answer_text.Kinds.ps script.answer_text.Kinds.r script.answer_text.Reads.Post) → Around 0 c.result c.given.0.now c.exits.0.now
+  pub total_text : (c : Call script.total_text.Kinds.ps script.total_text.Kinds.r script.total_text.Reads.Post) → Around 0 c.result c.given.0.now c.exits.0.now
   -- ---- end of what tests/unique.py writes

@@ -6,7 +6,7 @@ use Rattle.model.specs.Sheet.{Told}
 use Rattle.model.specs.Step.{step}
 use Rattle.model.specs.declared.Command.{Command}
 use Rattle.policyform.specs.Promises.{Loads}
-use Rattle.state.specs.Places.{holdersAt, assignedAt, juniorsAt, ssdCardsAt, dsdCardsAt, ownersAt, usersAt, rolesAt, assignmentCountAt, grantCountAt, lineCountAt}
+use Rattle.state.specs.Places.{holders_at, assigned_at, juniors_at, ssd_cards_at, dsd_cards_at, owners_at, users_at, roles_at, assignment_count_at, grant_count_at, line_count_at}
 use Rattle.state.specs.View.{view}
 use Rattle.unique.specs.Unique.{State}
 
@@ -22,14 +22,14 @@ pub record Frame : Type 0 where
   -- nor does a load that is refused
   pub unloaded : (before after : List ℕ) → State before → State after → (bytes : List ℕ) (told : Told) → Loads (view before) bytes told → (told.answer ≡ 0 → ⊥) → view after ≡ told.after → after ≡ before
   -- and where a part of the policy or the sessions is left, so is every number of it
-  pub holders : (before after : List ℕ) → (view after).holders ≡ (view before).holders → Same holdersAt 4096 before after
-  pub assigned : (before after : List ℕ) → (view after).assigned ≡ (view before).assigned → Same assignedAt 256 before after
-  pub juniors : (before after : List ℕ) → (view after).juniors ≡ (view before).juniors → Same juniorsAt 64 before after
-  pub ssd : (before after : List ℕ) → (view after).ssd ≡ (view before).ssd → Same ssdCardsAt 32 before after
-  pub dsd : (before after : List ℕ) → (view after).dsd ≡ (view before).dsd → Same dsdCardsAt 32 before after
-  pub sessions : (before after : List ℕ) → (view after).sessions ≡ (view before).sessions → Same ownersAt 128 before after
-  pub users : (before after : List ℕ) → State before → State after → (view after).users ≡ (view before).users → Same usersAt 4 before after
-  pub roles : (before after : List ℕ) → (view after).roles ≡ (view before).roles → Same rolesAt 1 before after
-  pub assignmentCount : (before after : List ℕ) → (view after).assignmentCount ≡ (view before).assignmentCount → Same assignmentCountAt 1 before after
-  pub grantCount : (before after : List ℕ) → (view after).grantCount ≡ (view before).grantCount → Same grantCountAt 1 before after
-  pub lineCount : (before after : List ℕ) → (view after).lineCount ≡ (view before).lineCount → Same lineCountAt 1 before after
+  pub holders : (before after : List ℕ) → (view after).holders ≡ (view before).holders → Same holders_at 4096 before after
+  pub assigned : (before after : List ℕ) → (view after).assigned ≡ (view before).assigned → Same assigned_at 256 before after
+  pub juniors : (before after : List ℕ) → (view after).juniors ≡ (view before).juniors → Same juniors_at 64 before after
+  pub ssd : (before after : List ℕ) → (view after).ssd ≡ (view before).ssd → Same ssd_cards_at 32 before after
+  pub dsd : (before after : List ℕ) → (view after).dsd ≡ (view before).dsd → Same dsd_cards_at 32 before after
+  pub sessions : (before after : List ℕ) → (view after).sessions ≡ (view before).sessions → Same owners_at 128 before after
+  pub users : (before after : List ℕ) → State before → State after → (view after).users ≡ (view before).users → Same users_at 4 before after
+  pub roles : (before after : List ℕ) → (view after).roles ≡ (view before).roles → Same roles_at 1 before after
+  pub assignment_count : (before after : List ℕ) → (view after).assignment_count ≡ (view before).assignment_count → Same assignment_count_at 1 before after
+  pub grant_count : (before after : List ℕ) → (view after).grant_count ≡ (view before).grant_count → Same grant_count_at 1 before after
+  pub line_count : (before after : List ℕ) → (view after).line_count ≡ (view before).line_count → Same line_count_at 1 before after

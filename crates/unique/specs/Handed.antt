@@ -50,7 +50,7 @@ pub data Handed : List ℕ → Type 0 where
   empty : (c : Call state.stores.start.Kinds.ps state.stores.start.Kinds.r state.stores.start.Reads.Post) → Handed c.exits.0.now
   -- ---- written by tests/unique.py: the functions that change the state and answer
   user : (c : Call users.user.Kinds.ps users.user.Kinds.r users.user.Reads.Post) → Handed c.given.0.now → Handed c.exits.0.now
-  end-all : (c : Call users.end_all.Kinds.ps users.end_all.Kinds.r users.end_all.Reads.Post) → Handed c.given.0.now → Handed c.exits.0.now
+  end_all : (c : Call users.end_all.Kinds.ps users.end_all.Kinds.r users.end_all.Reads.Post) → Handed c.given.0.now → Handed c.exits.0.now
   nouser : (c : Call users.nouser.Kinds.ps users.nouser.Kinds.r users.nouser.Reads.Post) → Handed c.given.0.now → Handed c.exits.0.now
   role : (c : Call roles.role.Kinds.ps roles.role.Kinds.r roles.role.Reads.Post) → Handed c.given.0.now → Handed c.exits.0.now
   norole : (c : Call roles.norole.Kinds.ps roles.norole.Kinds.r roles.norole.Reads.Post) → Handed c.given.0.now → Handed c.exits.0.now
@@ -60,24 +60,24 @@ pub data Handed : List ℕ → Type 0 where
   revoke : (c : Call granting.revoke.Kinds.ps granting.revoke.Kinds.r granting.revoke.Reads.Post) → Handed c.given.0.now → Handed c.exits.0.now
   inherit : (c : Call inheriting.inherit.Kinds.ps inheriting.inherit.Kinds.r inheriting.inherit.Reads.Post) → Handed c.given.0.now → Handed c.exits.0.now
   disinherit : (c : Call inheriting.disinherit.Kinds.ps inheriting.disinherit.Kinds.r inheriting.disinherit.Reads.Post) → Handed c.given.0.now → Handed c.exits.0.now
-  make-set : (c : Call sets.make_set.Kinds.ps sets.make_set.Kinds.r sets.make_set.Reads.Post) → Handed c.given.0.now → Handed c.exits.0.now
-  drop-set : (c : Call sets.drop_set.Kinds.ps sets.drop_set.Kinds.r sets.drop_set.Reads.Post) → Handed c.given.0.now → Handed c.exits.0.now
-  add-member : (c : Call sets.add_member.Kinds.ps sets.add_member.Kinds.r sets.add_member.Reads.Post) → Handed c.given.0.now → Handed c.exits.0.now
-  drop-member : (c : Call sets.drop_member.Kinds.ps sets.drop_member.Kinds.r sets.drop_member.Reads.Post) → Handed c.given.0.now → Handed c.exits.0.now
-  set-cardinality : (c : Call sets.set_cardinality.Kinds.ps sets.set_cardinality.Kinds.r sets.set_cardinality.Reads.Post) → Handed c.given.0.now → Handed c.exits.0.now
+  make_set : (c : Call sets.make_set.Kinds.ps sets.make_set.Kinds.r sets.make_set.Reads.Post) → Handed c.given.0.now → Handed c.exits.0.now
+  drop_set : (c : Call sets.drop_set.Kinds.ps sets.drop_set.Kinds.r sets.drop_set.Reads.Post) → Handed c.given.0.now → Handed c.exits.0.now
+  add_member : (c : Call sets.add_member.Kinds.ps sets.add_member.Kinds.r sets.add_member.Reads.Post) → Handed c.given.0.now → Handed c.exits.0.now
+  drop_member : (c : Call sets.drop_member.Kinds.ps sets.drop_member.Kinds.r sets.drop_member.Reads.Post) → Handed c.given.0.now → Handed c.exits.0.now
+  set_cardinality : (c : Call sets.set_cardinality.Kinds.ps sets.set_cardinality.Kinds.r sets.set_cardinality.Reads.Post) → Handed c.given.0.now → Handed c.exits.0.now
   session : (c : Call sessions.session.Kinds.ps sessions.session.Kinds.r sessions.session.Reads.Post) → Handed c.given.0.now → Handed c.exits.0.now
   activate : (c : Call sessions.activate.Kinds.ps sessions.activate.Kinds.r sessions.activate.Reads.Post) → Handed c.given.0.now → Handed c.exits.0.now
   drop : (c : Call sessions.drop.Kinds.ps sessions.drop.Kinds.r sessions.drop.Reads.Post) → Handed c.given.0.now → Handed c.exits.0.now
   end : (c : Call sessions.end.Kinds.ps sessions.end.Kinds.r sessions.end.Reads.Post) → Handed c.given.0.now → Handed c.exits.0.now
   step : (c : Call engine.step.Kinds.ps engine.step.Kinds.r engine.step.Reads.Post) → Handed c.given.0.now → Handed c.exits.0.now
   load : (c : Call policyfile.load.Kinds.ps policyfile.load.Kinds.r policyfile.load.Reads.Post) → Handed c.given.0.now → Handed c.exits.0.now
-  answer-line : (c : Call script.answer_line.Kinds.ps script.answer_line.Kinds.r script.answer_line.Reads.Post) → Handed c.given.0.now → Handed c.exits.0.now
+  answer_line : (c : Call script.answer_line.Kinds.ps script.answer_line.Kinds.r script.answer_line.Reads.Post) → Handed c.given.0.now → Handed c.exits.0.now
   turn : (c : Call script.turn.Kinds.ps script.turn.Kinds.r script.turn.Reads.Post) → Handed c.given.1.0.now → Handed c.exits.1.0.now
   begin : (c : Call program.begin.Kinds.ps program.begin.Kinds.r program.begin.Reads.Post) → Handed c.exits.0.now
   next : (c : Call program.next.Kinds.ps program.next.Kinds.r program.next.Reads.Post) → Handed c.given.1.0.now → Handed c.exits.1.0.now
-  marruskil-start : (c : Call clibrary.marruskil_start.Kinds.ps clibrary.marruskil_start.Kinds.r clibrary.marruskil_start.Reads.Post) → Handed c.exits.0.now
-  marruskil-obey : (c : Call clibrary.marruskil_obey.Kinds.ps clibrary.marruskil_obey.Kinds.r clibrary.marruskil_obey.Reads.Post) → Handed c.given.0.now → Handed c.exits.0.now
-  marruskil-load : (c : Call clibrary.marruskil_load.Kinds.ps clibrary.marruskil_load.Kinds.r clibrary.marruskil_load.Reads.Post) → Handed c.given.0.now → Handed c.exits.0.now
+  marruskil_start : (c : Call clibrary.marruskil_start.Kinds.ps clibrary.marruskil_start.Kinds.r clibrary.marruskil_start.Reads.Post) → Handed c.exits.0.now
+  marruskil_obey : (c : Call clibrary.marruskil_obey.Kinds.ps clibrary.marruskil_obey.Kinds.r clibrary.marruskil_obey.Reads.Post) → Handed c.given.0.now → Handed c.exits.0.now
+  marruskil_load : (c : Call clibrary.marruskil_load.Kinds.ps clibrary.marruskil_load.Kinds.r clibrary.marruskil_load.Reads.Post) → Handed c.given.0.now → Handed c.exits.0.now
 
 -- ---- end of what tests/unique.py writes
 

@@ -17,22 +17,22 @@ use Rattle.model.specs.declared.Command.TheVariants as commands
 use Rattle.model.specs.declared.Question.{Question}
 use Rattle.model.specs.declared.Question.TheVariants as questions
 use Rattle.state.specs.View.{view, told}
-use Rattle.state.specs.Results.{given, bothGiven}
-use Rattle.sessions.specs.Answering.{toldOpened}
-use Rattle.checking.specs.Answering.{toldChecked}
+use Rattle.state.specs.Results.{given, both_given}
+use Rattle.sessions.specs.Answering.{told_opened}
+use Rattle.checking.specs.Answering.{told_checked}
 use Rattle.engine.specs.declared.Stepped.{Stepped}
 use Rattle.reviews.specs.declared.Review.{Review}
 use Rattle.text.specs.Putting.{Put}
-use Rattle.textlines.specs.Parts.{partAt, placePast}
+use Rattle.textlines.specs.Parts.{part_at, place_past}
 use Rattle.textlines.specs.Tallies.{counted}
 use Rattle.words.specs.ScriptWords.{word_of}
 use Rattle.transcripts.specs.LineForm.{LineForm}
 use Rattle.meaning.specs.Meaning.{meant}
 use Rattle.meaning.specs.declared.Meant.{Meant}
 use Rattle.meaning.specs.declared.Meant.TheVariants.{Do, Ask, Nothing}
-use Rattle.script.specs.Script.{answerText, lineFeed}
-use Rattle.program.specs.Printing.{Begins, stageOf, line}
-use Rattle.demands.specs.Demand2.{Exactly, Applies, ◌beyond◌, refusals, results, effect, checkRefusals, Checked, Granted}
+use Rattle.script.specs.Script.{answer_text, line_feed}
+use Rattle.program.specs.Printing.{Begins, stage_of, line}
+use Rattle.demands.specs.Demand2.{Exactly, Applies, ◌beyond◌, refusals, results, effect, check_refusals, Checked, Granted}
 use Rattle.demands.specs.Reviews as demands
 use Rattle.policyform.specs.Promises.{Loads, Saves}
 use Rattle.unique.specs.Handed.{Call, Handed}
@@ -67,14 +67,14 @@ abbrev pub Obeyed : List ℕ → Command → List ℕ → Told → Type 0
 Obeyed l c list told = Handed l → Does (view l) c list told
 
 -- What `step` told that left the state l: the answer's number, the session that was opened where there is a result, and the policy and sessions after it.
-unfoldable pub toldStepped : Stepped → List ℕ → Told
-toldStepped x l = record { answer = number_of x.answer; results = given x.result x.opened.number; after = view l }
+unfoldable pub told_stepped : Stepped → List ℕ → Told
+told_stepped x l = record { answer = number_of x.answer; results = given x.result x.opened.number; after = view l }
 
 -- Each command, by its own function, with any numbers and any list; and any command through `step`.
 pub record Commands : Type 0 where
   -- ---- written by tests/unique.py: the commands
   pub user : (c : Call users.user.Kinds.ps users.user.Kinds.r users.user.Reads.Post) → Obeyed c.given.0.now (commands.AddUser c.given.1.0) [] (told c.result c.exits.0.now)
-  pub end-all : (c : Call users.end_all.Kinds.ps users.end_all.Kinds.r users.end_all.Reads.Post) → Obeyed c.given.0.now (commands.EndAll c.given.1.0) [] (told c.result c.exits.0.now)
+  pub end_all : (c : Call users.end_all.Kinds.ps users.end_all.Kinds.r users.end_all.Reads.Post) → Obeyed c.given.0.now (commands.EndAll c.given.1.0) [] (told c.result c.exits.0.now)
   pub nouser : (c : Call users.nouser.Kinds.ps users.nouser.Kinds.r users.nouser.Reads.Post) → Obeyed c.given.0.now (commands.NoUser c.given.1.0) [] (told c.result c.exits.0.now)
   pub role : (c : Call roles.role.Kinds.ps roles.role.Kinds.r roles.role.Reads.Post) → Obeyed c.given.0.now (commands.AddRole c.given.1.0) [] (told c.result c.exits.0.now)
   pub norole : (c : Call roles.norole.Kinds.ps roles.norole.Kinds.r roles.norole.Reads.Post) → Obeyed c.given.0.now (commands.NoRole c.given.1.0) [] (told c.result c.exits.0.now)
@@ -84,17 +84,17 @@ pub record Commands : Type 0 where
   pub revoke : (c : Call granting.revoke.Kinds.ps granting.revoke.Kinds.r granting.revoke.Reads.Post) → Obeyed c.given.0.now (commands.Revoke c.given.1.0 c.given.1.1.0 c.given.1.1.1.0) [] (told c.result c.exits.0.now)
   pub inherit : (c : Call inheriting.inherit.Kinds.ps inheriting.inherit.Kinds.r inheriting.inherit.Reads.Post) → Obeyed c.given.0.now (commands.Inherit c.given.1.0 c.given.1.1.0) [] (told c.result c.exits.0.now)
   pub disinherit : (c : Call inheriting.disinherit.Kinds.ps inheriting.disinherit.Kinds.r inheriting.disinherit.Reads.Post) → Obeyed c.given.0.now (commands.Disinherit c.given.1.0 c.given.1.1.0) [] (told c.result c.exits.0.now)
-  pub make-set : (c : Call sets.make_set.Kinds.ps sets.make_set.Kinds.r sets.make_set.Reads.Post) → Obeyed c.given.0.now (commands.MakeSet c.given.1.0 c.given.1.1.0 c.given.1.1.1.0) c.given.1.1.1.1.0.now (told c.result c.exits.0.now)
-  pub drop-set : (c : Call sets.drop_set.Kinds.ps sets.drop_set.Kinds.r sets.drop_set.Reads.Post) → Obeyed c.given.0.now (commands.DropSet c.given.1.0 c.given.1.1.0) [] (told c.result c.exits.0.now)
-  pub add-member : (c : Call sets.add_member.Kinds.ps sets.add_member.Kinds.r sets.add_member.Reads.Post) → Obeyed c.given.0.now (commands.AddMember c.given.1.0 c.given.1.1.0 c.given.1.1.1.0) [] (told c.result c.exits.0.now)
-  pub drop-member : (c : Call sets.drop_member.Kinds.ps sets.drop_member.Kinds.r sets.drop_member.Reads.Post) → Obeyed c.given.0.now (commands.DropMember c.given.1.0 c.given.1.1.0 c.given.1.1.1.0) [] (told c.result c.exits.0.now)
-  pub set-cardinality : (c : Call sets.set_cardinality.Kinds.ps sets.set_cardinality.Kinds.r sets.set_cardinality.Reads.Post) → Obeyed c.given.0.now (commands.SetCardinality c.given.1.0 c.given.1.1.0 c.given.1.1.1.0) [] (told c.result c.exits.0.now)
-  pub session : (c : Call sessions.session.Kinds.ps sessions.session.Kinds.r sessions.session.Reads.Post) → Obeyed c.given.0.now (commands.OpenSession c.given.1.0) c.given.1.1.0.now (toldOpened c.result c.exits.0.now)
+  pub make_set : (c : Call sets.make_set.Kinds.ps sets.make_set.Kinds.r sets.make_set.Reads.Post) → Obeyed c.given.0.now (commands.MakeSet c.given.1.0 c.given.1.1.0 c.given.1.1.1.0) c.given.1.1.1.1.0.now (told c.result c.exits.0.now)
+  pub drop_set : (c : Call sets.drop_set.Kinds.ps sets.drop_set.Kinds.r sets.drop_set.Reads.Post) → Obeyed c.given.0.now (commands.DropSet c.given.1.0 c.given.1.1.0) [] (told c.result c.exits.0.now)
+  pub add_member : (c : Call sets.add_member.Kinds.ps sets.add_member.Kinds.r sets.add_member.Reads.Post) → Obeyed c.given.0.now (commands.AddMember c.given.1.0 c.given.1.1.0 c.given.1.1.1.0) [] (told c.result c.exits.0.now)
+  pub drop_member : (c : Call sets.drop_member.Kinds.ps sets.drop_member.Kinds.r sets.drop_member.Reads.Post) → Obeyed c.given.0.now (commands.DropMember c.given.1.0 c.given.1.1.0 c.given.1.1.1.0) [] (told c.result c.exits.0.now)
+  pub set_cardinality : (c : Call sets.set_cardinality.Kinds.ps sets.set_cardinality.Kinds.r sets.set_cardinality.Reads.Post) → Obeyed c.given.0.now (commands.SetCardinality c.given.1.0 c.given.1.1.0 c.given.1.1.1.0) [] (told c.result c.exits.0.now)
+  pub session : (c : Call sessions.session.Kinds.ps sessions.session.Kinds.r sessions.session.Reads.Post) → Obeyed c.given.0.now (commands.OpenSession c.given.1.0) c.given.1.1.0.now (told_opened c.result c.exits.0.now)
   pub activate : (c : Call sessions.activate.Kinds.ps sessions.activate.Kinds.r sessions.activate.Reads.Post) → Obeyed c.given.0.now (commands.Activate c.given.1.0 c.given.1.1.0 c.given.1.1.1.0) [] (told c.result c.exits.0.now)
   pub drop : (c : Call sessions.drop.Kinds.ps sessions.drop.Kinds.r sessions.drop.Reads.Post) → Obeyed c.given.0.now (commands.DropActive c.given.1.0 c.given.1.1.0 c.given.1.1.1.0) [] (told c.result c.exits.0.now)
   pub end : (c : Call sessions.end.Kinds.ps sessions.end.Kinds.r sessions.end.Reads.Post) → Obeyed c.given.0.now (commands.EndSession c.given.1.0 c.given.1.1.0) [] (told c.result c.exits.0.now)
   -- ---- end of what tests/unique.py writes
-  pub step : (c : Call engine.step.Kinds.ps engine.step.Kinds.r engine.step.Reads.Post) → Obeyed c.given.0.now c.given.1.0 c.given.1.1.0.now (toldStepped c.result c.exits.0.now)
+  pub step : (c : Call engine.step.Kinds.ps engine.step.Kinds.r engine.step.Reads.Post) → Obeyed c.given.0.now c.given.1.0 c.given.1.1.0.now (told_stepped c.result c.exits.0.now)
 
 -- ---- the questions
 
@@ -106,12 +106,12 @@ pub record MayDo (m : Model) (s op obj : ℕ) : Type 0 where
   pub granted : Granted m s (op * 256 + obj)
 
 -- What a review told over m that left this buffer: the answer's number, and as many results at the buffer's front as it counted. A question changes nothing.
-unfoldable pub toldReview : Model → Review → List ℕ → Told
-toldReview m x after = record { answer = number_of x.answer; results = take x.count after; after = m }
+unfoldable pub told_review : Model → Review → List ℕ → Told
+told_review m x after = record { answer = number_of x.answer; results = take x.count after; after = m }
 
 -- What a review handed back is what the model's `ask` tells of the question, asked of the state l with as much room as the buffer had before.
 abbrev pub Tells : List ℕ → Question → List ℕ → List ℕ → Review → Type 0
-Tells l q before after x = toldReview (view l) x after ≡ model.ask (view l) (length before) q
+Tells l q before after x = told_review (view l) x after ≡ model.ask (view l) (length before) q
 
 -- What is told of a question in a buffer with so many places: what has no more results than that is told as it is, and what would have more is 15.
 abbrev pub InPlaces : ℕ → Model → Told → Told → Type 0
@@ -127,7 +127,7 @@ OwnerTold m s answer owner = Exactly m (1 when (s beyond 63) ∷ 2 when not (m.s
 
 pub record Questions : Type 0 where
   -- `check`, asked with the lent state and the session's number, is refused and answered as demand 2 says.
-  pub check : (c : Call checking.check.Kinds.ps checking.check.Kinds.r checking.check.Reads.Post) → Handed c.given.0.now → Checked (view c.given.0.now) c.given.1.0.number c.given.1.1.0 c.given.1.1.1.0 (toldChecked (view c.given.0.now) c.result)
+  pub check : (c : Call checking.check.Kinds.ps checking.check.Kinds.r checking.check.Reads.Post) → Handed c.given.0.now → Checked (view c.given.0.now) c.given.1.0.number c.given.1.1.0 c.given.1.1.1.0 (told_checked (view c.given.0.now) c.result)
   -- "Yes exactly when some effective role of the session holds the grant."
   pub yes : (c : Call checking.check.Kinds.ps checking.check.Kinds.r checking.check.Reads.Post) → Handed c.given.0.now → (c.result.yes ≡ true) ↔ MayDo (view c.given.0.now) c.given.1.0.number c.given.1.1.0 c.given.1.1.1.0
   -- Any question through `ask`, of any state: a review with any buffer, `check` with one of two places or more.
@@ -135,30 +135,30 @@ pub record Questions : Type 0 where
       → Tells c.given.0.now c.given.1.0 c.given.1.1.0.now c.exits.1.1.0.now c.result
   -- So on a state of the code's own it is answered as demand 2 says of questions.
   pub asked : (c : Call engine.ask.Kinds.ps engine.ask.Kinds.r engine.ask.Reads.Post) → Handed c.given.0.now → HasRoom c.given.1.0 (length c.given.1.1.0.now)
-      → demands.Answered (view c.given.0.now) (length c.given.1.1.0.now) c.given.1.0 (toldReview (view c.given.0.now) c.result c.exits.1.1.0.now)
+      → demands.Answered (view c.given.0.now) (length c.given.1.1.0.now) c.given.1.0 (told_review (view c.given.0.now) c.result c.exits.1.1.0.now)
   -- With any buffer, of any state.
-  pub in-places : (c : Call engine.ask.Kinds.ps engine.ask.Kinds.r engine.ask.Reads.Post)
-      → InPlaces (length c.given.1.1.0.now) (view c.given.0.now) (model.ask (view c.given.0.now) (length c.given.1.1.0.now) c.given.1.0) (toldReview (view c.given.0.now) c.result c.exits.1.1.0.now)
+  pub in_places : (c : Call engine.ask.Kinds.ps engine.ask.Kinds.r engine.ask.Reads.Post)
+      → InPlaces (length c.given.1.1.0.now) (view c.given.0.now) (model.ask (view c.given.0.now) (length c.given.1.1.0.now) c.given.1.0) (told_review (view c.given.0.now) c.result c.exits.1.1.0.now)
   -- So `check` is 15 exactly where it is not refused otherwise and the buffer has fewer than two places (request 10).
-  pub two-places : (c : Call engine.ask.Kinds.ps engine.ask.Kinds.r engine.ask.Reads.Post) (s : Session) (op obj : ℕ) → c.given.1.0 ≡ questions.Check s op obj
-      → (number_of c.result.answer ≡ 15) ↔ (((n : ℕ) → Applies (checkRefusals (view c.given.0.now) s.number op obj) n → ⊥) × (length c.given.1.1.0.now < 2))
+  pub two_places : (c : Call engine.ask.Kinds.ps engine.ask.Kinds.r engine.ask.Reads.Post) (s : Session) (op obj : ℕ) → c.given.1.0 ≡ questions.Check s op obj
+      → (number_of c.result.answer ≡ 15) ↔ (((n : ℕ) → Applies (check_refusals (view c.given.0.now) s.number op obj) n → ⊥) × (length c.given.1.1.0.now < 2))
   -- Whose a session is, of any state: 1 where its number is beyond 63, else 2 where it is not open, else its owner.
   pub owner : (c : Call checking.owner.Kinds.ps checking.owner.Kinds.r checking.owner.Reads.Post) → OwnerTold (view c.given.0.now) c.given.1.0.number (number_of c.result.answer) c.result.owner
   -- Each review by its own function, of any state, with any buffer.
   -- ---- written by tests/unique.py: the reviews
-  pub assigned-users : (c : Call reviews.assigned_users.Kinds.ps reviews.assigned_users.Kinds.r reviews.assigned_users.Reads.Post) → Tells c.given.0.now (questions.AssignedUsers c.given.1.0) c.given.1.1.0.now c.exits.1.1.0.now c.result
-  pub assigned-roles : (c : Call reviews.assigned_roles.Kinds.ps reviews.assigned_roles.Kinds.r reviews.assigned_roles.Reads.Post) → Tells c.given.0.now (questions.AssignedRoles c.given.1.0) c.given.1.1.0.now c.exits.1.1.0.now c.result
-  pub auth-users : (c : Call reviews.auth_users.Kinds.ps reviews.auth_users.Kinds.r reviews.auth_users.Reads.Post) → Tells c.given.0.now (questions.AuthUsers c.given.1.0) c.given.1.1.0.now c.exits.1.1.0.now c.result
-  pub auth-roles : (c : Call reviews.auth_roles.Kinds.ps reviews.auth_roles.Kinds.r reviews.auth_roles.Reads.Post) → Tells c.given.0.now (questions.AuthRoles c.given.1.0) c.given.1.1.0.now c.exits.1.1.0.now c.result
-  pub role-perms : (c : Call reviews.role_perms.Kinds.ps reviews.role_perms.Kinds.r reviews.role_perms.Reads.Post) → Tells c.given.0.now (questions.RolePerms c.given.1.0) c.given.1.1.0.now c.exits.1.1.0.now c.result
-  pub user-perms : (c : Call reviews.user_perms.Kinds.ps reviews.user_perms.Kinds.r reviews.user_perms.Reads.Post) → Tells c.given.0.now (questions.UserPerms c.given.1.0) c.given.1.1.0.now c.exits.1.1.0.now c.result
-  pub session-roles : (c : Call reviews.session_roles.Kinds.ps reviews.session_roles.Kinds.r reviews.session_roles.Reads.Post) → Tells c.given.0.now (questions.SessionRoles c.given.1.0) c.given.1.1.0.now c.exits.1.1.0.now c.result
-  pub session-perms : (c : Call reviews.session_perms.Kinds.ps reviews.session_perms.Kinds.r reviews.session_perms.Reads.Post) → Tells c.given.0.now (questions.SessionPerms c.given.1.0) c.given.1.1.0.now c.exits.1.1.0.now c.result
-  pub role-ops : (c : Call reviews.role_ops.Kinds.ps reviews.role_ops.Kinds.r reviews.role_ops.Reads.Post) → Tells c.given.0.now (questions.RoleOps c.given.1.0 c.given.1.1.0) c.given.1.1.1.0.now c.exits.1.1.1.0.now c.result
-  pub user-ops : (c : Call reviews.user_ops.Kinds.ps reviews.user_ops.Kinds.r reviews.user_ops.Reads.Post) → Tells c.given.0.now (questions.UserOps c.given.1.0 c.given.1.1.0) c.given.1.1.1.0.now c.exits.1.1.1.0.now c.result
-  pub set-names : (c : Call reviews.set_names.Kinds.ps reviews.set_names.Kinds.r reviews.set_names.Reads.Post) → Tells c.given.0.now (questions.Sets c.given.1.0) c.given.1.1.0.now c.exits.1.1.0.now c.result
-  pub set-roles : (c : Call reviews.set_roles.Kinds.ps reviews.set_roles.Kinds.r reviews.set_roles.Reads.Post) → Tells c.given.0.now (questions.SetRoles c.given.1.0 c.given.1.1.0) c.given.1.1.1.0.now c.exits.1.1.1.0.now c.result
-  pub set-count : (c : Call reviews.set_count.Kinds.ps reviews.set_count.Kinds.r reviews.set_count.Reads.Post) → Tells c.given.0.now (questions.SetCount c.given.1.0 c.given.1.1.0) c.given.1.1.1.0.now c.exits.1.1.1.0.now c.result
+  pub assigned_users : (c : Call reviews.assigned_users.Kinds.ps reviews.assigned_users.Kinds.r reviews.assigned_users.Reads.Post) → Tells c.given.0.now (questions.AssignedUsers c.given.1.0) c.given.1.1.0.now c.exits.1.1.0.now c.result
+  pub assigned_roles : (c : Call reviews.assigned_roles.Kinds.ps reviews.assigned_roles.Kinds.r reviews.assigned_roles.Reads.Post) → Tells c.given.0.now (questions.AssignedRoles c.given.1.0) c.given.1.1.0.now c.exits.1.1.0.now c.result
+  pub auth_users : (c : Call reviews.auth_users.Kinds.ps reviews.auth_users.Kinds.r reviews.auth_users.Reads.Post) → Tells c.given.0.now (questions.AuthUsers c.given.1.0) c.given.1.1.0.now c.exits.1.1.0.now c.result
+  pub auth_roles : (c : Call reviews.auth_roles.Kinds.ps reviews.auth_roles.Kinds.r reviews.auth_roles.Reads.Post) → Tells c.given.0.now (questions.AuthRoles c.given.1.0) c.given.1.1.0.now c.exits.1.1.0.now c.result
+  pub role_perms : (c : Call reviews.role_perms.Kinds.ps reviews.role_perms.Kinds.r reviews.role_perms.Reads.Post) → Tells c.given.0.now (questions.RolePerms c.given.1.0) c.given.1.1.0.now c.exits.1.1.0.now c.result
+  pub user_perms : (c : Call reviews.user_perms.Kinds.ps reviews.user_perms.Kinds.r reviews.user_perms.Reads.Post) → Tells c.given.0.now (questions.UserPerms c.given.1.0) c.given.1.1.0.now c.exits.1.1.0.now c.result
+  pub session_roles : (c : Call reviews.session_roles.Kinds.ps reviews.session_roles.Kinds.r reviews.session_roles.Reads.Post) → Tells c.given.0.now (questions.SessionRoles c.given.1.0) c.given.1.1.0.now c.exits.1.1.0.now c.result
+  pub session_perms : (c : Call reviews.session_perms.Kinds.ps reviews.session_perms.Kinds.r reviews.session_perms.Reads.Post) → Tells c.given.0.now (questions.SessionPerms c.given.1.0) c.given.1.1.0.now c.exits.1.1.0.now c.result
+  pub role_ops : (c : Call reviews.role_ops.Kinds.ps reviews.role_ops.Kinds.r reviews.role_ops.Reads.Post) → Tells c.given.0.now (questions.RoleOps c.given.1.0 c.given.1.1.0) c.given.1.1.1.0.now c.exits.1.1.1.0.now c.result
+  pub user_ops : (c : Call reviews.user_ops.Kinds.ps reviews.user_ops.Kinds.r reviews.user_ops.Reads.Post) → Tells c.given.0.now (questions.UserOps c.given.1.0 c.given.1.1.0) c.given.1.1.1.0.now c.exits.1.1.1.0.now c.result
+  pub set_names : (c : Call reviews.set_names.Kinds.ps reviews.set_names.Kinds.r reviews.set_names.Reads.Post) → Tells c.given.0.now (questions.Sets c.given.1.0) c.given.1.1.0.now c.exits.1.1.0.now c.result
+  pub set_roles : (c : Call reviews.set_roles.Kinds.ps reviews.set_roles.Kinds.r reviews.set_roles.Reads.Post) → Tells c.given.0.now (questions.SetRoles c.given.1.0 c.given.1.1.0) c.given.1.1.1.0.now c.exits.1.1.1.0.now c.result
+  pub set_count : (c : Call reviews.set_count.Kinds.ps reviews.set_count.Kinds.r reviews.set_count.Reads.Post) → Tells c.given.0.now (questions.SetCount c.given.1.0 c.given.1.1.0) c.given.1.1.1.0.now c.exits.1.1.1.0.now c.result
   -- ---- end of what tests/unique.py writes
 
 -- ---- lines of a script
@@ -172,28 +172,28 @@ Means m Nothing list told = told ≡ refused 14 m
 -- What is told of any text: where it is a word and its numbers, written as the paper says, what these mean; else 14, and nothing is changed.
 pub record LineTells (m : Model) (text : List ℕ) (told : Told) : Type 0 where
   pub formed : (k : ℕ) (ns : List ℕ) → LineForm text k ns → Means m (meant k (get_or ns 0 0) (get_or ns 1 0) (get_or ns 2 0)) (drop (word_of k).numbers ns) told
-  pub not-formed : ((k : ℕ) (ns : List ℕ) → LineForm text k ns → ⊥) → told ≡ refused 14 m
+  pub not_formed : ((k : ℕ) (ns : List ℕ) → LineForm text k ns → ⊥) → told ≡ refused 14 m
 
 -- What a line left: its answer and results as a text at the front of the lent buffer, ending at `len`, and its policy and sessions in the state l.
 pub record Answered (m : Model) (text before after : List ℕ) (len : ℕ) (l : List ℕ) : Type 0 where
   pub line : Told
   pub tells : LineTells m text line
-  pub puts : Put before 0 (answerText line.answer line.results) after len
+  pub puts : Put before 0 (answer_text line.answer line.results) after len
   pub state : view l ≡ line.after
 
 pub record Lines : Type 0 where
   -- A line, and whether its answer was 0.
-  pub answer-line : (c : Call script.answer_line.Kinds.ps script.answer_line.Kinds.r script.answer_line.Reads.Post) → Handed c.given.0.now
+  pub answer_line : (c : Call script.answer_line.Kinds.ps script.answer_line.Kinds.r script.answer_line.Reads.Post) → Handed c.given.0.now
       → (x : Answered (view c.given.0.now) c.given.1.0.now c.given.1.1.0.now c.exits.1.1.0.now c.result.len c.exits.0.now) × (c.result.ok ≡ eqb x.line.answer 0)
   -- The line at a place of a script; the tally counts it as answered 0 or otherwise, and the next place is past it.
   pub turn : (c : Call script.turn.Kinds.ps script.turn.Kinds.r script.turn.Reads.Post) → Handed c.given.1.0.now
-      → (x : Answered (view c.given.1.0.now) (partAt lineFeed c.given.0.now c.given.1.1.0.at) c.given.1.1.1.0.now c.exits.1.1.1.0.now c.result.len c.exits.1.0.now)
-      × (c.result.next.tally ≡ counted c.given.1.1.0.tally (eqb x.line.answer 0)) × (c.result.next.at ≡ placePast lineFeed c.given.0.now c.given.1.1.0.at)
+      → (x : Answered (view c.given.1.0.now) (part_at line_feed c.given.0.now c.given.1.1.0.at) c.given.1.1.1.0.now c.exits.1.1.1.0.now c.result.len c.exits.1.0.now)
+      × (c.result.next.tally ≡ counted c.given.1.1.0.tally (eqb x.line.answer 0)) × (c.result.next.at ≡ place_past line_feed c.given.0.now c.given.1.1.0.at)
   -- The program begins with no policy, no session and no line answered.
   pub begin : (c : Call program.begin.Kinds.ps program.begin.Kinds.r program.begin.Reads.Post) → Begins c.exits.0.now c.result
   -- A call of the program that has a line to answer answers this line.
-  pub next : (c : Call program.next.Kinds.ps program.next.Kinds.r program.next.Reads.Post) → Handed c.given.1.0.now → stageOf c.given.0.now c.given.1.1.0 ≡ line
-      → Answered (view c.given.1.0.now) (partAt lineFeed c.given.0.now c.given.1.1.0.progress.at) c.given.1.1.1.0.now c.exits.1.1.1.0.now c.result.len c.exits.1.0.now
+  pub next : (c : Call program.next.Kinds.ps program.next.Kinds.r program.next.Reads.Post) → Handed c.given.1.0.now → stage_of c.given.0.now c.given.1.1.0 ≡ line
+      → Answered (view c.given.1.0.now) (part_at line_feed c.given.0.now c.given.1.1.0.progress.at) c.given.1.1.1.0.now c.exits.1.1.1.0.now c.result.len c.exits.1.0.now
 
 -- ---- the policy file
 
@@ -215,24 +215,24 @@ pub record Files : Type 0 where
 
 pub record FromC : Type 0 where
   -- The state becomes the empty policy with no session.
-  pub marruskil-start : (c : Call clibrary.marruskil_start.Kinds.ps clibrary.marruskil_start.Kinds.r clibrary.marruskil_start.Reads.Post) → view c.exits.0.now ≡ empty
+  pub marruskil_start : (c : Call clibrary.marruskil_start.Kinds.ps clibrary.marruskil_start.Kinds.r clibrary.marruskil_start.Reads.Post) → view c.exits.0.now ≡ empty
   -- What a line tells, by demand 2, is obeyed: where its answer line has room, this stands at the front of the buffer, its length is handed back, and the
   -- policy and sessions are what the line tells. Where it has none, 0 is handed back, and the buffer, the policy and the sessions are as they were.
-  pub marruskil-obey : (c : Call clibrary.marruskil_obey.Kinds.ps clibrary.marruskil_obey.Kinds.r clibrary.marruskil_obey.Reads.Post) → Handed c.given.0.now
+  pub marruskil_obey : (c : Call clibrary.marruskil_obey.Kinds.ps clibrary.marruskil_obey.Kinds.r clibrary.marruskil_obey.Reads.Post) → Handed c.given.0.now
       → (t : Told) × LineTells (view c.given.0.now) c.given.1.0.now t
-      × (length (answerText t.answer t.results) ≤ length c.given.1.1.0.now
-      → (c.result ≡ length (answerText t.answer t.results)) × (c.exits.1.1.0.now ≡ sets c.given.1.1.0.now 0 (answerText t.answer t.results)) × (view c.exits.0.now ≡ t.after))
-      × (length c.given.1.1.0.now < length (answerText t.answer t.results) → (c.result ≡ 0) × (c.exits.1.1.0.now ≡ c.given.1.1.0.now) × (view c.exits.0.now ≡ view c.given.0.now))
+      × (length (answer_text t.answer t.results) ≤ length c.given.1.1.0.now
+      → (c.result ≡ length (answer_text t.answer t.results)) × (c.exits.1.1.0.now ≡ sets c.given.1.1.0.now 0 (answer_text t.answer t.results)) × (view c.exits.0.now ≡ t.after))
+      × (length c.given.1.1.0.now < length (answer_text t.answer t.results) → (c.result ≡ 0) × (c.exits.1.1.0.now ≡ c.given.1.1.0.now) × (view c.exits.0.now ≡ view c.given.0.now))
   -- The number that is handed back, and where that is 0 the two stored where the caller says, are those that demand 2 says of the question for access.
   -- Where it is refused, what stood there stays.
-  pub marruskil-check : (c : Call clibrary.marruskil_check.Kinds.ps clibrary.marruskil_check.Kinds.r clibrary.marruskil_check.Reads.Post) → Handed c.given.0.now
-      → Checked (view c.given.0.now) c.given.1.0 c.given.1.1.0 c.given.1.1.1.0 (record { answer = c.result; results = bothGiven (eqb c.result 0) c.exits.1.1.1.1.0.now c.exits.1.1.1.1.1.0.now; after = view c.given.0.now })
+  pub marruskil_check : (c : Call clibrary.marruskil_check.Kinds.ps clibrary.marruskil_check.Kinds.r clibrary.marruskil_check.Reads.Post) → Handed c.given.0.now
+      → Checked (view c.given.0.now) c.given.1.0 c.given.1.1.0 c.given.1.1.1.0 (record { answer = c.result; results = both_given (eqb c.result 0) c.exits.1.1.1.1.0.now c.exits.1.1.1.1.1.0.now; after = view c.given.0.now })
       × ((c.result ≡ 0 → ⊥) → (c.exits.1.1.1.1.0.now ≡ c.given.1.1.1.1.0.now) × (c.exits.1.1.1.1.1.0.now ≡ c.given.1.1.1.1.1.0.now))
   -- Loading and saving are those of the policy file, to which `Loading` and `SavesAsThePaperSays` apply (fileanswers/specs).
-  pub marruskil-load : (c : Call clibrary.marruskil_load.Kinds.ps clibrary.marruskil_load.Kinds.r clibrary.marruskil_load.Reads.Post)
+  pub marruskil_load : (c : Call clibrary.marruskil_load.Kinds.ps clibrary.marruskil_load.Kinds.r clibrary.marruskil_load.Reads.Post)
       → Loads (view c.given.0.now) c.given.1.0.now (record { answer = c.result; results = []; after = view c.exits.0.now })
   -- A save that is done stores the file's length where the caller says, and where it is refused, what stood there stays.
-  pub marruskil-save : (c : Call clibrary.marruskil_save.Kinds.ps clibrary.marruskil_save.Kinds.r clibrary.marruskil_save.Reads.Post)
+  pub marruskil_save : (c : Call clibrary.marruskil_save.Kinds.ps clibrary.marruskil_save.Kinds.r clibrary.marruskil_save.Reads.Post)
       → (n : ℕ) × Saves (view c.given.0.now) c.given.1.0.now c.exits.1.0.now c.result n
       × (c.result ≡ 0 → c.exits.1.1.0.now ≡ n) × ((c.result ≡ 0 → ⊥) → c.exits.1.1.0.now ≡ c.given.1.1.0.now)
 
@@ -244,4 +244,4 @@ pub record OwnCalls : Type 0 where
   pub questions : Questions
   pub lines : Lines
   pub files : Files
-  pub from-c : FromC
+  pub from_c : FromC

@@ -45,82 +45,82 @@ pub record Roleset : Type 0 where
   pub common : Unique roleset.common.Kinds.ps roleset.common.Kinds.r roleset.common.Reads.Post
   pub minus : Unique roleset.minus.Kinds.ps roleset.minus.Kinds.r roleset.minus.Reads.Post
   pub subset : Unique roleset.subset.Kinds.ps roleset.subset.Kinds.r roleset.subset.Reads.Post
-  pub is-empty : Unique roleset.is_empty.Kinds.ps roleset.is_empty.Kinds.r roleset.is_empty.Reads.Post
+  pub is_empty : Unique roleset.is_empty.Kinds.ps roleset.is_empty.Kinds.r roleset.is_empty.Reads.Post
   pub count : Unique roleset.count.Kinds.ps roleset.count.Kinds.r roleset.count.Reads.Post
   pub lowest : Unique roleset.lowest.Kinds.ps roleset.lowest.Kinds.r roleset.lowest.Reads.Post
   pub size : Unique roleset.size.Kinds.ps roleset.size.Kinds.r roleset.size.Reads.Post
   pub at_least : Unique roleset.at_least.Kinds.ps roleset.at_least.Kinds.r roleset.at_least.Reads.Post
 
 pub record Numbers : Type 0 where
-  pub number-of : Unique numbers.number_of.Kinds.ps numbers.number_of.Kinds.r numbers.number_of.Reads.Post
-  pub answer-of : Unique numbers.answer_of.Kinds.ps numbers.answer_of.Kinds.r numbers.answer_of.Reads.Post
-  pub is-done : Unique numbers.is_done.Kinds.ps numbers.is_done.Kinds.r numbers.is_done.Reads.Post
-  pub user-beyond : Unique numbers.user_beyond.Kinds.ps numbers.user_beyond.Kinds.r numbers.user_beyond.Reads.Post
-  pub role-beyond : Unique numbers.role_beyond.Kinds.ps numbers.role_beyond.Kinds.r numbers.role_beyond.Reads.Post
-  pub session-beyond : Unique numbers.session_beyond.Kinds.ps numbers.session_beyond.Kinds.r numbers.session_beyond.Reads.Post
+  pub number_of : Unique numbers.number_of.Kinds.ps numbers.number_of.Kinds.r numbers.number_of.Reads.Post
+  pub answer_of : Unique numbers.answer_of.Kinds.ps numbers.answer_of.Kinds.r numbers.answer_of.Reads.Post
+  pub is_done : Unique numbers.is_done.Kinds.ps numbers.is_done.Kinds.r numbers.is_done.Reads.Post
+  pub user_beyond : Unique numbers.user_beyond.Kinds.ps numbers.user_beyond.Kinds.r numbers.user_beyond.Reads.Post
+  pub role_beyond : Unique numbers.role_beyond.Kinds.ps numbers.role_beyond.Kinds.r numbers.role_beyond.Reads.Post
+  pub session_beyond : Unique numbers.session_beyond.Kinds.ps numbers.session_beyond.Kinds.r numbers.session_beyond.Reads.Post
   pub set_beyond : Unique numbers.set_beyond.Kinds.ps numbers.set_beyond.Kinds.r numbers.set_beyond.Reads.Post
-  pub activation-beyond : Unique numbers.activation_beyond.Kinds.ps numbers.activation_beyond.Kinds.r numbers.activation_beyond.Reads.Post
+  pub activation_beyond : Unique numbers.activation_beyond.Kinds.ps numbers.activation_beyond.Kinds.r numbers.activation_beyond.Reads.Post
 
 pub record Hierarchy : Type 0 where
   pub reach : Unique hierarchy.reach.Kinds.ps hierarchy.reach.Kinds.r hierarchy.reach.Reads.Post
   pub circular : Unique hierarchy.circular.Kinds.ps hierarchy.circular.Kinds.r hierarchy.circular.Reads.Post
   pub turned : Unique hierarchy.turned.Kinds.ps hierarchy.turned.Kinds.r hierarchy.turned.Reads.Post
-  pub at-or-above : Unique hierarchy.at_or_above.Kinds.ps hierarchy.at_or_above.Kinds.r hierarchy.at_or_above.Reads.Post
+  pub at_or_above : Unique hierarchy.at_or_above.Kinds.ps hierarchy.at_or_above.Kinds.r hierarchy.at_or_above.Reads.Post
 
 pub record State : Type 0 where
   pub either : Unique state.naming.either.Kinds.ps state.naming.either.Kinds.r state.naming.either.Reads.Post
-  pub permission-beyond : Unique state.naming.permission_beyond.Kinds.ps state.naming.permission_beyond.Kinds.r state.naming.permission_beyond.Reads.Post
+  pub permission_beyond : Unique state.naming.permission_beyond.Kinds.ps state.naming.permission_beyond.Kinds.r state.naming.permission_beyond.Reads.Post
   pub less : Unique state.naming.less.Kinds.ps state.naming.less.Kinds.r state.naming.less.Reads.Post
   pub juniors : UniqueSeen state.parts.juniors.Kinds.ps state.parts.juniors.Kinds.r state.parts.juniors.Reads.Post (λ κs x e. x.now)
   pub assigned : UniqueSeen state.parts.assigned.Kinds.ps state.parts.assigned.Kinds.r state.parts.assigned.Reads.Post (λ κs x e. x.now)
   pub active : UniqueSeen state.parts.active.Kinds.ps state.parts.active.Kinds.r state.parts.active.Reads.Post (λ κs x e. x.now)
   pub holders : UniqueSeen state.parts.holders.Kinds.ps state.parts.holders.Kinds.r state.parts.holders.Reads.Post (λ κs x e. x.now)
-  pub juniors-table : Unique state.parts.juniors_table.Kinds.ps state.parts.juniors_table.Kinds.r state.parts.juniors_table.Reads.Post
-  pub assigned-table : Unique state.parts.assigned_table.Kinds.ps state.parts.assigned_table.Kinds.r state.parts.assigned_table.Reads.Post
-  pub sets-from : Unique state.parts.sets_from.Kinds.ps state.parts.sets_from.Kinds.r state.parts.sets_from.Reads.Post
-  pub has-user : Unique state.reads.has_user.Kinds.ps state.reads.has_user.Kinds.r state.reads.has_user.Reads.Post
+  pub juniors_table : Unique state.parts.juniors_table.Kinds.ps state.parts.juniors_table.Kinds.r state.parts.juniors_table.Reads.Post
+  pub assigned_table : Unique state.parts.assigned_table.Kinds.ps state.parts.assigned_table.Kinds.r state.parts.assigned_table.Reads.Post
+  pub sets_from : Unique state.parts.sets_from.Kinds.ps state.parts.sets_from.Kinds.r state.parts.sets_from.Reads.Post
+  pub has_user : Unique state.reads.has_user.Kinds.ps state.reads.has_user.Kinds.r state.reads.has_user.Reads.Post
   pub roles : Unique state.reads.roles.Kinds.ps state.reads.roles.Kinds.r state.reads.roles.Reads.Post
-  pub has-role : Unique state.reads.has_role.Kinds.ps state.reads.has_role.Kinds.r state.reads.has_role.Reads.Post
-  pub directly-below : Unique state.reads.directly_below.Kinds.ps state.reads.directly_below.Kinds.r state.reads.directly_below.Reads.Post
-  pub assigned-to : Unique state.reads.assigned_to.Kinds.ps state.reads.assigned_to.Kinds.r state.reads.assigned_to.Reads.Post
-  pub holders-of : Unique state.reads.holders_of.Kinds.ps state.reads.holders_of.Kinds.r state.reads.holders_of.Reads.Post
-  pub set-named : Unique state.reads.set_named.Kinds.ps state.reads.set_named.Kinds.r state.reads.set_named.Reads.Post
-  pub session-at : Unique state.reads.session_at.Kinds.ps state.reads.session_at.Kinds.r state.reads.session_at.Reads.Post
-  pub assignment-count : Unique state.reads.assignment_count.Kinds.ps state.reads.assignment_count.Kinds.r state.reads.assignment_count.Reads.Post
-  pub grant-count : Unique state.reads.grant_count.Kinds.ps state.reads.grant_count.Kinds.r state.reads.grant_count.Reads.Post
-  pub line-count : Unique state.reads.line_count.Kinds.ps state.reads.line_count.Kinds.r state.reads.line_count.Reads.Post
+  pub has_role : Unique state.reads.has_role.Kinds.ps state.reads.has_role.Kinds.r state.reads.has_role.Reads.Post
+  pub directly_below : Unique state.reads.directly_below.Kinds.ps state.reads.directly_below.Kinds.r state.reads.directly_below.Reads.Post
+  pub assigned_to : Unique state.reads.assigned_to.Kinds.ps state.reads.assigned_to.Kinds.r state.reads.assigned_to.Reads.Post
+  pub holders_of : Unique state.reads.holders_of.Kinds.ps state.reads.holders_of.Kinds.r state.reads.holders_of.Reads.Post
+  pub set_named : Unique state.reads.set_named.Kinds.ps state.reads.set_named.Kinds.r state.reads.set_named.Reads.Post
+  pub session_at : Unique state.reads.session_at.Kinds.ps state.reads.session_at.Kinds.r state.reads.session_at.Reads.Post
+  pub assignment_count : Unique state.reads.assignment_count.Kinds.ps state.reads.assignment_count.Kinds.r state.reads.assignment_count.Reads.Post
+  pub grant_count : Unique state.reads.grant_count.Kinds.ps state.reads.grant_count.Kinds.r state.reads.grant_count.Reads.Post
+  pub line_count : Unique state.reads.line_count.Kinds.ps state.reads.line_count.Kinds.r state.reads.line_count.Reads.Post
   pub start : UniqueState state.stores.start.Kinds.ps state.stores.start.Kinds.r state.stores.start.Reads.Post (λ κs e. e.0.now)
   pub put_all : UniqueState state.stores.put_all.Kinds.ps state.stores.put_all.Kinds.r state.stores.put_all.Reads.Post (λ κs e. e.0.now)
-  pub put-user : UniqueState state.stores.put_user.Kinds.ps state.stores.put_user.Kinds.r state.stores.put_user.Reads.Post (λ κs e. e.0.now)
-  pub put-roles : UniqueState state.stores.put_roles.Kinds.ps state.stores.put_roles.Kinds.r state.stores.put_roles.Reads.Post (λ κs e. e.0.now)
-  pub put-juniors : UniqueState state.stores.put_juniors.Kinds.ps state.stores.put_juniors.Kinds.r state.stores.put_juniors.Reads.Post (λ κs e. e.0.now)
-  pub put-assigned : UniqueState state.stores.put_assigned.Kinds.ps state.stores.put_assigned.Kinds.r state.stores.put_assigned.Reads.Post (λ κs e. e.0.now)
-  pub put-holders : UniqueState state.stores.put_holders.Kinds.ps state.stores.put_holders.Kinds.r state.stores.put_holders.Reads.Post (λ κs e. e.0.now)
-  pub put-lines : UniqueState state.stores.put_lines.Kinds.ps state.stores.put_lines.Kinds.r state.stores.put_lines.Reads.Post (λ κs e. e.0.now)
-  pub put-assignments : UniqueState state.stores.put_assignments.Kinds.ps state.stores.put_assignments.Kinds.r state.stores.put_assignments.Reads.Post (λ κs e. e.0.now)
-  pub put-set : UniqueState state.stores.put_set.Kinds.ps state.stores.put_set.Kinds.r state.stores.put_set.Reads.Post (λ κs e. e.0.now)
-  pub put-members : UniqueState state.stores.put_members.Kinds.ps state.stores.put_members.Kinds.r state.stores.put_members.Reads.Post (λ κs e. e.0.now)
-  pub clear-set : UniqueState state.stores.clear_set.Kinds.ps state.stores.clear_set.Kinds.r state.stores.clear_set.Reads.Post (λ κs e. e.0.now)
-  pub open-session : UniqueState state.stores.open_session.Kinds.ps state.stores.open_session.Kinds.r state.stores.open_session.Reads.Post (λ κs e. e.0.now)
-  pub put-active : UniqueState state.stores.put_active.Kinds.ps state.stores.put_active.Kinds.r state.stores.put_active.Reads.Post (λ κs e. e.0.now)
-  pub close-session : UniqueState state.stores.close_session.Kinds.ps state.stores.close_session.Kinds.r state.stores.close_session.Reads.Post (λ κs e. e.0.now)
-  pub put-all-active : UniqueState state.stores.put_all_active.Kinds.ps state.stores.put_all_active.Kinds.r state.stores.put_all_active.Reads.Post (λ κs e. e.0.now)
+  pub put_user : UniqueState state.stores.put_user.Kinds.ps state.stores.put_user.Kinds.r state.stores.put_user.Reads.Post (λ κs e. e.0.now)
+  pub put_roles : UniqueState state.stores.put_roles.Kinds.ps state.stores.put_roles.Kinds.r state.stores.put_roles.Reads.Post (λ κs e. e.0.now)
+  pub put_juniors : UniqueState state.stores.put_juniors.Kinds.ps state.stores.put_juniors.Kinds.r state.stores.put_juniors.Reads.Post (λ κs e. e.0.now)
+  pub put_assigned : UniqueState state.stores.put_assigned.Kinds.ps state.stores.put_assigned.Kinds.r state.stores.put_assigned.Reads.Post (λ κs e. e.0.now)
+  pub put_holders : UniqueState state.stores.put_holders.Kinds.ps state.stores.put_holders.Kinds.r state.stores.put_holders.Reads.Post (λ κs e. e.0.now)
+  pub put_lines : UniqueState state.stores.put_lines.Kinds.ps state.stores.put_lines.Kinds.r state.stores.put_lines.Reads.Post (λ κs e. e.0.now)
+  pub put_assignments : UniqueState state.stores.put_assignments.Kinds.ps state.stores.put_assignments.Kinds.r state.stores.put_assignments.Reads.Post (λ κs e. e.0.now)
+  pub put_set : UniqueState state.stores.put_set.Kinds.ps state.stores.put_set.Kinds.r state.stores.put_set.Reads.Post (λ κs e. e.0.now)
+  pub put_members : UniqueState state.stores.put_members.Kinds.ps state.stores.put_members.Kinds.r state.stores.put_members.Reads.Post (λ κs e. e.0.now)
+  pub clear_set : UniqueState state.stores.clear_set.Kinds.ps state.stores.clear_set.Kinds.r state.stores.clear_set.Reads.Post (λ κs e. e.0.now)
+  pub open_session : UniqueState state.stores.open_session.Kinds.ps state.stores.open_session.Kinds.r state.stores.open_session.Reads.Post (λ κs e. e.0.now)
+  pub put_active : UniqueState state.stores.put_active.Kinds.ps state.stores.put_active.Kinds.r state.stores.put_active.Reads.Post (λ κs e. e.0.now)
+  pub close_session : UniqueState state.stores.close_session.Kinds.ps state.stores.close_session.Kinds.r state.stores.close_session.Reads.Post (λ κs e. e.0.now)
+  pub put_all_active : UniqueState state.stores.put_all_active.Kinds.ps state.stores.put_all_active.Kinds.r state.stores.put_all_active.Reads.Post (λ κs e. e.0.now)
 
 pub record Walking : Type 0 where
   pub reach : Unique walking.reach.Kinds.ps walking.reach.Kinds.r walking.reach.Reads.Post
 
 pub record Separation : Type 0 where
   pub breaks : Unique separation.breaks.Kinds.ps separation.breaks.Kinds.r separation.breaks.Reads.Post
-  pub bad-cardinality : Unique separation.bad_cardinality.Kinds.ps separation.bad_cardinality.Kinds.r separation.bad_cardinality.Reads.Post
-  pub breaks-some : Unique separation.breaks_some.Kinds.ps separation.breaks_some.Kinds.r separation.breaks_some.Reads.Post
+  pub bad_cardinality : Unique separation.bad_cardinality.Kinds.ps separation.bad_cardinality.Kinds.r separation.bad_cardinality.Reads.Post
+  pub breaks_some : Unique separation.breaks_some.Kinds.ps separation.breaks_some.Kinds.r separation.breaks_some.Reads.Post
 
 pub record Sweeps : Type 0 where
-  pub ask-rule : Unique sweeps.ask_rule.Kinds.ps sweeps.ask_rule.Kinds.r sweeps.ask_rule.Reads.Post
-  pub ask-set : Unique sweeps.ask_set.Kinds.ps sweeps.ask_set.Kinds.r sweeps.ask_set.Reads.Post
+  pub ask_rule : Unique sweeps.ask_rule.Kinds.ps sweeps.ask_rule.Kinds.r sweeps.ask_rule.Reads.Post
+  pub ask_set : Unique sweeps.ask_set.Kinds.ps sweeps.ask_set.Kinds.r sweeps.ask_set.Reads.Post
   pub shed : Unique sweeps.shed.Kinds.ps sweeps.shed.Kinds.r sweeps.shed.Reads.Post
-  pub end-all : UniqueState sweeps.end_all.Kinds.ps sweeps.end_all.Kinds.r sweeps.end_all.Reads.Post (λ κs e. e.0.now)
-  pub has-open : Unique sweeps.has_open.Kinds.ps sweeps.has_open.Kinds.r sweeps.has_open.Reads.Post
-  pub lowest-free : Unique sweeps.lowest_free.Kinds.ps sweeps.lowest_free.Kinds.r sweeps.lowest_free.Reads.Post
+  pub end_all : UniqueState sweeps.end_all.Kinds.ps sweeps.end_all.Kinds.r sweeps.end_all.Reads.Post (λ κs e. e.0.now)
+  pub has_open : Unique sweeps.has_open.Kinds.ps sweeps.has_open.Kinds.r sweeps.has_open.Reads.Post
+  pub lowest_free : Unique sweeps.lowest_free.Kinds.ps sweeps.lowest_free.Kinds.r sweeps.lowest_free.Reads.Post
   pub strip : UniqueLent sweeps.strip.Kinds.ps sweeps.strip.Kinds.r sweeps.strip.Reads.Post (λ κs e. e.0.now)
 
 pub record Lists : Type 0 where
@@ -128,7 +128,7 @@ pub record Lists : Type 0 where
 
 pub record Users : Type 0 where
   pub user : UniqueState users.user.Kinds.ps users.user.Kinds.r users.user.Reads.Post (λ κs e. e.0.now)
-  pub end-all : UniqueState users.end_all.Kinds.ps users.end_all.Kinds.r users.end_all.Reads.Post (λ κs e. e.0.now)
+  pub end_all : UniqueState users.end_all.Kinds.ps users.end_all.Kinds.r users.end_all.Reads.Post (λ κs e. e.0.now)
   pub nouser : UniqueState users.nouser.Kinds.ps users.nouser.Kinds.r users.nouser.Reads.Post (λ κs e. e.0.now)
 
 pub record Roles : Type 0 where
@@ -148,11 +148,11 @@ pub record Inheriting : Type 0 where
   pub disinherit : UniqueState inheriting.disinherit.Kinds.ps inheriting.disinherit.Kinds.r inheriting.disinherit.Reads.Post (λ κs e. e.0.now)
 
 pub record Sets : Type 0 where
-  pub make-set : UniqueState sets.make_set.Kinds.ps sets.make_set.Kinds.r sets.make_set.Reads.Post (λ κs e. e.0.now)
-  pub drop-set : UniqueState sets.drop_set.Kinds.ps sets.drop_set.Kinds.r sets.drop_set.Reads.Post (λ κs e. e.0.now)
-  pub add-member : UniqueState sets.add_member.Kinds.ps sets.add_member.Kinds.r sets.add_member.Reads.Post (λ κs e. e.0.now)
-  pub drop-member : UniqueState sets.drop_member.Kinds.ps sets.drop_member.Kinds.r sets.drop_member.Reads.Post (λ κs e. e.0.now)
-  pub set-cardinality : UniqueState sets.set_cardinality.Kinds.ps sets.set_cardinality.Kinds.r sets.set_cardinality.Reads.Post (λ κs e. e.0.now)
+  pub make_set : UniqueState sets.make_set.Kinds.ps sets.make_set.Kinds.r sets.make_set.Reads.Post (λ κs e. e.0.now)
+  pub drop_set : UniqueState sets.drop_set.Kinds.ps sets.drop_set.Kinds.r sets.drop_set.Reads.Post (λ κs e. e.0.now)
+  pub add_member : UniqueState sets.add_member.Kinds.ps sets.add_member.Kinds.r sets.add_member.Reads.Post (λ κs e. e.0.now)
+  pub drop_member : UniqueState sets.drop_member.Kinds.ps sets.drop_member.Kinds.r sets.drop_member.Reads.Post (λ κs e. e.0.now)
+  pub set_cardinality : UniqueState sets.set_cardinality.Kinds.ps sets.set_cardinality.Kinds.r sets.set_cardinality.Reads.Post (λ κs e. e.0.now)
 
 pub record Sessions : Type 0 where
   pub session : UniqueState sessions.session.Kinds.ps sessions.session.Kinds.r sessions.session.Reads.Post (λ κs e. e.0.now)
@@ -165,19 +165,19 @@ pub record Checking : Type 0 where
   pub check : Unique checking.check.Kinds.ps checking.check.Kinds.r checking.check.Reads.Post
 
 pub record Reviews : Type 0 where
-  pub assigned-users : UniqueLent reviews.assigned_users.Kinds.ps reviews.assigned_users.Kinds.r reviews.assigned_users.Reads.Post (λ κs e. e.1.1.0.now)
-  pub assigned-roles : UniqueLent reviews.assigned_roles.Kinds.ps reviews.assigned_roles.Kinds.r reviews.assigned_roles.Reads.Post (λ κs e. e.1.1.0.now)
-  pub auth-users : UniqueLent reviews.auth_users.Kinds.ps reviews.auth_users.Kinds.r reviews.auth_users.Reads.Post (λ κs e. e.1.1.0.now)
-  pub auth-roles : UniqueLent reviews.auth_roles.Kinds.ps reviews.auth_roles.Kinds.r reviews.auth_roles.Reads.Post (λ κs e. e.1.1.0.now)
-  pub role-perms : UniqueLent reviews.role_perms.Kinds.ps reviews.role_perms.Kinds.r reviews.role_perms.Reads.Post (λ κs e. e.1.1.0.now)
-  pub user-perms : UniqueLent reviews.user_perms.Kinds.ps reviews.user_perms.Kinds.r reviews.user_perms.Reads.Post (λ κs e. e.1.1.0.now)
-  pub session-roles : UniqueLent reviews.session_roles.Kinds.ps reviews.session_roles.Kinds.r reviews.session_roles.Reads.Post (λ κs e. e.1.1.0.now)
-  pub session-perms : UniqueLent reviews.session_perms.Kinds.ps reviews.session_perms.Kinds.r reviews.session_perms.Reads.Post (λ κs e. e.1.1.0.now)
-  pub role-ops : UniqueLent reviews.role_ops.Kinds.ps reviews.role_ops.Kinds.r reviews.role_ops.Reads.Post (λ κs e. e.1.1.1.0.now)
-  pub user-ops : UniqueLent reviews.user_ops.Kinds.ps reviews.user_ops.Kinds.r reviews.user_ops.Reads.Post (λ κs e. e.1.1.1.0.now)
-  pub set-names : UniqueLent reviews.set_names.Kinds.ps reviews.set_names.Kinds.r reviews.set_names.Reads.Post (λ κs e. e.1.1.0.now)
-  pub set-roles : UniqueLent reviews.set_roles.Kinds.ps reviews.set_roles.Kinds.r reviews.set_roles.Reads.Post (λ κs e. e.1.1.1.0.now)
-  pub set-count : UniqueLent reviews.set_count.Kinds.ps reviews.set_count.Kinds.r reviews.set_count.Reads.Post (λ κs e. e.1.1.1.0.now)
+  pub assigned_users : UniqueLent reviews.assigned_users.Kinds.ps reviews.assigned_users.Kinds.r reviews.assigned_users.Reads.Post (λ κs e. e.1.1.0.now)
+  pub assigned_roles : UniqueLent reviews.assigned_roles.Kinds.ps reviews.assigned_roles.Kinds.r reviews.assigned_roles.Reads.Post (λ κs e. e.1.1.0.now)
+  pub auth_users : UniqueLent reviews.auth_users.Kinds.ps reviews.auth_users.Kinds.r reviews.auth_users.Reads.Post (λ κs e. e.1.1.0.now)
+  pub auth_roles : UniqueLent reviews.auth_roles.Kinds.ps reviews.auth_roles.Kinds.r reviews.auth_roles.Reads.Post (λ κs e. e.1.1.0.now)
+  pub role_perms : UniqueLent reviews.role_perms.Kinds.ps reviews.role_perms.Kinds.r reviews.role_perms.Reads.Post (λ κs e. e.1.1.0.now)
+  pub user_perms : UniqueLent reviews.user_perms.Kinds.ps reviews.user_perms.Kinds.r reviews.user_perms.Reads.Post (λ κs e. e.1.1.0.now)
+  pub session_roles : UniqueLent reviews.session_roles.Kinds.ps reviews.session_roles.Kinds.r reviews.session_roles.Reads.Post (λ κs e. e.1.1.0.now)
+  pub session_perms : UniqueLent reviews.session_perms.Kinds.ps reviews.session_perms.Kinds.r reviews.session_perms.Reads.Post (λ κs e. e.1.1.0.now)
+  pub role_ops : UniqueLent reviews.role_ops.Kinds.ps reviews.role_ops.Kinds.r reviews.role_ops.Reads.Post (λ κs e. e.1.1.1.0.now)
+  pub user_ops : UniqueLent reviews.user_ops.Kinds.ps reviews.user_ops.Kinds.r reviews.user_ops.Reads.Post (λ κs e. e.1.1.1.0.now)
+  pub set_names : UniqueLent reviews.set_names.Kinds.ps reviews.set_names.Kinds.r reviews.set_names.Reads.Post (λ κs e. e.1.1.0.now)
+  pub set_roles : UniqueLent reviews.set_roles.Kinds.ps reviews.set_roles.Kinds.r reviews.set_roles.Reads.Post (λ κs e. e.1.1.1.0.now)
+  pub set_count : UniqueLent reviews.set_count.Kinds.ps reviews.set_count.Kinds.r reviews.set_count.Reads.Post (λ κs e. e.1.1.1.0.now)
 
 pub record Engine : Type 0 where
   pub step : UniqueState engine.step.Kinds.ps engine.step.Kinds.r engine.step.Reads.Post (λ κs e. e.0.now)
@@ -185,7 +185,7 @@ pub record Engine : Type 0 where
 
 pub record Text : Type 0 where
   pub put : UniqueLent text.put.Kinds.ps text.put.Kinds.r text.put.Reads.Post (λ κs e. e.0.now)
-  pub put-text : UniqueLent text.put_text.Kinds.ps text.put_text.Kinds.r text.put_text.Reads.Post (λ κs e. e.0.now)
+  pub put_text : UniqueLent text.put_text.Kinds.ps text.put_text.Kinds.r text.put_text.Reads.Post (λ κs e. e.0.now)
   pub word_at : Unique text.word_at.Kinds.ps text.word_at.Kinds.r text.word_at.Reads.Post
 
 pub record Policywrite : Type 0 where
@@ -203,34 +203,34 @@ pub record Policyfile : Type 0 where
   pub load : UniqueState policyfile.load.Kinds.ps policyfile.load.Kinds.r policyfile.load.Reads.Post (λ κs e. e.0.now)
 
 pub record Decimal : Type 0 where
-  pub put-number : UniqueLent decimal.put_number.Kinds.ps decimal.put_number.Kinds.r decimal.put_number.Reads.Post (λ κs e. e.0.now)
-  pub put-numbers : UniqueLent decimal.put_numbers.Kinds.ps decimal.put_numbers.Kinds.r decimal.put_numbers.Reads.Post (λ κs e. e.0.now)
+  pub put_number : UniqueLent decimal.put_number.Kinds.ps decimal.put_number.Kinds.r decimal.put_number.Reads.Post (λ κs e. e.0.now)
+  pub put_numbers : UniqueLent decimal.put_numbers.Kinds.ps decimal.put_numbers.Kinds.r decimal.put_numbers.Reads.Post (λ κs e. e.0.now)
   pub value : Unique decimal.value.Kinds.ps decimal.value.Kinds.r decimal.value.Reads.Post
 
 pub record Words : Type 0 where
   pub which : Unique words.which.Kinds.ps words.which.Kinds.r words.which.Reads.Post
   pub put_word : UniqueLent words.put_word.Kinds.ps words.put_word.Kinds.r words.put_word.Reads.Post (λ κs e. e.0.now)
-  pub before-list : Unique words.before_list.Kinds.ps words.before_list.Kinds.r words.before_list.Reads.Post
+  pub before_list : Unique words.before_list.Kinds.ps words.before_list.Kinds.r words.before_list.Reads.Post
   pub takes : Unique words.takes.Kinds.ps words.takes.Kinds.r words.takes.Reads.Post
   pub same : Unique words.same.Kinds.ps words.same.Kinds.r words.same.Reads.Post
 
 pub record Textlines : Type 0 where
   pub part_at : UniqueSeen textlines.part_at.Kinds.ps textlines.part_at.Kinds.r textlines.part_at.Reads.Post (λ κs x e. x.now)
   pub past : Unique textlines.past.Kinds.ps textlines.past.Kinds.r textlines.past.Reads.Post
-  pub next-from : UniqueSeen {A = List ℕ × ℕ} textlines.next_from.Kinds.ps textlines.next_from.Kinds.r textlines.next_from.Reads.Post (λ κs x e. (x.now, e.1.0.now))
+  pub next_from : UniqueSeen {A = List ℕ × ℕ} textlines.next_from.Kinds.ps textlines.next_from.Kinds.r textlines.next_from.Reads.Post (λ κs x e. (x.now, e.1.0.now))
   pub bumped : Unique textlines.bumped.Kinds.ps textlines.bumped.Kinds.r textlines.bumped.Reads.Post
   pub tallied : Unique textlines.tallied.Kinds.ps textlines.tallied.Kinds.r textlines.tallied.Reads.Post
 
 pub record Reading : Type 0 where
-  pub read-line : Unique reading.read_line.Kinds.ps reading.read_line.Kinds.r reading.read_line.Reads.Post
+  pub read_line : Unique reading.read_line.Kinds.ps reading.read_line.Kinds.r reading.read_line.Reads.Post
 
 pub record Meaning : Type 0 where
   pub meaning : Unique meaning.meaning.Kinds.ps meaning.meaning.Kinds.r meaning.meaning.Reads.Post
 
 pub record Script : Type 0 where
-  pub answer-text : UniqueLent script.answer_text.Kinds.ps script.answer_text.Kinds.r script.answer_text.Reads.Post (λ κs e. e.0.now)
-  pub total-text : UniqueLent script.total_text.Kinds.ps script.total_text.Kinds.r script.total_text.Reads.Post (λ κs e. e.0.now)
-  pub answer-line : UniqueBoth script.answer_line.Kinds.ps script.answer_line.Kinds.r script.answer_line.Reads.Post (λ κs e. e.0.now) (λ κs e. e.1.1.0.now)
+  pub answer_text : UniqueLent script.answer_text.Kinds.ps script.answer_text.Kinds.r script.answer_text.Reads.Post (λ κs e. e.0.now)
+  pub total_text : UniqueLent script.total_text.Kinds.ps script.total_text.Kinds.r script.total_text.Reads.Post (λ κs e. e.0.now)
+  pub answer_line : UniqueBoth script.answer_line.Kinds.ps script.answer_line.Kinds.r script.answer_line.Reads.Post (λ κs e. e.0.now) (λ κs e. e.1.1.0.now)
   pub turn : UniqueBoth script.turn.Kinds.ps script.turn.Kinds.r script.turn.Reads.Post (λ κs e. e.1.0.now) (λ κs e. e.1.1.1.0.now)
 
 pub record Program : Type 0 where
@@ -239,10 +239,10 @@ pub record Program : Type 0 where
   pub next : UniqueBoth program.next.Kinds.ps program.next.Kinds.r program.next.Reads.Post (λ κs e. e.1.0.now) (λ κs e. e.1.1.1.0.now)
 
 pub record Clibrary : Type 0 where
-  pub marruskil-start : UniqueState clibrary.marruskil_start.Kinds.ps clibrary.marruskil_start.Kinds.r clibrary.marruskil_start.Reads.Post (λ κs e. e.0.now)
-  pub marruskil-obey : UniqueBoth clibrary.marruskil_obey.Kinds.ps clibrary.marruskil_obey.Kinds.r clibrary.marruskil_obey.Reads.Post (λ κs e. e.0.now) (λ κs e. e.1.1.0.now)
-  pub marruskil-check : UniqueLent {A = ℕ × ℕ} clibrary.marruskil_check.Kinds.ps clibrary.marruskil_check.Kinds.r clibrary.marruskil_check.Reads.Post (λ κs e. (e.1.1.1.1.0.now, e.1.1.1.1.1.0.now))
-  pub marruskil-load : UniqueState clibrary.marruskil_load.Kinds.ps clibrary.marruskil_load.Kinds.r clibrary.marruskil_load.Reads.Post (λ κs e. e.0.now)
-  pub marruskil-save : UniqueLent {A = List ℕ × ℕ} clibrary.marruskil_save.Kinds.ps clibrary.marruskil_save.Kinds.r clibrary.marruskil_save.Reads.Post (λ κs e. (e.1.0.now, e.1.1.0.now))
+  pub marruskil_start : UniqueState clibrary.marruskil_start.Kinds.ps clibrary.marruskil_start.Kinds.r clibrary.marruskil_start.Reads.Post (λ κs e. e.0.now)
+  pub marruskil_obey : UniqueBoth clibrary.marruskil_obey.Kinds.ps clibrary.marruskil_obey.Kinds.r clibrary.marruskil_obey.Reads.Post (λ κs e. e.0.now) (λ κs e. e.1.1.0.now)
+  pub marruskil_check : UniqueLent {A = ℕ × ℕ} clibrary.marruskil_check.Kinds.ps clibrary.marruskil_check.Kinds.r clibrary.marruskil_check.Reads.Post (λ κs e. (e.1.1.1.1.0.now, e.1.1.1.1.1.0.now))
+  pub marruskil_load : UniqueState clibrary.marruskil_load.Kinds.ps clibrary.marruskil_load.Kinds.r clibrary.marruskil_load.Reads.Post (λ κs e. e.0.now)
+  pub marruskil_save : UniqueLent {A = List ℕ × ℕ} clibrary.marruskil_save.Kinds.ps clibrary.marruskil_save.Kinds.r clibrary.marruskil_save.Reads.Post (λ κs e. (e.1.0.now, e.1.1.0.now))
 
 -- ---- end of what tests/unique.py writes

@@ -1,6 +1,7 @@
 // The commands `user`, `end-all` and `nouser`.
+#![tactic(auto)]
 ghost use Rattle.std.specs.Prelude.{◌≡◌};
-ghost use Rattle.model.specs.commands.Users.{user, endAll, nouser};
+ghost use Rattle.model.specs.commands.Users.{user, end_all, nouser};
 ghost use Rattle.state.specs.View.{view, told};
 
 use numbers::{Answer, User};
@@ -25,7 +26,7 @@ pub fn user(state: &mut [u64; PLACES], u: User) -> Answer
 
 // The user's sessions end, and nothing else is changed; 1, 2.
 pub fn end_all(state: &mut [u64; PLACES], u: User) -> Answer
-    ensures { told result state.new ≡ endAll (view state.old) u.number }
+    ensures { told result state.new ≡ end_all (view state.old) u.number }
 {
     if numbers::user_beyond(u) {
         return Answer::BeyondRange;

@@ -10,7 +10,7 @@ use lib.ListN.{length, get_or, drop, drop_of_length-le}
 use lib.Seq.{drop-cons}
 use borrow.Author.Tests.{eqb-true, eq-eqb, ne_eqb}
 use Rattle.words.specs.Bytes.{same}
-use Rattle.words.specs.ScriptWords.{Word, words, wordCount, words_count, word_of, spelling, place_in, which}
+use Rattle.words.specs.ScriptWords.{Word, words, word_count, words_count, word_of, spelling, place_in, which}
 
 -- ---- the same text
 
@@ -43,10 +43,10 @@ module _ (a b : List ℕ) (i : ℕ) (p : i < length a) (q : i < length b) where
   unfolding same
   apart = rw (drop-cons a i 0 p, drop-cons b i 0 q, add-one i)
 
-  pub turn-differs : (get_or a i 0 ≡ get_or b i 0 → ⊥) → same (drop i a) (drop i b) ≡ false
+  pub turn_differs : (get_or a i 0 ≡ get_or b i 0 → ⊥) → same (drop i a) (drop i b) ≡ false
   turn-differs n = apart ∙ rw (ne_eqb (get_or a i 0) (get_or b i 0) n)
 
-  pub turn-equal : get_or a i 0 ≡ get_or b i 0 → same (drop i a) (drop i b) ≡ same (drop (i + 1) a) (drop (i + 1) b)
+  pub turn_equal : get_or a i 0 ≡ get_or b i 0 → same (drop i a) (drop i b) ≡ same (drop (i + 1) a) (drop (i + 1) b)
   turn-equal e = apart ∙ rw (eq-eqb (get_or a i 0) (get_or b i 0) e)
 
 pub all-passed : (a b : List ℕ) (i : ℕ) → length a ≤ i → length b ≤ i → same (drop i a) (drop i b) ≡ true
@@ -63,7 +63,7 @@ later : (w : Word) (rest : List Word) (text : List ℕ) → same text w.spelling
 unfolding place_in
 later w rest text e = ap (λ (t : Bool). elim t [ true ↦ 0 | false ↦ suc (place_in rest text) ]) e
 
-module _ (text : List ℕ) (k : ℕ) (h : k < wordCount) where
+module _ (text : List ℕ) (k : ℕ) (h : k < word_count) where
   next : drop k words ≡ word_of k ∷ drop (k + 1) words
   next = rw (add-one k) (drop-cons words k _ (rw words_count h))
 
@@ -75,7 +75,7 @@ module _ (text : List ℕ) (k : ℕ) (h : k < wordCount) where
   unfolding spelling
   passed e = rw next (later (word_of k) (drop (k + 1) words) text e)
 
-pub none_left : (text : List ℕ) → place_in (drop wordCount words) text ≡ 0
+pub none_left : (text : List ℕ) → place_in (drop word_count words) text ≡ 0
 unfolding place_in words
 none_left text = refl
 

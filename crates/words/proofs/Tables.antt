@@ -7,7 +7,7 @@ use native.Mathlib.Omega.{arith}
 use lib.Dec.{T, eqb, ltb, leb}
 use lib.ListN.{length, get_or-eq_default}
 use borrow.Author.Tests.{ltb-true, ltb-false, leb-true, eqb-true}
-use Rattle.words.specs.ScriptWords.{Word, words, wordCount, words_count, word_of, spelling, fitting, takes, which, place_in}
+use Rattle.words.specs.ScriptWords.{Word, words, word_count, words_count, word_of, spelling, fitting, takes, which, place_in}
 use Rattle.words.specs.Bytes.{same}
 use Rattle.words.proofs.Table.{at, every}
 
@@ -15,23 +15,23 @@ use Rattle.words.proofs.Table.{at, every}
 abbrev pub none : Word
 none = record { spelling = []; numbers = 0; listed = false }
 
-pub past-last : (k : ℕ) → wordCount ≤ k → word_of k ≡ none
+pub past-last : (k : ℕ) → word_count ≤ k → word_of k ≡ none
 past-last k h = get_or-eq_default words none (rw words_count h)
 
 -- a number is that of a word, or past the last
-pub cases : (P : ℕ → Type 0) → ((k : ℕ) → k < wordCount → P k) → ((k : ℕ) → wordCount ≤ k → P k) → (k : ℕ) → P k
-cases P p q k = go (ltb k wordCount) refl
+pub cases : (P : ℕ → Type 0) → ((k : ℕ) → k < word_count → P k) → ((k : ℕ) → word_count ≤ k → P k) → (k : ℕ) → P k
+cases P p q k = go (ltb k word_count) refl
   where
-    go : (t : Bool) → ltb k wordCount ≡ t → P k
-    go true e = p k (ltb-true k wordCount e)
-    go false e = q k (ltb-false k wordCount e)
+    go : (t : Bool) → ltb k word_count ≡ t → P k
+    go true e = p k (ltb-true k word_count e)
+    go false e = q k (ltb-false k word_count e)
 
 -- how long each word is
 unfoldable pub lengths : List ℕ
 lengths = map (λ (w : Word). length w.spelling) words
 
 -- a test that passes at every word
-pub over-words : (f : ℕ → Bool) → T (every (λ k x. f k) 0 lengths) → (k : ℕ) → k < wordCount → f k ≡ true
+pub over-words : (f : ℕ → Bool) → T (every (λ k x. f k) 0 lengths) → (k : ℕ) → k < word_count → f k ≡ true
 unfolding lengths words
 over-words f t k h = truth (f k) (at (λ k x. f k) lengths t k h)
   where
@@ -55,7 +55,7 @@ numbers-few =
     (λ k h. rw (past-last k h) (omega arith))
 
 -- Each word is found at its own number, so no two are alike.
-pub which-spelling : (k : ℕ) → k < wordCount → which (spelling k) ≡ k
+pub which-spelling : (k : ℕ) → k < word_count → which (spelling k) ≡ k
 unfolding lengths which place_in spelling words same
 which-spelling k h = eqb-true _ _ (over-words (λ k. eqb (which (spelling k)) k) tt k h)
 

@@ -17,10 +17,10 @@ unfoldable pub row : Word → List ℕ
 row w = filled 14 w.spelling ++ ((48 + w.numbers) ∷ mark w.listed ∷ [])
 
 -- what stands before the first space
-unfoldable pub upToSpace : List ℕ → List ℕ
-upToSpace [] = []
-upToSpace (x ∷ l) = elim (eqb x 32) [ true ↦ [] | false ↦ x ∷ upToSpace l ]
+unfoldable pub up_to_space : List ℕ → List ℕ
+up_to_space [] = []
+up_to_space (x ∷ l) = elim (eqb x 32) [ true ↦ [] | false ↦ x ∷ up_to_space l ]
 
 -- the letters of a row, which are those before the first space of its 14 places
 unfoldable pub letters : List ℕ → List ℕ
-letters r = upToSpace (take 14 r)
+letters r = up_to_space (take 14 r)

@@ -63,10 +63,10 @@ words =
     []
 
 -- how many there are
-abbrev pub wordCount : ℕ
-wordCount = 42
+abbrev pub word_count : ℕ
+word_count = 42
 
-pub words_count : length words ≡ wordCount
+pub words_count : length words ≡ word_count
 unfolding words
 words_count = refl
 

@@ -180,8 +180,8 @@ sets =
     []
 
 -- "a wrong number of numbers": each word with one too few
-abbrev pub oneTooFew : List Row
-oneTooFew =
+abbrev pub one_too_few : List Row
+one_too_few =
     "user" ⇒ "14" ∷
     "role" ⇒ "14" ∷
     "nouser" ⇒ "14" ∷
@@ -225,8 +225,8 @@ oneTooFew =
     []
 
 -- and each with one too many, but for `session`, `ssd` and `dsd`, which a list follows
-abbrev pub oneTooMany : List Row
-oneTooMany =
+abbrev pub one_too_many : List Row
+one_too_many =
     "user 1 2" ⇒ "14" ∷
     "role 1 2" ⇒ "14" ∷
     "nouser 1 2" ⇒ "14" ∷
@@ -274,5 +274,5 @@ pub record WordSheet : Type 0 where
   pub sessions : Prints sessions "total 29 6"
   pub permissions : Prints (granting ++ (permissions ++ revoking)) "total 24 0"
   pub sets : Prints sets "total 32 3"
-  pub oneTooFew : Prints oneTooFew "total 0 40"
-  pub oneTooMany : Prints oneTooMany "total 0 39"
+  pub one_too_few : Prints one_too_few "total 0 40"
+  pub one_too_many : Prints one_too_many "total 0 39"

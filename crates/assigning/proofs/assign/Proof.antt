@@ -7,12 +7,12 @@ use mathlib.Core.Path.{◌≡◌, sym, ap, ◌∙◌}
 use Prim.Native.Nat.{ℕ, ◌+◌}
 use lib.Dec.{leb}
 use Rattle.roleset.specs.Roles.{has, with}
-use Rattle.numbers.specs.Ranges.{mostAssignments}
+use Rattle.numbers.specs.Ranges.{most_assignments}
 use Rattle.model.specs.Model.{Model}
 use Rattle.model.specs.Sheet.{verdict, settle, done}
-use Rattle.model.specs.Words.{reached, breaksSome, staticBroken}
+use Rattle.model.specs.Words.{reached, breaks_some, static_broken}
 use Rattle.model.specs.commands.Assigning.{assign, assigned}
-use Rattle.model.specs.commands.Naming.{userBeyond, roleBeyond, userMissing, roleMissing}
+use Rattle.model.specs.commands.Naming.{user_beyond, role_beyond, user_missing, role_missing}
 use Rattle.model.proofs.Puts.{assigned-static}
 use Rattle.state.specs.View.{view, told}
 use Rattle.state.proofs.Stored.{within}
@@ -47,45 +47,45 @@ abbrev to-4 : tie.Else5 → tie.Else4
 to-4 c = c.before.before.before
 
 -- what the tests find, and what is known past them
-found-1 : (c : tie.After-either) → let s = c.before.before.before in (userBeyond (user s) || roleBeyond (role s)) ≡ c.either.result
-found-1 c = rw (← c.before.before.user-beyond.ensures, ← c.before.role-beyond.ensures) (sym c.either.ensures)
+found-1 : (c : tie.After-either) → let s = c.before.before.before in (user_beyond (user s) || role_beyond (role s)) ≡ c.either.result
+found-1 c = rw (← c.before.before.user_beyond.ensures, ← c.before.role_beyond.ensures) (sym c.either.ensures)
 
-clear-1 : (c : tie.Else1) → (userBeyond (user (to_start c)) || roleBeyond (role (to_start c))) ≡ false
+clear-1 : (c : tie.Else1) → (user_beyond (user (to_start c)) || role_beyond (role (to_start c))) ≡ false
 clear-1 c = found-1 c.before ∙ c.if1.false
 
-found-2 : (c : tie.After-either2) → let s = to_start c.before.before.before.before.before in (userMissing (m s) (user s) || roleMissing (m s) (role s)) ≡ c.either2.result
-found-2 c = rw (← c.before.before.before.has-user.ensures, ← c.before.has-role.ensures) (sym c.either2.ensures)
+found-2 : (c : tie.After-either2) → let s = to_start c.before.before.before.before.before in (user_missing (m s) (user s) || role_missing (m s) (role s)) ≡ c.either2.result
+found-2 c = rw (← c.before.before.before.has_user.ensures, ← c.before.has_role.ensures) (sym c.either2.ensures)
 
-clear-2 : (c : tie.Else2) → let s = to_start (to-1 c) in (userMissing (m s) (user s) || roleMissing (m s) (role s)) ≡ false
+clear-2 : (c : tie.Else2) → let s = to_start (to-1 c) in (user_missing (m s) (user s) || role_missing (m s) (role s)) ≡ false
 clear-2 c = found-2 c.before ∙ c.if2.false
 
 found-3 : (c : tie.After-has) → let s = to_start (to-1 c.before.before.before) in has ((m s).assigned (user s)) (role s) ≡ c.has.result
-found-3 c = rw (← c.before.assigned-to.ensures) (sym c.has.ensures)
+found-3 c = rw (← c.before.assigned_to.ensures) (sym c.has.ensures)
 
 clear-3 : (c : tie.Else3) → let s = to_start (to-1 (to-2 c)) in has ((m s).assigned (user s)) (role s) ≡ false
 clear-3 c = found-3 c.before ∙ c.if3.false
 
 -- the roles that the user would have, and all that these inherit
 new : (c : tie.After-with) → let s = to_start (to-1 (to-2 c.before)) in c.with.result ≡ with ((m s).assigned (user s)) (role s)
-new c = let s = to_start (to-1 (to-2 c.before)) in c.with.ensures.is ∙ ap (λ (x : ℕ). with x (role s)) c.before.before.before.assigned-to.ensures
+new c = let s = to_start (to-1 (to-2 c.before)) in c.with.ensures.is ∙ ap (λ (x : ℕ). with x (role s)) c.before.before.before.assigned_to.ensures
 
 walked : (c : tie.After-reach) → let s = to_start (to-1 (to-2 c.before.before.before)) in reached (m s) (with ((m s).assigned (user s)) (role s)) ≡ c.reach.result
 walked c = rw (← new c.before.before) (sym c.reach.ensures.is)
 
-found-4 : (c : tie.After-breaks-some) → let s = to_start (to-1 (to-2 c.before.before.before.before.before)) in staticBroken (assigned (m s) (user s) (role s)) (user s) ≡ c.breaks-some.result
+found-4 : (c : tie.After-breaks-some) → let s = to_start (to-1 (to-2 c.before.before.before.before.before)) in static_broken (assigned (m s) (user s) (role s)) (user s) ≡ c.breaks_some.result
 found-4 c =
     let s = to_start (to-1 (to-2 c.before.before.before.before.before)) in
-    let ruled : c.breaks-some.result ≡ breaksSome (m s).ssd c.before.before.reach.result = c.breaks-some.ensures in
-    assigned-static (m s) (user s) (role s) ∙ ap (breaksSome (m s).ssd) (walked c.before.before) ∙ sym ruled
+    let ruled : c.breaks_some.result ≡ breaks_some (m s).ssd c.before.before.reach.result = c.breaks_some.ensures in
+    assigned-static (m s) (user s) (role s) ∙ ap (breaks_some (m s).ssd) (walked c.before.before) ∙ sym ruled
 
-clear-4 : (c : tie.Else4) → let s = to_start (to-1 (to-2 (to-3 c))) in staticBroken (assigned (m s) (user s) (role s)) (user s) ≡ false
+clear-4 : (c : tie.Else4) → let s = to_start (to-1 (to-2 (to-3 c))) in static_broken (assigned (m s) (user s) (role s)) (user s) ≡ false
 clear-4 c = found-4 c.before ∙ c.if4.false
 
-found-5 : (c : tie.After-assignment-count) → let s = to_start (to-1 (to-2 (to-3 c.before.before))) in leb mostAssignments (m s).assignmentCount ≡ leb 2048 c.assignment-count.result
-found-5 c = ap (leb 2048) (sym c.assignment-count.ensures)
+found-5 : (c : tie.After-assignment-count) → let s = to_start (to-1 (to-2 (to-3 c.before.before))) in leb most_assignments (m s).assignment_count ≡ leb 2048 c.assignment_count.result
+found-5 c = ap (leb 2048) (sym c.assignment_count.ensures)
 
-clear-5 : (c : tie.Else5) → let s = to_start (to-1 (to-2 (to-3 (to-4 c)))) in leb mostAssignments (m s).assignmentCount ≡ false
-clear-5 c = found-5 c.before ∙ lt-leb 2048 c.before.assignment-count.result c.if5.false
+clear-5 : (c : tie.Else5) → let s = to_start (to-1 (to-2 (to-3 (to-4 c)))) in leb most_assignments (m s).assignment_count ≡ false
+clear-5 c = found-5 c.before ∙ lt-leb 2048 c.before.assignment_count.result c.if5.false
 
 returns : tie.Need-returns
 unfolding told assign settle verdict
@@ -114,7 +114,7 @@ returns-5 c =
     let c4 = c.before.before.before in
     let c3 = to-3 c4 in
     let c2 = to-2 c3 in
-    rw (clear-1 (to-1 c2), clear-2 c2, clear-3 c3, clear-4 c4, found-5 c.before ∙ le-leb 2048 c.before.assignment-count.result c.if5.true)
+    rw (clear-1 (to-1 c2), clear-2 c2, clear-3 c3, clear-4 c4, found-5 c.before ∙ le-leb 2048 c.before.assignment_count.result c.if5.true)
 
 returns-6 : tie.Need-returns-6
 unfolding told assign settle verdict assigned
@@ -128,9 +128,9 @@ returns-6 c =
     (ap (done [])
     (assigned-stored (m s) _ (user s) _ _ _ _
     (new c4.before.before.before.before.before)
-    (ap (λ (n : ℕ). n + 1) c5.before.assignment-count.ensures)
-    (within 256 (user s) (roleBeyond (role s)) (clear-1 (to-1 c2)))
-    c.put-assigned.ensures))
+    (ap (λ (n : ℕ). n + 1) c5.before.assignment_count.ensures)
+    (within 256 (user s) (role_beyond (role s)) (clear-1 (to-1 c2)))
+    c.put_assigned.ensures))
 
 pub assign-spec : {M : Type 1} → statement M
 assign-spec =

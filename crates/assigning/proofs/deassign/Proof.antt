@@ -9,7 +9,7 @@ use Rattle.model.specs.Model.{Model}
 use Rattle.model.specs.Sheet.{verdict, settle, done}
 use Rattle.model.specs.Words.{shed}
 use Rattle.model.specs.commands.Assigning.{deassign, deassigned}
-use Rattle.model.specs.commands.Naming.{userBeyond, roleBeyond, userMissing, roleMissing}
+use Rattle.model.specs.commands.Naming.{user_beyond, role_beyond, user_missing, role_missing}
 use Rattle.state.specs.View.{view, told}
 use Rattle.state.proofs.Stored.{within}
 use Rattle.assigning.proofs.Laws.{assigned-stored, deassigned-shed}
@@ -40,30 +40,30 @@ abbrev to-3 : tie.After-shed → tie.Else3
 to-3 c = c.before.before.before.before.before.before.before.before.before.before
 
 -- what the tests find, and what is known past them
-found-1 : (c : tie.After-either) → let s = c.before.before.before in (userBeyond (user s) || roleBeyond (role s)) ≡ c.either.result
-found-1 c = rw (← c.before.before.user-beyond.ensures, ← c.before.role-beyond.ensures) (sym c.either.ensures)
+found-1 : (c : tie.After-either) → let s = c.before.before.before in (user_beyond (user s) || role_beyond (role s)) ≡ c.either.result
+found-1 c = rw (← c.before.before.user_beyond.ensures, ← c.before.role_beyond.ensures) (sym c.either.ensures)
 
-clear-1 : (c : tie.Else1) → (userBeyond (user (to_start c)) || roleBeyond (role (to_start c))) ≡ false
+clear-1 : (c : tie.Else1) → (user_beyond (user (to_start c)) || role_beyond (role (to_start c))) ≡ false
 clear-1 c = found-1 c.before ∙ c.if1.false
 
 within-range : (c : tie.Else1) → user (to_start c) < 256
-within-range c = within 256 (user (to_start c)) (roleBeyond (role (to_start c))) (clear-1 c)
+within-range c = within 256 (user (to_start c)) (role_beyond (role (to_start c))) (clear-1 c)
 
-found-2 : (c : tie.After-either2) → let s = to_start c.before.before.before.before.before in (userMissing (m s) (user s) || roleMissing (m s) (role s)) ≡ c.either2.result
-found-2 c = rw (← c.before.before.before.has-user.ensures, ← c.before.has-role.ensures) (sym c.either2.ensures)
+found-2 : (c : tie.After-either2) → let s = to_start c.before.before.before.before.before in (user_missing (m s) (user s) || role_missing (m s) (role s)) ≡ c.either2.result
+found-2 c = rw (← c.before.before.before.has_user.ensures, ← c.before.has_role.ensures) (sym c.either2.ensures)
 
-clear-2 : (c : tie.Else2) → let s = to_start (to-1 c) in (userMissing (m s) (user s) || roleMissing (m s) (role s)) ≡ false
+clear-2 : (c : tie.Else2) → let s = to_start (to-1 c) in (user_missing (m s) (user s) || role_missing (m s) (role s)) ≡ false
 clear-2 c = found-2 c.before ∙ c.if2.false
 
 found-3 : (c : tie.After-has) → let s = to_start (to-1 c.before.before.before) in has ((m s).assigned (user s)) (role s) ≡ c.has.result
-found-3 c = rw (← c.before.assigned-to.ensures) (sym c.has.ensures)
+found-3 c = rw (← c.before.assigned_to.ensures) (sym c.has.ensures)
 
 -- what is left to the user
 left : (c : tie.After-without) → let s = to_start (to-1 (to-2 c.before)) in c.without.result ≡ without ((m s).assigned (user s)) (role s)
-left c = let s = to_start (to-1 (to-2 c.before)) in c.without.ensures.is ∙ ap (λ (x : ℕ). without x (role s)) c.before.before.before.assigned-to.ensures
+left c = let s = to_start (to-1 (to-2 c.before)) in c.without.ensures.is ∙ ap (λ (x : ℕ). without x (role s)) c.before.before.before.assigned_to.ensures
 
 -- the two stores: what is left to the user and how many assignments stand, and then what is left to the sessions
-stored : (c : tie.After-put-all-active) → let s = to_start (to-1 (to-2 (to-3 c.before.before.before.before.before.before.before.before))) in view c.put-all-active.new.0 ≡ shed (deassigned (m s) (user s) (role s))
+stored : (c : tie.After-put-all-active) → let s = to_start (to-1 (to-2 (to-3 c.before.before.before.before.before.before.before.before))) in view c.put_all_active.new.0 ≡ shed (deassigned (m s) (user s) (role s))
 unfolding deassigned
 stored c =
     let counted = c.before.before.before.before.before in
@@ -72,9 +72,9 @@ stored c =
     let w = t.before.before.before.before in
     let c1 = to-1 (to-2 (to-3 swept)) in
     let s = to_start c1 in
-    deassigned-shed s.args.state.now t.before.before.juniors-table.result t.assigned-table.result (user s) (role s) w.without.result swept.shed.result (within-range c1) (left w) t.before.before.juniors-table.ensures t.assigned-table.ensures swept.shed.ensures _ _
-    (assigned-stored (m s) _ (user s) _ _ _ _ (left w) (counted.less.ensures ∙ ap (λ (n : ℕ). n - 1) counted.before.assignment-count.ensures) (within-range c1) c.before.before.before.put-assigned.ensures)
-    c.put-all-active.ensures
+    deassigned-shed s.args.state.now t.before.before.juniors_table.result t.assigned_table.result (user s) (role s) w.without.result swept.shed.result (within-range c1) (left w) t.before.before.juniors_table.ensures t.assigned_table.ensures swept.shed.ensures _ _
+    (assigned-stored (m s) _ (user s) _ _ _ _ (left w) (counted.less.ensures ∙ ap (λ (n : ℕ). n - 1) counted.before.assignment_count.ensures) (within-range c1) c.before.before.before.put_assigned.ensures)
+    c.put_all_active.ensures
 
 returns : tie.Need-returns
 unfolding told deassign settle verdict

@@ -9,9 +9,9 @@ use lib.ListN.{length, take}
 use lib.Seq.{length-take-le}
 use Rattle.model.specs.Model.{empty}
 use Rattle.text.proofs.Putting.{put-length}
-use Rattle.script.specs.Script.{runScript}
+use Rattle.script.specs.Script.{run_script}
 use Rattle.program.proofs.Placing.{Handing, hands-all, hands_none, hands_on, piece-within, piece-next, calls-fewer, count_small}
-use Rattle.program.proofs.Whole.{callsLeft}
+use Rattle.program.proofs.Whole.{calls_left}
 use Rattle.bench.proofs.print_all.Statement.{statement}
 use Rattle.bench.proofs.print_all.Tie as tie
 
@@ -19,7 +19,7 @@ abbrev invariant-loop : tie.invariant-loop
 invariant-loop script state₀ buf₀ run₀ count₀ state buf run count = (length buf ≡ 32768) × Handing empty script state run count
 
 abbrev decreases-loop : tie.decreases-loop
-decreases-loop script state₀ buf₀ run₀ count₀ state buf run count = callsLeft script run
+decreases-loop script state₀ buf₀ run₀ count₀ state buf run count = calls_left script run
 
 -- ---- a piece is put into the buffer
 
@@ -45,7 +45,7 @@ slice-aggregate-write-next : tie.Need-slice-aggregate-write-next invariant-loop 
 slice-aggregate-write-next c = sym (length-take-le _ _ (within c.before.before.before))
 
 write-next-requires : tie.Need-write-next-requires invariant-loop decreases-loop
-unfolding runScript
+unfolding run_script
 write-next-requires c κs = (
   piece-next _ _ _ _ _ _ _ _ _ (room c.before.before.before) c.before.before.before.before.before.before.before.before.loop.invariant.1 (not-true _ c.before.before.before.before.before.before.if1.true) c.before.before.before.next.ensures,
   omega (arith, count_small _ _ _ _ _ _ _ _ _ (room c.before.before.before) c.before.before.before.before.before.before.before.before.loop.invariant.1 (not-true _ c.before.before.before.before.before.before.if1.true) c.before.before.before.next.ensures, length-take-le c.before.before.before.next.result.len c.before.before.before.next.new.1.1.1.0 (within c.before.before.before)),
@@ -62,7 +62,7 @@ loop-again : tie.Need-loop-preserved invariant-loop decreases-loop
 loop-again c = (put-length c.before.before.before.before.before.before.next.ensures.puts.text ∙ c.before.before.before.before.before.before.before.before.before.before.before.loop.invariant.0, rw (wrote c) (hands_on _ _ _ _ _ _ _ _ _ (room c.before.before.before.before.before.before) c.before.before.before.before.before.before.before.before.before.before.before.loop.invariant.1 (not-true _ c.before.before.before.before.before.before.before.before.before.if1.true) c.before.before.before.before.before.before.next.ensures))
 
 returns-2 : tie.Need-returns-2 invariant-loop decreases-loop
-unfolding runScript
+unfolding run_script
 returns-2 c = λ e. hands_none _ _ _ _ _ c.before.before.loop.invariant.1 (not-false _ c.if1.false)
 
 pub print-all-spec : {M : Type 1} → statement M

@@ -7,7 +7,7 @@ use mir.Val.{bool_byte}
 use Rattle.roleset.specs.Bounded.{bit}
 use Rattle.model.specs.commands.Sessions.{check}
 use Rattle.state.specs.View.{view}
-use Rattle.state.specs.Results.{isDone}
+use Rattle.state.specs.Results.{is_done}
 use Rattle.checking.specs.Answering.{Checks}
 use Rattle.clibrary.proofs.Calling.{check-sixteen, checked-done, checked_refused}
 use Rattle.clibrary.proofs.marruskil_check.Statement.{statement}
@@ -27,14 +27,14 @@ as_number false = refl
 returns : tie.Need-returns
 returns c =
     let asked = c.before.before.before in
-    let e : isDone asked.check.result.answer ≡ true = sym c.before.before.is-done.ensures ∙ c.before.if1.true in
+    let e : is_done asked.check.result.answer ≡ true = sym c.before.before.is_done.ensures ∙ c.before.if1.true in
     rw (as_number asked.check.result.yes) (checked-done (start asked).args.res.now (start asked).args.looked.now (checks asked) e (eqb-true _ _ e))
 
 returns-2 : tie.Need-returns-2
 returns-2 c =
     let asked = c.before.before.before in
-    let e : isDone asked.check.result.answer ≡ false = sym c.before.before.is-done.ensures ∙ c.before.if1.false in
-    rw c.number-of.ensures (checked_refused (start asked).args.res.now (start asked).args.looked.now (checks asked) e)
+    let e : is_done asked.check.result.answer ≡ false = sym c.before.before.is_done.ensures ∙ c.before.if1.false in
+    rw c.number_of.ensures (checked_refused (start asked).args.res.now (start asked).args.looked.now (checks asked) e)
 
 pub marruskil-check-spec : {M : Type 1} → statement M
 marruskil-check-spec =

@@ -6,17 +6,17 @@ use Prim.Native.Nat.{◌≤◌}
 use lib.ListN.{length}
 use Rattle.state.specs.View.{view}
 use Rattle.script.specs.Script.{obey}
-use Rattle.clibrary.specs.Calls.{answerLine}
+use Rattle.clibrary.specs.Calls.{answer_line}
 use Rattle.clibrary.proofs.Calling.{longest-answer, put_whole}
 use Rattle.clibrary.proofs.marruskil_obey.Statement.{statement}
 use Rattle.clibrary.proofs.marruskil_obey.Tie as tie
 
-room : (c : tie.Else2) → length (answerLine (obey (view c.before.before.before.before.args.state.now) c.before.before.before.before.args.line.now)) ≤ length c.before.before.before.before.args.out.now
+room : (c : tie.Else2) → length (answer_line (obey (view c.before.before.before.before.args.state.now) c.before.before.before.before.args.line.now)) ≤ length c.before.before.before.before.args.out.now
 room c = omega (arith, longest-answer.holds (view c.before.before.before.before.args.state.now) c.before.before.before.before.args.line.now, c.if2.false)
 
 returns-3 : tie.Need-returns-3
 returns-3 c =
-    let answers = c.before.before.answer-line.ensures in
+    let answers = c.before.before.answer_line.ensures in
     let r = room c.before.before.before.before.before in
     inr (record { fits = r; long = put_whole answers.puts.text r; stored = answers.puts.text.holds; state = answers.state })
 

@@ -11,7 +11,7 @@ use Rattle.model.specs.Sheet.{Told}
 use Rattle.state.specs.View.{view}
 use Rattle.text.proofs.Putting.{put_front, put-length}
 use Rattle.script.specs.Script.{obey}
-use Rattle.clibrary.specs.Calls.{answerLine}
+use Rattle.clibrary.specs.Calls.{answer_line}
 use Rattle.clibrary.proofs.Calling.{longest-answer, put_whole}
 use Rattle.clibrary.proofs.obey_aside.Statement.{statement}
 use Rattle.clibrary.proofs.obey_aside.Tie as tie
@@ -23,17 +23,17 @@ start c = c.before.before.before.before.before
 abbrev toldBy : tie.After-answer-line → Told
 toldBy c = obey (view (start c).args.state.now) (start c).args.line.now
 
-short : (c : tie.After-answer-line) → length (answerLine (toldBy c)) ≤ length (replicate {A = ℕ} 24582 0)
+short : (c : tie.After-answer-line) → length (answer_line (toldBy c)) ≤ length (replicate {A = ℕ} 24582 0)
 short c = omega (arith, longest-answer.holds (view (start c).args.state.now) (start c).args.line.now, length-replicate {A = ℕ} 24582 0)
 
-whole : (c : tie.After-answer-line) → c.answer-line.result.len ≡ length (answerLine (toldBy c))
-whole c = put_whole c.answer-line.ensures.puts.text (short c)
+whole : (c : tie.After-answer-line) → c.answer_line.result.len ≡ length (answer_line (toldBy c))
+whole c = put_whole c.answer_line.ensures.puts.text (short c)
 
-front : (c : tie.After-answer-line) → take c.answer-line.result.len c.answer-line.new.1.1.0 ≡ answerLine (toldBy c)
-front c = put_front c.answer-line.ensures.puts.text (short c)
+front : (c : tie.After-answer-line) → take c.answer_line.result.len c.answer_line.new.1.1.0 ≡ answer_line (toldBy c)
+front c = put_front c.answer_line.ensures.puts.text (short c)
 
-within : (c : tie.After-answer-line) → c.answer-line.result.len ≤ length c.answer-line.new.1.1.0
-within c = omega (arith, whole c, short c, put-length c.answer-line.ensures.puts.text)
+within : (c : tie.After-answer-line) → c.answer_line.result.len ≤ length c.answer_line.new.1.1.0
+within c = omega (arith, whole c, short c, put-length c.answer_line.ensures.puts.text)
 
 -- the buffer holds every command's answer line
 commands : (c : tie.After-answer-line) → 12 ≤ length (start c).args.out.now
@@ -42,8 +42,8 @@ commands c = (start c).requires
 returns : tie.Need-returns
 returns c =
     let asked = c.before.before in
-    let long : length (start asked).args.out.now < length (answerLine (toldBy asked)) = omega (arith, whole asked, c.if1.true) in
-    inl (record { short = long; no_length = refl; untouched = refl; unchanged = asked.answer-line.ensures.state ∙ longest-answer.commands (view (start asked).args.state.now) (start asked).args.line.now (omega (arith, commands asked, long)) })
+    let long : length (start asked).args.out.now < length (answer_line (toldBy asked)) = omega (arith, whole asked, c.if1.true) in
+    inl (record { short = long; no_length = refl; untouched = refl; unchanged = asked.answer_line.ensures.state ∙ longest-answer.commands (view (start asked).args.state.now) (start asked).args.line.now (omega (arith, commands asked, long)) })
 
 slice-aggregate-put-text : tie.Need-slice-aggregate-put-text
 slice-aggregate-put-text c = sym (length-take-le _ _ (within c.before.before.before.before))
@@ -51,13 +51,13 @@ slice-aggregate-put-text c = sym (length-take-le _ _ (within c.before.before.bef
 returns-2 : tie.Need-returns-2
 returns-2 c =
     let asked = c.before.before.before.before.before.before.before in
-    let fits : length (answerLine (toldBy asked)) ≤ length (start asked).args.out.now = omega (arith, whole asked, c.before.before.before.before.before.if1.false) in
+    let fits : length (answer_line (toldBy asked)) ≤ length (start asked).args.out.now = omega (arith, whole asked, c.before.before.before.before.before.if1.false) in
     inr
     (record {
       fits = fits;
       long = whole asked;
-      stored = c.before.before.put-text.ensures.holds ∙ ap (λ (x : List ℕ). sets (start asked).args.out.now 0 x) (front asked);
-      state = asked.answer-line.ensures.state;
+      stored = c.before.before.put_text.ensures.holds ∙ ap (λ (x : List ℕ). sets (start asked).args.out.now 0 x) (front asked);
+      state = asked.answer_line.ensures.state;
     })
 
 pub obey-aside-spec : {M : Type 1} → statement M

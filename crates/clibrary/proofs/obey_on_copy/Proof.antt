@@ -12,7 +12,7 @@ use Rattle.state.specs.View.{view}
 use Rattle.text.proofs.Putting.{put_front, put-length}
 use Rattle.script.specs.LineAnswers.{Answers}
 use Rattle.script.specs.Script.{obey}
-use Rattle.clibrary.specs.Calls.{answerLine}
+use Rattle.clibrary.specs.Calls.{answer_line}
 use Rattle.clibrary.proofs.Calling.{longest-answer, put_whole}
 use Rattle.clibrary.proofs.obey_on_copy.Statement.{statement}
 use Rattle.clibrary.proofs.obey_on_copy.Tie as tie
@@ -24,19 +24,19 @@ start c = c.before.before.before.before.before.before.before.before
 abbrev toldBy : tie.After-answer-line → Told
 toldBy c = obey (view (start c).args.state.now) (start c).args.line.now
 
-answers : (c : tie.After-answer-line) → Answers (toldBy c) (replicate 24582 0) c.answer-line.new.1.1.0 c.answer-line.result c.answer-line.new.0
-answers c = rw (← c.before.before.before.put_all.ensures) c.answer-line.ensures
+answers : (c : tie.After-answer-line) → Answers (toldBy c) (replicate 24582 0) c.answer_line.new.1.1.0 c.answer_line.result c.answer_line.new.0
+answers c = rw (← c.before.before.before.put_all.ensures) c.answer_line.ensures
 
-short : (c : tie.After-answer-line) → length (answerLine (toldBy c)) ≤ length (replicate {A = ℕ} 24582 0)
+short : (c : tie.After-answer-line) → length (answer_line (toldBy c)) ≤ length (replicate {A = ℕ} 24582 0)
 short c = omega (arith, longest-answer.holds (view (start c).args.state.now) (start c).args.line.now, length-replicate {A = ℕ} 24582 0)
 
-whole : (c : tie.After-answer-line) → c.answer-line.result.len ≡ length (answerLine (toldBy c))
+whole : (c : tie.After-answer-line) → c.answer_line.result.len ≡ length (answer_line (toldBy c))
 whole c = put_whole (answers c).puts.text (short c)
 
-front : (c : tie.After-answer-line) → take c.answer-line.result.len c.answer-line.new.1.1.0 ≡ answerLine (toldBy c)
+front : (c : tie.After-answer-line) → take c.answer_line.result.len c.answer_line.new.1.1.0 ≡ answer_line (toldBy c)
 front c = put_front (answers c).puts.text (short c)
 
-within : (c : tie.After-answer-line) → c.answer-line.result.len ≤ length c.answer-line.new.1.1.0
+within : (c : tie.After-answer-line) → c.answer_line.result.len ≤ length c.answer_line.new.1.1.0
 within c = omega (arith, whole c, short c, put-length (answers c).puts.text)
 
 returns : tie.Need-returns
@@ -48,12 +48,12 @@ slice-aggregate-put-text c = sym (length-take-le _ _ (within c.before.before.bef
 returns-2 : tie.Need-returns-2
 returns-2 c =
     let asked = c.before.before.before.before.before.before.before.before.before.before in
-    let fits : length (answerLine (toldBy asked)) ≤ length (start asked).args.out.now = omega (arith, whole asked, c.before.before.before.before.before.before.before.before.if1.false) in
+    let fits : length (answer_line (toldBy asked)) ≤ length (start asked).args.out.now = omega (arith, whole asked, c.before.before.before.before.before.before.before.before.if1.false) in
     inr
     (record {
       fits = fits;
       long = whole asked;
-      stored = c.before.before.put-text.ensures.holds ∙ ap (λ (x : List ℕ). sets (start asked).args.out.now 0 x) (front asked);
+      stored = c.before.before.put_text.ensures.holds ∙ ap (λ (x : List ℕ). sets (start asked).args.out.now 0 x) (front asked);
       state = c.before.before.before.before.before.put-all2.ensures ∙ (answers asked).state;
     })
 

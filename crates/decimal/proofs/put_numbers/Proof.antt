@@ -24,7 +24,7 @@ loop-holds c = (omega arith, put-none _ _)
 loop-again : tie.Need-loop-preserved invariant-loop decreases-loop
 loop-again c =
     let l : c.before.before.before.before.before.before.before.before.before.before.loop.i < length c.before.before.before.before.before.before.before.before.before.before.before.before.before.args.numbers.now = omega arith in
-    (search rules, rw (numbered_next c.before.before.before.before.before.before.before.before.before.before.before.before.before.args.numbers.now c.before.before.before.before.before.before.before.before.before.before.loop.i l) (put_then c.before.before.before.before.before.before.before.before.before.before.loop.invariant.1 (put_then c.before.before.before.before.before.before.before.put.ensures c.before.before.put-number.ensures)))
+    (search rules, rw (numbered_next c.before.before.before.before.before.before.before.before.before.before.before.before.before.args.numbers.now c.before.before.before.before.before.before.before.before.before.before.loop.i l) (put_then c.before.before.before.before.before.before.before.before.before.before.loop.invariant.1 (put_then c.before.before.before.before.before.before.before.put.ensures c.before.before.put_number.ensures)))
 
 same_length : tie.Need-same-length invariant-loop decreases-loop
 same_length c = put-length c.before.loop.invariant.1

@@ -9,7 +9,7 @@ use lib.ListN.{length, take}
 use lib.Seq.{length-take-le}
 use Rattle.text.proofs.Putting.{put-length}
 use Rattle.program.proofs.Placing.{hands-all, hands_none, hands-last, hands_on, piece-within, piece-next, calls-fewer, count_small}
-use Rattle.program.proofs.Whole.{callsLeft}
+use Rattle.program.proofs.Whole.{calls_left}
 use Rattle.desk.proofs.Going.{Going}
 use Rattle.desk.proofs.print_all.Statement.{statement}
 use Rattle.desk.proofs.print_all.Tie as tie
@@ -18,7 +18,7 @@ abbrev invariant-loop : tie.invariant-loop
 invariant-loop file script state₀ buf₀ run₀ count₀ state buf run count = (length buf ≡ 32768) × Going file script state run count
 
 abbrev decreases-loop : tie.decreases-loop
-decreases-loop file script state₀ buf₀ run₀ count₀ state buf run count = callsLeft script run
+decreases-loop file script state₀ buf₀ run₀ count₀ state buf run count = calls_left script run
 
 -- ---- a piece is put into the buffer
 

@@ -10,7 +10,7 @@ use Rattle.desk.proofs.refuse.Statement.{statement}
 use Rattle.desk.proofs.refuse.Tie as tie
 
 slice-aggregate-write-refusal : tie.Need-slice-aggregate-write-refusal
-slice-aggregate-write-refusal c = sym (length-take-le _ _ (omega (arith, put-within c.before.before.answer-text.ensures (omega arith), put-length c.before.before.answer-text.ensures)))
+slice-aggregate-write-refusal c = sym (length-take-le _ _ (omega (arith, put-within c.before.before.answer_text.ensures (omega arith), put-length c.before.before.answer_text.ensures)))
 
 write-refusal-requires : tie.Need-write-refusal-requires
 write-refusal-requires c κs =
@@ -18,7 +18,7 @@ write-refusal-requires c κs =
       answer = number_of c.before.before.before.before.before.before.before.args.answer;
       refuses = c.before.before.before.before.before.before.before.requires.0;
       not_done = c.before.before.before.before.before.before.before.requires.1;
-      is = put_front (rw c.before.before.before.before.number-of.ensures at c.before.before.answer-text.ensures) (omega (arith, number_short (number_of c.before.before.before.before.before.before.before.args.answer)));
+      is = put_front (rw c.before.before.before.before.number_of.ensures at c.before.before.answer_text.ensures) (omega (arith, number_short (number_of c.before.before.before.before.before.before.before.args.answer)));
     }
 
 pub refuse-spec : {M : Type 1} → statement M

@@ -7,11 +7,11 @@ use Rattle.desk.proofs.work.Statement.{statement}
 use Rattle.desk.proofs.work.Tie as tie
 
 run-script-requires : tie.Need-run-script-requires
-run-script-requires c κs = given _ _ _ (rw c.before.before.before.before.before.start.ensures at c.before.before.before.load.ensures) (eqb-true _ _ (sym c.before.before.is-done.ensures ∙ c.before.if1.true))
+run-script-requires c κs = given _ _ _ (rw c.before.before.before.before.before.start.ensures at c.before.before.before.load.ensures) (eqb-true _ _ (sym c.before.before.is_done.ensures ∙ c.before.if1.true))
 
 refuse-requires : tie.Need-refuse-requires
 refuse-requires c κs =
-    let no = eqb-false _ _ (sym c.before.is-done.ensures ∙ c.if1.false) in
+    let no = eqb-false _ _ (sym c.before.is_done.ensures ∙ c.if1.false) in
     (denied _ _ _ (rw c.before.before.before.before.start.ensures at c.before.before.load.ensures) no, no)
 
 pub work-spec : {M : Type 1} → statement M

@@ -5,18 +5,18 @@ use mathlib.Core.Bool.{true}
 use mathlib.Core.Path.{◌≡◌, sym, ◌∙◌}
 use native.Mathlib.Omega.{arith}
 use Rattle.model.specs.Questions.{ask}
-use Rattle.state.specs.Results.{isDone}
+use Rattle.state.specs.Results.{is_done}
 use Rattle.engine.proofs.Asking.{check-refused, check-short, check_done}
 use Rattle.engine.proofs.check.Statement.{statement}
 use Rattle.engine.proofs.check.Tie as tie
 
 -- past the first test
-answered : (c : tie.Else1) → isDone c.before.before.check.result.answer ≡ true
-answered c = sym c.before.is-done.ensures ∙ not-false _ c.if1.false
+answered : (c : tie.Else1) → is_done c.before.before.check.result.answer ≡ true
+answered c = sym c.before.is_done.ensures ∙ not-false _ c.if1.false
 
 returns : tie.Need-returns
 unfolding ask
-returns c = check-refused _ _ _ _ c.before.before.check.ensures.tells (sym c.before.is-done.ensures ∙ not-true _ c.if1.true)
+returns c = check-refused _ _ _ _ c.before.before.check.ensures.tells (sym c.before.is_done.ensures ∙ not-true _ c.if1.true)
 
 returns-2 : tie.Need-returns-2
 unfolding ask

@@ -4,4 +4,4 @@ use Rattle.engine.proofs.opening.Statement.{statement}
 use Rattle.engine.proofs.opening.Tie as tie
 
 pub opening-spec : {M : Type 1} → statement M
-opening-spec = tie.close (tie.spec (λ c κs. search rules) (λ c. rw c.is-done.ensures))
+opening-spec = tie.close (tie.spec (λ c κs. search rules) (λ c. rw c.is_done.ensures))

@@ -7,12 +7,12 @@ use mathlib.Core.Path.{◌≡◌, sym, ap, ◌∙◌}
 use Prim.Native.Nat.{ℕ, ◌<◌, ◌+◌}
 use lib.Dec.{leb}
 use Rattle.roleset.specs.Roles.{has, with}
-use Rattle.numbers.specs.Ranges.{mostGrants}
+use Rattle.numbers.specs.Ranges.{most_grants}
 use Rattle.model.specs.Model.{Model}
 use Rattle.model.specs.Sheet.{verdict, settle, done}
 use Rattle.model.specs.Words.{permission}
 use Rattle.model.specs.commands.Assigning.{grant, granted}
-use Rattle.model.specs.commands.Naming.{permissionBeyond, roleBeyond, roleMissing}
+use Rattle.model.specs.commands.Naming.{permission_beyond, role_beyond, role_missing}
 use Rattle.state.specs.View.{view, told}
 use Rattle.granting.proofs.Laws.{permission-within, holders-stored}
 use Rattle.granting.proofs.grant.Statement.{statement}
@@ -42,26 +42,26 @@ abbrev to-3 : tie.Else4 → tie.Else3
 to-3 c = c.before.before.before
 
 -- what the tests find, and what is known past them
-found-1 : (c : tie.After-either) → let s = c.before.before.before in (permissionBeyond s.args.op s.args.obj || roleBeyond (role s)) ≡ c.either.result
-found-1 c = rw (← c.before.before.permission-beyond.ensures, ← c.before.role-beyond.ensures) (sym c.either.ensures)
+found-1 : (c : tie.After-either) → let s = c.before.before.before in (permission_beyond s.args.op s.args.obj || role_beyond (role s)) ≡ c.either.result
+found-1 c = rw (← c.before.before.permission_beyond.ensures, ← c.before.role_beyond.ensures) (sym c.either.ensures)
 
-clear-1 : (c : tie.Else1) → let s = to_start c in (permissionBeyond s.args.op s.args.obj || roleBeyond (role s)) ≡ false
+clear-1 : (c : tie.Else1) → let s = to_start c in (permission_beyond s.args.op s.args.obj || role_beyond (role s)) ≡ false
 clear-1 c = found-1 c.before ∙ c.if1.false
 
 within : (c : tie.Else1) → perm (to_start c) < 4096
 within c = let s = to_start c in permission-within s.args.op s.args.obj (role s) (clear-1 c)
 
-found-2 : (c : tie.After-has-role) → let s = to_start c.before.before in roleMissing (m s) (role s) ≡ not c.has-role.result
-found-2 c = ap not (sym c.has-role.ensures)
+found-2 : (c : tie.After-has-role) → let s = to_start c.before.before in role_missing (m s) (role s) ≡ not c.has_role.result
+found-2 c = ap not (sym c.has_role.ensures)
 
-clear-2 : (c : tie.Else2) → let s = to_start (to-1 c) in roleMissing (m s) (role s) ≡ false
+clear-2 : (c : tie.Else2) → let s = to_start (to-1 c) in role_missing (m s) (role s) ≡ false
 clear-2 c = found-2 c.before ∙ c.if2.false
 
 found-3 : (c : tie.After-has) → let s = to_start (to-1 c.before.before.before) in has ((m s).holders (perm s)) (role s) ≡ c.has.result
-found-3 c = rw (← c.before.holders-of.ensures) (sym c.has.ensures)
+found-3 c = rw (← c.before.holders_of.ensures) (sym c.has.ensures)
 
-found-4 : (c : tie.After-grant-count) → let s = to_start (to-1 (to-2 c.before.before)) in leb mostGrants (m s).grantCount ≡ leb 2048 c.grant-count.result
-found-4 c = ap (leb 2048) (sym c.grant-count.ensures)
+found-4 : (c : tie.After-grant-count) → let s = to_start (to-1 (to-2 c.before.before)) in leb most_grants (m s).grant_count ≡ leb 2048 c.grant_count.result
+found-4 c = ap (leb 2048) (sym c.grant_count.ensures)
 
 returns : tie.Need-returns
 unfolding told grant settle verdict
@@ -82,7 +82,7 @@ unfolding told grant settle verdict
 returns-4 c =
     let c3 = c.before.before.before in
     let c2 = to-2 c3 in
-    rw (clear-1 (to-1 c2), clear-2 c2, found-3 c3.before, c3.if3.false, found-4 c.before ∙ le-leb 2048 c.before.grant-count.result c.if4.true)
+    rw (clear-1 (to-1 c2), clear-2 c2, found-3 c3.before, c3.if3.false, found-4 c.before ∙ le-leb 2048 c.before.grant_count.result c.if4.true)
 
 returns-5 : tie.Need-returns-5
 unfolding told grant settle verdict granted
@@ -91,13 +91,13 @@ returns-5 c =
     let c3 = to-3 c4 in
     let c2 = to-2 c3 in
     let s = to_start (to-1 c2) in
-    rw (clear-1 (to-1 c2), clear-2 c2, found-3 c3.before, c3.if3.left, found-4 c4.before ∙ lt-leb 2048 c4.before.grant-count.result c4.if4.false)
+    rw (clear-1 (to-1 c2), clear-2 c2, found-3 c3.before, c3.if3.left, found-4 c4.before ∙ lt-leb 2048 c4.before.grant_count.result c4.if4.false)
     (ap (done [])
     (holders-stored (m s) _ (perm s) _ _ _ _
-    (c.before.with.ensures.is ∙ ap (λ (x : ℕ). with x (role s)) c3.before.before.holders-of.ensures)
-    (ap (λ (n : ℕ). n + 1) c4.before.grant-count.ensures)
+    (c.before.with.ensures.is ∙ ap (λ (x : ℕ). with x (role s)) c3.before.before.holders_of.ensures)
+    (ap (λ (n : ℕ). n + 1) c4.before.grant_count.ensures)
     (within (to-1 c2))
-    c.put-holders.ensures))
+    c.put_holders.ensures))
 
 pub grant-spec : {M : Type 1} → statement M
 grant-spec =

@@ -9,7 +9,7 @@ use Rattle.model.specs.Model.{Model}
 use Rattle.model.specs.Sheet.{verdict, settle, done}
 use Rattle.model.specs.Words.{permission}
 use Rattle.model.specs.commands.Assigning.{revoke, revoked}
-use Rattle.model.specs.commands.Naming.{permissionBeyond, roleBeyond, roleMissing}
+use Rattle.model.specs.commands.Naming.{permission_beyond, role_beyond, role_missing}
 use Rattle.state.specs.View.{view, told}
 use Rattle.granting.proofs.Laws.{permission-within, holders-stored}
 use Rattle.granting.proofs.revoke.Statement.{statement}
@@ -36,23 +36,23 @@ abbrev to-2 : tie.Else3 → tie.Else2
 to-2 c = c.before.before.before.before
 
 -- what the tests find, and what is known past them
-found-1 : (c : tie.After-either) → let s = c.before.before.before in (permissionBeyond s.args.op s.args.obj || roleBeyond (role s)) ≡ c.either.result
-found-1 c = rw (← c.before.before.permission-beyond.ensures, ← c.before.role-beyond.ensures) (sym c.either.ensures)
+found-1 : (c : tie.After-either) → let s = c.before.before.before in (permission_beyond s.args.op s.args.obj || role_beyond (role s)) ≡ c.either.result
+found-1 c = rw (← c.before.before.permission_beyond.ensures, ← c.before.role_beyond.ensures) (sym c.either.ensures)
 
-clear-1 : (c : tie.Else1) → let s = to_start c in (permissionBeyond s.args.op s.args.obj || roleBeyond (role s)) ≡ false
+clear-1 : (c : tie.Else1) → let s = to_start c in (permission_beyond s.args.op s.args.obj || role_beyond (role s)) ≡ false
 clear-1 c = found-1 c.before ∙ c.if1.false
 
 within : (c : tie.Else1) → perm (to_start c) < 4096
 within c = let s = to_start c in permission-within s.args.op s.args.obj (role s) (clear-1 c)
 
-found-2 : (c : tie.After-has-role) → let s = to_start c.before.before in roleMissing (m s) (role s) ≡ not c.has-role.result
-found-2 c = ap not (sym c.has-role.ensures)
+found-2 : (c : tie.After-has-role) → let s = to_start c.before.before in role_missing (m s) (role s) ≡ not c.has_role.result
+found-2 c = ap not (sym c.has_role.ensures)
 
-clear-2 : (c : tie.Else2) → let s = to_start (to-1 c) in roleMissing (m s) (role s) ≡ false
+clear-2 : (c : tie.Else2) → let s = to_start (to-1 c) in role_missing (m s) (role s) ≡ false
 clear-2 c = found-2 c.before ∙ c.if2.false
 
 found-3 : (c : tie.After-has) → let s = to_start (to-1 c.before.before.before) in has ((m s).holders (perm s)) (role s) ≡ c.has.result
-found-3 c = rw (← c.before.holders-of.ensures) (sym c.has.ensures)
+found-3 c = rw (← c.before.holders_of.ensures) (sym c.has.ensures)
 
 returns : tie.Need-returns
 unfolding told revoke settle verdict
@@ -77,10 +77,10 @@ returns-4 c =
     rw (clear-1 (to-1 c2), clear-2 c2, found-3 c3.before, c3.if3.false)
     (ap (done [])
     (holders-stored (m s) _ (perm s) _ _ _ _
-    (c.before.without.ensures.is ∙ ap (λ (x : ℕ). without x (role s)) c3.before.before.holders-of.ensures)
-    (c.before.before.before.less.ensures ∙ ap (λ (n : ℕ). n - 1) c.before.before.before.before.grant-count.ensures)
+    (c.before.without.ensures.is ∙ ap (λ (x : ℕ). without x (role s)) c3.before.before.holders_of.ensures)
+    (c.before.before.before.less.ensures ∙ ap (λ (n : ℕ). n - 1) c.before.before.before.before.grant_count.ensures)
     (within (to-1 c2))
-    c.put-holders.ensures))
+    c.put_holders.ensures))
 
 pub revoke-spec : {M : Type 1} → statement M
 revoke-spec =

@@ -1,7 +1,7 @@
 -- Each call allows the chain one role fewer, so the asking ends, and it is that of the definition. Assumes nothing.
 use Prim.Native.Nat.{ℕ, ◌<◌}
 use native.Mathlib.Omega.{arith}
-use Rattle.roleset.proofs.Laws.{isEmpty-none}
+use Rattle.roleset.proofs.Laws.{is_empty-none}
 use Rattle.roleset.proofs.Taking.{not-zero}
 use Rattle.hierarchy.specs.Lines.{table_of}
 use Rattle.hierarchy.proofs.ChainLaws.{longer-empty, longer-stopped}
@@ -38,7 +38,7 @@ longer-chain-returns : (t : ℕ) → longer-chain-lts.Need-returns (
 ) (longer-chain-at t) longer-chain.Post
 longer-chain-returns t c =
     let start = c.before in
-    rw (longer-empty (table_of start.args.juniors.now) start.args.allowed start.args.front (rw c.if1.true isEmpty-none))
+    rw (longer-empty (table_of start.args.juniors.now) start.args.allowed start.args.front (rw c.if1.true is_empty-none))
 
 longer-chain-returns-2 : (t : ℕ) → longer-chain-lts.Need-returns-2 (
   juniors-of-reads.Asked,

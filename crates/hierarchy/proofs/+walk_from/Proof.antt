@@ -2,7 +2,7 @@
 use Prim.Native.Nat.{ℕ, ◌<◌}
 use mathlib.Core.Path.{sym}
 use native.Mathlib.Omega.{arith}
-use Rattle.roleset.proofs.Laws.{isEmpty-none}
+use Rattle.roleset.proofs.Laws.{is_empty-none}
 use Rattle.hierarchy.specs.Lines.{table_of}
 use Rattle.hierarchy.proofs.WalkLaws.{walk-empty, walk-stopped}
 use Rattle.roleset.proofs.Taking.{not-zero}
@@ -37,7 +37,7 @@ walk-from-returns : (t : ℕ) → walk-from-lts.Need-returns (
 ) (walk-from-at t) walk-from.Post
 walk-from-returns t c =
     let start = c.before in
-    rw (walk-empty (table_of start.args.juniors.now) start.args.allowed start.args.front (rw c.if1.true isEmpty-none)) (sym (union-none start.args.met start.ranges.met.fits))
+    rw (walk-empty (table_of start.args.juniors.now) start.args.allowed start.args.front (rw c.if1.true is_empty-none)) (sym (union-none start.args.met start.ranges.met.fits))
 
 walk-from-returns-2 : (t : ℕ) → walk-from-lts.Need-returns-2 (
   juniors-of-reads.Asked,

@@ -2,7 +2,7 @@
 use mathlib.Core.Path.{◌∙◌}
 use Rattle.roleset.specs.Roles.{none, with}
 use Rattle.hierarchy.specs.Lines.{table_of}
-use Rattle.hierarchy.specs.Walks.{turned, atOrAbove}
+use Rattle.hierarchy.specs.Walks.{turned, at_or_above}
 use Rattle.hierarchy.proofs.WalkLaws.{reach-ext}
 use Rattle.hierarchy.proofs.AboveLaws.{above-reaches}
 use borrow.Author.Rules.{rules}
@@ -10,7 +10,7 @@ use Rattle.hierarchy.proofs.at_or_above.Statement.{statement}
 use Rattle.hierarchy.proofs.at_or_above.Tie as tie
 
 returns : tie.Need-returns
-unfolding atOrAbove
+unfolding at_or_above
 returns c =
     let start = c.before.before.before.before in
     let lines = table_of start.args.juniors.now in

@@ -5,14 +5,14 @@ use native.Mathlib.Omega.{arith}
 use Rattle.roleset.specs.Roles.{union, count}
 use Rattle.roleset.proofs.Laws.{union-small, without-small}
 use Rattle.hierarchy.specs.Lines.{table_of}
-use Rattle.hierarchy.specs.Walks.{juniorsOf}
+use Rattle.hierarchy.specs.Walks.{juniors_of}
 use Rattle.roleset.proofs.Taking.{Taken, lowest-taken}
 use Rattle.hierarchy.proofs.Fronts.{juniors-step, juniors-begin, juniors-end}
 use Rattle.hierarchy.proofs.juniors_of.Statement.{statement}
 use Rattle.hierarchy.proofs.juniors_of.Tie as tie
 
 abbrev invariant-loop : tie.invariant-loop
-invariant-loop juniors front met₀ rest₀ met rest = (met < 2 ^ 64) × (rest < 2 ^ 64) × (union met (juniorsOf (table_of juniors) rest) ≡ juniorsOf (table_of juniors) front)
+invariant-loop juniors front met₀ rest₀ met rest = (met < 2 ^ 64) × (rest < 2 ^ 64) × (union met (juniors_of (table_of juniors) rest) ≡ juniors_of (table_of juniors) front)
 
 abbrev decreases-loop : tie.decreases-loop
 decreases-loop juniors front met₀ rest₀ met rest = count rest

@@ -4,12 +4,12 @@ use Prim.Native.Nat.{ℕ, ◌-◌, ◌<◌, ◌≤◌}
 use native.Mathlib.Omega.{arith}
 use lib.ListN.{length}
 use Rattle.hierarchy.specs.Lines.{table_of}
-use Rattle.hierarchy.proofs.Marking.{seniorsBelow, seniors-begin, seniors-step, seniors-end, zeros}
+use Rattle.hierarchy.proofs.Marking.{seniors_below, seniors-begin, seniors-step, seniors-end, zeros}
 use Rattle.hierarchy.proofs.turned.Statement.{statement}
 use Rattle.hierarchy.proofs.turned.Tie as tie
 
 abbrev invariant-loop : tie.invariant-loop
-invariant-loop juniors t₀ s₀ t s = (length t ≡ 64) × (s ≤ 64) × ((k : ℕ) → k < 64 → table_of t k ≡ seniorsBelow (table_of juniors) s k)
+invariant-loop juniors t₀ s₀ t s = (length t ≡ 64) × (s ≤ 64) × ((k : ℕ) → k < 64 → table_of t k ≡ seniors_below (table_of juniors) s k)
 
 abbrev decreases-loop : tie.decreases-loop
 decreases-loop juniors t₀ s₀ t s = 64 - s

@@ -9,7 +9,7 @@ use Rattle.model.specs.Model.{Model}
 use Rattle.model.specs.Sheet.{verdict, settle, done}
 use Rattle.model.specs.Words.{shed}
 use Rattle.model.specs.commands.Inheriting.{disinherit, unlined}
-use Rattle.model.specs.commands.Naming.{roleBeyond, roleMissing}
+use Rattle.model.specs.commands.Naming.{role_beyond, role_missing}
 use Rattle.state.specs.View.{view, told}
 use Rattle.sweeps.proofs.Shedding.{view-past}
 use Rattle.state.proofs.Stored.{within}
@@ -54,33 +54,33 @@ abbrev start-3 : tie.Else3 → tie.Start
 start-3 c = start-2 (to-2 c)
 
 -- what the tests find, and what is known past them
-found-1 : (c : tie.After-either) → let s = c.before.before.before in (roleBeyond (senior s) || roleBeyond (junior s)) ≡ c.either.result
-found-1 c = rw (← c.before.before.role-beyond.ensures, ← c.before.role-beyond2.ensures) (sym c.either.ensures)
+found-1 : (c : tie.After-either) → let s = c.before.before.before in (role_beyond (senior s) || role_beyond (junior s)) ≡ c.either.result
+found-1 c = rw (← c.before.before.role_beyond.ensures, ← c.before.role-beyond2.ensures) (sym c.either.ensures)
 
-clear-1 : (c : tie.Else1) → (roleBeyond (senior (to_start c)) || roleBeyond (junior (to_start c))) ≡ false
+clear-1 : (c : tie.Else1) → (role_beyond (senior (to_start c)) || role_beyond (junior (to_start c))) ≡ false
 clear-1 c = found-1 c.before ∙ c.if1.false
 
 within-range : (c : tie.Else1) → senior (to_start c) < 64
-within-range c = within 64 (senior (to_start c)) (roleBeyond (junior (to_start c))) (clear-1 c)
+within-range c = within 64 (senior (to_start c)) (role_beyond (junior (to_start c))) (clear-1 c)
 
-found-2 : (c : tie.After-either2) → let s = to_start c.before.before.before.before.before in (roleMissing (m s) (senior s) || roleMissing (m s) (junior s)) ≡ c.either2.result
-found-2 c = rw (← c.before.before.before.has-role.ensures, ← c.before.has-role2.ensures) (sym c.either2.ensures)
+found-2 : (c : tie.After-either2) → let s = to_start c.before.before.before.before.before in (role_missing (m s) (senior s) || role_missing (m s) (junior s)) ≡ c.either2.result
+found-2 c = rw (← c.before.before.before.has_role.ensures, ← c.before.has-role2.ensures) (sym c.either2.ensures)
 
-clear-2 : (c : tie.Else2) → let s = start-2 c in (roleMissing (m s) (senior s) || roleMissing (m s) (junior s)) ≡ false
+clear-2 : (c : tie.Else2) → let s = start-2 c in (role_missing (m s) (senior s) || role_missing (m s) (junior s)) ≡ false
 clear-2 c = found-2 c.before ∙ c.if2.false
 
 found-3 : (c : tie.After-has) → let s = start-2 c.before.before.before in has ((m s).juniors (senior s)) (junior s) ≡ c.has.result
-found-3 c = rw (← c.before.directly-below.ensures) (sym c.has.ensures)
+found-3 c = rw (← c.before.directly_below.ensures) (sym c.has.ensures)
 
 -- the roles below the senior without the line
 new : (c : tie.After-without) → let s = start-3 c.before in c.without.result ≡ without ((m s).juniors (senior s)) (junior s)
 new c =
     let below = junior (start-3 c.before) in
-    let fewer : c.without.result ≡ without c.before.before.before.directly-below.result below = c.without.ensures.is in
-    fewer ∙ ap (λ (x : ℕ). without x below) c.before.before.before.directly-below.ensures
+    let fewer : c.without.result ≡ without c.before.before.before.directly_below.result below = c.without.ensures.is in
+    fewer ∙ ap (λ (x : ℕ). without x below) c.before.before.before.directly_below.ensures
 
 -- the two stores: the lines, and then what is left to the sessions
-stored : (c : tie.After-put-all-active) → let s = start-3 (to-3 (to-shed c)) in view c.put-all-active.new.0 ≡ shed (unlined (m s) (senior s) (junior s))
+stored : (c : tie.After-put-all-active) → let s = start-3 (to-3 (to-shed c)) in view c.put_all_active.new.0 ≡ shed (unlined (m s) (senior s) (junior s))
 stored c =
     let swept = to-shed c in
     let table = to-table swept in
@@ -89,8 +89,8 @@ stored c =
     let holds = swept.before.before.before.before in
     let put = c.before.before.before in
     let left = put.before.before in
-    unlined-stored (m s) (senior s) (junior s) (within-range (to-1 (to-2 c3))) table.before.before.without.result (new table.before.before) table.juniors-table.result holds.assigned-table.result swept.shed.result table.juniors-table.ensures holds.assigned-table.ensures swept.shed.ensures
-    (view-past s.args.state.now) (view put.put-juniors.new.0) (view c.put-all-active.new.0) left.less.result (left.less.ensures ∙ ap (λ (n : ℕ). n - 1) left.before.line-count.ensures) put.put-juniors.ensures c.put-all-active.ensures
+    unlined-stored (m s) (senior s) (junior s) (within-range (to-1 (to-2 c3))) table.before.before.without.result (new table.before.before) table.juniors_table.result holds.assigned_table.result swept.shed.result table.juniors_table.ensures holds.assigned_table.ensures swept.shed.ensures
+    (view-past s.args.state.now) (view put.put_juniors.new.0) (view c.put_all_active.new.0) left.less.result (left.less.ensures ∙ ap (λ (n : ℕ). n - 1) left.before.line_count.ensures) put.put_juniors.ensures c.put_all_active.ensures
 
 returns : tie.Need-returns
 unfolding told disinherit settle verdict

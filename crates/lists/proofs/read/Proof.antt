@@ -7,13 +7,13 @@ use Prim.Native.Nat.{◌≤◌, ◌<◌, ◌-◌, ◌+◌, ◌^◌}
 use native.Mathlib.Omega.{arith}
 use lib.ListN.{length, get_or, drop}
 use Rattle.roleset.proofs.Laws.{with-small}
-use Rattle.model.specs.Lists.{rising, someFrom, setOf}
+use Rattle.model.specs.Lists.{rising, some_from, set_of}
 use Rattle.lists.proofs.Turns.{joining, turn_low, turn-high, turn-beyond, turn-within, turn-joins, joining-start, end-rising, end-beyond, end-joins}
 use Rattle.lists.proofs.read.Statement.{statement}
 use Rattle.lists.proofs.read.Tie as tie
 
 abbrev invariant-loop : tie.invariant-loop
-invariant-loop list ascending₀ beyond₀ roles₀ bound₀ i₀ ascending beyond roles bound i = ((i ≤ length list) × (roles < 2 ^ 64)) × ((ascending && rising bound (drop i list)) ≡ rising 0 list) × ((beyond || someFrom 64 (drop i list)) ≡ someFrom 64 list) × (joining roles (drop i list) ≡ setOf list)
+invariant-loop list ascending₀ beyond₀ roles₀ bound₀ i₀ ascending beyond roles bound i = ((i ≤ length list) × (roles < 2 ^ 64)) × ((ascending && rising bound (drop i list)) ≡ rising 0 list) × ((beyond || some_from 64 (drop i list)) ≡ some_from 64 list) × (joining roles (drop i list) ≡ set_of list)
 
 abbrev decreases-loop : tie.decreases-loop
 decreases-loop list ascending₀ beyond₀ roles₀ bound₀ i₀ ascending beyond roles bound i = length list - i
@@ -46,7 +46,7 @@ loop-again c =
     (λ w. rw w.1 (sym (turn_low list i l at.loop.ascending at.loop.bound w.0.taken) ∙ inv.1))
     (λ w. rw w.1 (sym (turn-high list i l at.loop.ascending at.loop.bound w.0.left) ∙ inv.1))
     c.before.before.if1.branch in
-    let within : (c.before.if2.beyond || someFrom 64 (drop (i + 1) list)) ≡ someFrom 64 list =
+    let within : (c.before.if2.beyond || some_from 64 (drop (i + 1) list)) ≡ some_from 64 list =
     ⊎_elim
     (λ w. rw w.1 (sym (turn-beyond list i l at.loop.beyond 64 w.0.taken) ∙ inv.2))
     (λ w. rw w.1 (sym (turn-within list i l at.loop.beyond 64 w.0.left) ∙ inv.2))

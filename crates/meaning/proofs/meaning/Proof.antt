@@ -3,7 +3,7 @@ use mathlib.Core.Path.{◌≡◌, sym, ap}
 use Prim.Native.Nat.{ℕ, zero, suc, ◌≤◌}
 use native.Mathlib.Omega.{arith}
 use lib.ListN.{get_or-eq_default}
-use Rattle.words.specs.ScriptWords.{wordCount}
+use Rattle.words.specs.ScriptWords.{word_count}
 use Rattle.meaning.specs.Meaning.{Row, meant, meanings}
 use Rattle.meaning.specs.declared.Meant.TheVariants.{Nothing}
 use Rattle.meaning.proofs.meaning.Statement.{statement}
@@ -18,7 +18,7 @@ past : (n w : ℕ) → NoneOf n w → n ≤ w
 past zero w t = omega arith
 past (suc n) w t = let p = past n w t.0 in let q = t.1 in omega arith
 
-past-last : (k a b c : ℕ) → wordCount ≤ k → meant k a b c ≡ Nothing
+past-last : (k a b c : ℕ) → word_count ≤ k → meant k a b c ≡ Nothing
 unfolding meant meanings
 past-last k a b c h = ap (λ (r : Row). r.asks) (get_or-eq_default (meanings a b c) _ h)
 
@@ -69,4 +69,4 @@ meaning-spec =
     (λ c. rw c.match.keys40)
     (λ c. rw c.match.keys41)
     (λ c. rw c.match.keys42)
-    (λ c. sym (past-last _ _ _ _ (past wordCount _ c.match.rest))))
+    (λ c. sym (past-last _ _ _ _ (past word_count _ c.match.rest))))

@@ -6,27 +6,27 @@ use Rattle.model.specs.Model.{Model}
 use Rattle.model.specs.Sheet.{Refusal, ◌when◌}
 
 -- beyond its range
-abbrev pub userBeyond : ℕ → Bool
-userBeyond u = leb users u
+abbrev pub user_beyond : ℕ → Bool
+user_beyond u = leb users u
 
-abbrev pub roleBeyond : ℕ → Bool
-roleBeyond r = leb roles r
+abbrev pub role_beyond : ℕ → Bool
+role_beyond r = leb roles r
 
-abbrev pub sessionBeyond : ℕ → Bool
-sessionBeyond s = leb sessions s
+abbrev pub session_beyond : ℕ → Bool
+session_beyond s = leb sessions s
 
-abbrev pub setBeyond : ℕ → Bool
-setBeyond n = leb sets n
+abbrev pub set_beyond : ℕ → Bool
+set_beyond n = leb sets n
 
-abbrev pub permissionBeyond : ℕ → ℕ → Bool
-permissionBeyond op obj = leb operations op || leb objects obj
+abbrev pub permission_beyond : ℕ → ℕ → Bool
+permission_beyond op obj = leb operations op || leb objects obj
 
 -- does not exist
-abbrev pub userMissing : Model → ℕ → Bool
-userMissing m u = not (m.users u)
+abbrev pub user_missing : Model → ℕ → Bool
+user_missing m u = not (m.users u)
 
-abbrev pub roleMissing : Model → ℕ → Bool
-roleMissing m r = not (has m.roles r)
+abbrev pub role_missing : Model → ℕ → Bool
+role_missing m r = not (has m.roles r)
 
-abbrev pub sessionMissing : Model → ℕ → Bool
-sessionMissing m s = not (m.sessions s).live
+abbrev pub session_missing : Model → ℕ → Bool
+session_missing m s = not (m.sessions s).live

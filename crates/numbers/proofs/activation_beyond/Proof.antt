@@ -4,14 +4,14 @@ use Rattle.numbers.proofs.activation_beyond.Statement.{statement}
 use Rattle.numbers.proofs.activation_beyond.Tie as tie
 
 returns : tie.Need-returns
-returns c = rw (← c.before.user-beyond.ensures, c.if1.true)
+returns c = rw (← c.before.user_beyond.ensures, c.if1.true)
 
 returns-2 : tie.Need-returns-2
 returns-2 c =
-    rw (← c.before.before.before.user-beyond.ensures, c.before.before.if1.false, ← c.before.session-beyond.ensures, c.if2.true)
+    rw (← c.before.before.before.user_beyond.ensures, c.before.before.if1.false, ← c.before.session_beyond.ensures, c.if2.true)
 
 returns-3 : tie.Need-returns-3
-returns-3 c = rw (← c.before.before.before.before.user-beyond.ensures, c.before.before.before.if1.false, ← c.before.before.session-beyond.ensures, c.before.if2.false, c.role-beyond.ensures)
+returns-3 c = rw (← c.before.before.before.before.user_beyond.ensures, c.before.before.before.if1.false, ← c.before.before.session_beyond.ensures, c.before.if2.false, c.role_beyond.ensures)
 
 pub activation-beyond-spec : {M : Type 1} → statement M
 activation-beyond-spec =

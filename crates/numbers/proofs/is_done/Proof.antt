@@ -4,7 +4,7 @@ use Rattle.numbers.proofs.is_done.Statement.{statement}
 use Rattle.numbers.proofs.is_done.Tie as tie
 
 returns : tie.Need-returns
-returns c = rw c.number-of.ensures
+returns c = rw c.number_of.ensures
 
 pub is-done-spec : {M : Type 1} → statement M
 is-done-spec = tie.close (tie.spec (λ c κs. search rules) returns)

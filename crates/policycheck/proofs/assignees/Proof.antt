@@ -18,7 +18,7 @@ decreases-loop state k₀ k = 256 - k
 
 -- the test, in the words of the policy
 asked : (c : tie.After-backed invariant-loop decreases-loop) → Tells c.backed.result (Backed ((view c.before.before.before.before.before.args.state.now).users c.before.before.before.before.loop.k) ((view c.before.before.before.before.before.args.state.now).assigned c.before.before.before.before.loop.k))
-asked c = rw (c.before.before.has-user.ensures, c.before.assigned-to.ensures) at c.backed.ensures
+asked c = rw (c.before.before.has_user.ensures, c.before.assigned_to.ensures) at c.backed.ensures
 
 loop-holds : tie.Need-loop-init invariant-loop decreases-loop
 loop-holds c = passed_none

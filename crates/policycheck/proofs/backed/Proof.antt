@@ -5,7 +5,7 @@ use Rattle.policycheck.proofs.backed.Statement.{statement}
 use Rattle.policycheck.proofs.backed.Tie as tie
 
 returns-2 : tie.Need-returns-2
-returns-2 c = record { holds = λ e r x. clash _ x (c.is-empty.ensures.yes-means e r); says = λ p. c.is-empty.ensures.means-yes (λ r. never _ (λ x. clash _ (p r x) c.before.if1.false)) }
+returns-2 c = record { holds = λ e r x. clash _ x (c.is_empty.ensures.yes_means e r); says = λ p. c.is_empty.ensures.means_yes (λ r. never _ (λ x. clash _ (p r x) c.before.if1.false)) }
 
 pub backed-spec : {M : Type 1} → statement M
 backed-spec =

@@ -4,7 +4,7 @@ use Rattle.policycheck.proofs.bad_cardinality.Statement.{statement}
 use Rattle.policycheck.proofs.bad_cardinality.Tie as tie
 
 returns : tie.Need-returns
-returns c = rw c.before.if1.true c.bad-cardinality.ensures
+returns c = rw c.before.if1.true c.bad_cardinality.ensures
 
 pub bad-cardinality-spec : {M : Type 1} → statement M
 bad-cardinality-spec = tie.close (tie.spec (λ c κs. search rules) returns (λ c. search rules))

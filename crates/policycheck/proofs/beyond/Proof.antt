@@ -11,7 +11,7 @@ use Rattle.policycheck.proofs.beyond.Statement.{statement}
 use Rattle.policycheck.proofs.beyond.Tie as tie
 
 returns : tie.Need-returns
-returns c = sym (ap not (subset-intro c.before.before.args.session.active _ (λ r h x. clash _ x (c.before.is-empty.ensures.yes-means c.if1.true r))))
+returns c = sym (ap not (subset-intro c.before.before.args.session.active _ (λ r h x. clash _ x (c.before.is_empty.ensures.yes_means c.if1.true r))))
 
 returns-2 : tie.Need-returns-2
 returns-2 c = ap not (c.subset.ensures.is ∙ ap (subset c.before.before.before.before.before.args.session.active) (c.before.reach.ensures.is ∙ ap (reached (view c.before.before.before.before.before.args.state.now)) c.before.before.held_by.ensures))

@@ -18,7 +18,7 @@ decreases-loop state k₀ k = 64 - k
 
 -- the test, in the words of the policy
 asked : (c : tie.After-backed invariant-loop decreases-loop) → Tells c.backed.result (Backed (has (view c.before.before.before.before.before.args.state.now).roles c.before.before.before.before.loop.k) ((view c.before.before.before.before.before.args.state.now).juniors c.before.before.before.before.loop.k))
-asked c = rw (c.before.before.has-role.ensures, c.before.directly-below.ensures) at c.backed.ensures
+asked c = rw (c.before.before.has_role.ensures, c.before.directly_below.ensures) at c.backed.ensures
 
 loop-holds : tie.Need-loop-init invariant-loop decreases-loop
 loop-holds c = passed_none

@@ -6,14 +6,14 @@ use Prim.Native.Nat.{ℕ}
 use native.Mathlib.Omega.{arith}
 use borrow.Author.Tests.{eqb-true, eq-eqb}
 use Rattle.roleset.proofs.BoundedLaws.{clash}
-use Rattle.model.specs.Model.{Session, closedSession}
+use Rattle.model.specs.Model.{Session, closed_session}
 use Rattle.state.specs.View.{view}
 use Rattle.policycheck.proofs.Passing.{tells-no, session-none}
 use Rattle.policycheck.proofs.session_fine.Statement.{statement}
 use Rattle.policycheck.proofs.session_fine.Tie as tie
 
 -- a session that is not live, with no owner and no roles
-nothing : (s : Session) → s.live ≡ false → s.owner ≡ 0 → s.active ≡ 0 → s ≡ closedSession
+nothing : (s : Session) → s.live ≡ false → s.owner ≡ 0 → s.active ≡ 0 → s ≡ closed_session
 nothing s p q r =
     ap {B = Session} (λ (b : Bool). record { live = b; owner = s.owner; active = s.active }) p
     ∙ ap {B = Session} (λ (n : ℕ). record { live = false; owner = n; active = s.active }) q
@@ -24,8 +24,8 @@ returns c =
     let s = c.before.before.before.before.before.args.session in
     let within = rw c.before.roles.ensures at c.subset.ensures in
     record {
-      holds = λ e. record { closed = λ x. clash s.live c.before.before.before.before.if1.true x; owned = λ x. sym c.before.before.before.is-user.ensures ∙ c.before.before.if2.true; active = record { small = omega arith; each = within.yes-means e } };
-      says = λ p. within.means-yes p.active.each;
+      holds = λ e. record { closed = λ x. clash s.live c.before.before.before.before.if1.true x; owned = λ x. sym c.before.before.before.is-user.ensures ∙ c.before.before.if2.true; active = record { small = omega arith; each = within.yes_means e } };
+      says = λ p. within.means_yes p.active.each;
     }
 
 returns-2 : tie.Need-returns-2

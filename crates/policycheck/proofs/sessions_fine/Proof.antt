@@ -17,7 +17,7 @@ decreases-loop state k₀ k = 64 - k
 
 -- the test, in the words of the policy
 asked : (c : tie.After-session-fine invariant-loop decreases-loop) → Tells c.session-fine.result (SessionFine (view c.before.before.before.before.args.state.now).users (view c.before.before.before.before.args.state.now).roles ((view c.before.before.before.before.args.state.now).sessions c.before.before.before.loop.k))
-asked c = rw c.before.session-at.ensures at c.session-fine.ensures
+asked c = rw c.before.session_at.ensures at c.session-fine.ensures
 
 loop-holds : tie.Need-loop-init invariant-loop decreases-loop
 loop-holds c = passed_none

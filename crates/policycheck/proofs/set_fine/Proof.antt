@@ -6,13 +6,13 @@ use Prim.Native.Nat.{ℕ}
 use native.Mathlib.Omega.{arith}
 use borrow.Author.Tests.{eqb-true, eq-eqb}
 use Rattle.roleset.proofs.BoundedLaws.{clash}
-use Rattle.model.specs.Model.{RoleSet, absentSet}
+use Rattle.model.specs.Model.{RoleSet, absent_set}
 use Rattle.policycheck.proofs.Passing.{tells-no, set-none}
 use Rattle.policycheck.proofs.set_fine.Statement.{statement}
 use Rattle.policycheck.proofs.set_fine.Tie as tie
 
 -- a set that is not there, with no cardinality and no roles
-nothing : (set : RoleSet) → set.there ≡ false → set.card ≡ 0 → set.roles ≡ 0 → set ≡ absentSet
+nothing : (set : RoleSet) → set.there ≡ false → set.card ≡ 0 → set.roles ≡ 0 → set ≡ absent_set
 nothing set p q r =
     ap {B = RoleSet} (λ (b : Bool). record { there = b; card = set.card; roles = set.roles }) p
     ∙ ap {B = RoleSet} (λ (n : ℕ). record { there = false; card = n; roles = set.roles }) q
@@ -22,8 +22,8 @@ returns : tie.Need-returns
 returns c =
     let set = c.before.before.before.before.args.set in
     record {
-      holds = λ e. record { absent = λ x. clash set.there c.before.before.before.if1.true x; small = c.before.if2.true; members = record { small = omega arith; each = c.subset.ensures.yes-means e } };
-      says = λ p. c.subset.ensures.means-yes p.members.each;
+      holds = λ e. record { absent = λ x. clash set.there c.before.before.before.if1.true x; small = c.before.if2.true; members = record { small = omega arith; each = c.subset.ensures.yes_means e } };
+      says = λ p. c.subset.ensures.means_yes p.members.each;
     }
 
 returns-2 : tie.Need-returns-2

@@ -2,7 +2,7 @@
 use borrow.Author.Rules.{rules}
 use Prim.Native.Nat.{◌-◌}
 use native.Mathlib.Omega.{arith}
-use Rattle.model.specs.commands.Sets.{setsOf}
+use Rattle.model.specs.commands.Sets.{sets_of}
 use Rattle.state.specs.View.{view}
 use Rattle.policycheck.specs.Tests.{Tells, SetFine}
 use Rattle.policycheck.proofs.Passing.{Passed, passed_none, passed-more, passed-all, stopped, set-none}
@@ -11,14 +11,14 @@ use Rattle.policycheck.proofs.sets_fine.Statement.{statement}
 use Rattle.policycheck.proofs.sets_fine.Tie as tie
 
 abbrev invariant-loop : tie.invariant-loop
-invariant-loop state kind k₀ k = Passed (λ n. SetFine (view state).roles (setsOf kind (view state) n)) 16 k
+invariant-loop state kind k₀ k = Passed (λ n. SetFine (view state).roles (sets_of kind (view state) n)) 16 k
 
 abbrev decreases-loop : tie.decreases-loop
 decreases-loop state kind k₀ k = 16 - k
 
 -- the test, in the words of the policy
-asked : (c : tie.After-set-fine invariant-loop decreases-loop) → Tells c.set-fine.result (SetFine (view c.before.before.before.before.before.args.state.now).roles (setsOf c.before.before.before.before.before.args.kind (view c.before.before.before.before.before.args.state.now) c.before.before.before.before.loop.k))
-asked c = rw (c.before.roles.ensures, c.before.before.set-named.ensures) at c.set-fine.ensures
+asked : (c : tie.After-set-fine invariant-loop decreases-loop) → Tells c.set-fine.result (SetFine (view c.before.before.before.before.before.args.state.now).roles (sets_of c.before.before.before.before.before.args.kind (view c.before.before.before.before.before.args.state.now) c.before.before.before.before.loop.k))
+asked c = rw (c.before.roles.ensures, c.before.before.set_named.ensures) at c.set-fine.ensures
 
 loop-holds : tie.Need-loop-init invariant-loop decreases-loop
 loop-holds c = passed_none

@@ -20,7 +20,7 @@ decreases-loop state k₀ k = 64 - k
 
 -- the test, in the words of the policy
 asked : (c : tie.After-beyond invariant-loop decreases-loop) → c.beyond.result ≡ not (subset ((view c.before.before.before.before.args.state.now).sessions c.before.before.before.loop.k).active (authorised (view c.before.before.before.before.args.state.now) ((view c.before.before.before.before.args.state.now).sessions c.before.before.before.loop.k).owner))
-asked c = rw c.before.session-at.ensures at c.beyond.ensures
+asked c = rw c.before.session_at.ensures at c.beyond.ensures
 
 loop-holds : tie.Need-loop-init invariant-loop decreases-loop
 loop-holds c = unmet-start

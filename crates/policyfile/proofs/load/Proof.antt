@@ -23,15 +23,15 @@ use Rattle.policyfile.proofs.load.Tie as tie
 -- longer than any file
 returns : tie.Need-returns
 unfolding told
-returns c = inl (record { no-file = λ m f. omega (arith, encode-size m f.formed, ap length f.written, c.if1.true); tells = refl })
+returns c = inl (record { no_file = λ m f. omega (arith, encode-size m f.formed, ap length f.written, c.if1.true); tells = refl })
 
 returns-2 : tie.Need-returns-2
 unfolding told
-returns-2 c = inl (record { no-file = λ m f. clash c.before.formed.result (c.before.formed.ensures.says (subst (λ (x : Model). Fits x) (sym (c.before.before.before.gather.ensures ∙ gathered-file _ m f)) (formed-fits m f.formed))) (not-true _ c.if2.true); tells = refl })
+returns-2 c = inl (record { no_file = λ m f. clash c.before.formed.result (c.before.formed.ensures.says (subst (λ (x : Model). Fits x) (sym (c.before.before.before.gather.ensures ∙ gathered-file _ m f)) (formed-fits m f.formed))) (not-true _ c.if2.true); tells = refl })
 
 returns-3 : tie.Need-returns-3
 unfolding told
-returns-3 c = inl (record { no-file = λ m f. clash c.before.is-file.result (c.before.is-file.ensures.says (ap encode (c.before.before.before.before.before.before.gather.ensures ∙ gathered-file _ m f) ∙ f.written)) (not-true _ c.if3.true); tells = refl })
+returns-3 c = inl (record { no_file = λ m f. clash c.before.is-file.result (c.before.is-file.ensures.says (ap encode (c.before.before.before.before.before.before.gather.ensures ∙ gathered-file _ m f) ∙ f.written)) (not-true _ c.if3.true); tells = refl })
 
 -- the bytes are the file of the state that was gathered
 file : (c : tie.Else3) → FileOf (view c.before.before.before.before.before.before.gather.new.1.0) c.before.before.before.before.before.before.before.before.before.before.args.bytes.now
@@ -43,12 +43,12 @@ returns-4 : tie.Need-returns-4
 unfolding told
 returns-4 c =
     let asked = c.before.before.before.before in
-    let zero : number_of asked.before.broken.result ≡ 0 = eqb-true _ _ (sym asked.is-done.ensures ∙ c.before.before.before.if4.true) in
+    let zero : number_of asked.before.broken.result ≡ 0 = eqb-true _ _ (sym asked.is_done.ensures ∙ c.before.before.before.if4.true) in
     inr (record { model = _; file = file asked.before.before.before; tells = settled-done _ _ _ _ _ asked.before.broken.ensures zero c.put_all.ensures })
 
 returns-5 : tie.Need-returns-5
 unfolding told
-returns-5 c = inr (record { model = _; file = file c.before.before.before.before; tells = settled-refused _ _ _ _ c.before.before.broken.ensures (sym c.before.is-done.ensures ∙ c.if4.false) })
+returns-5 c = inr (record { model = _; file = file c.before.before.before.before; tells = settled-refused _ _ _ _ c.before.before.broken.ensures (sym c.before.is_done.ensures ∙ c.if4.false) })
 
 pub load_spec : {M : Type 1} → statement M
 load_spec =

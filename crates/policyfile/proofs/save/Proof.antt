@@ -33,7 +33,7 @@ returns-2 c =
       fits = omega (arith, c.before.before.before.before.before.before.before.before.write.ensures.next, c.before.before.before.before.before.before.if1.false);
       answered = refl;
       long = omega (arith, c.before.before.before.before.before.before.before.before.write.ensures.next);
-      stored = c.before.before.put-text.ensures.holds ∙ ap (λ (x : List ℕ). sets c.before.before.before.before.before.before.before.before.before.before.before.args.out.now 0 x) (front c.before.before.before.before.before.before.before.before.write.ensures (omega (arith, c.before.before.before.before.before.if2.true, length-replicate {A = ℕ} 36048 0)));
+      stored = c.before.before.put_text.ensures.holds ∙ ap (λ (x : List ℕ). sets c.before.before.before.before.before.before.before.before.before.before.before.args.out.now 0 x) (front c.before.before.before.before.before.before.before.before.write.ensures (omega (arith, c.before.before.before.before.before.if2.true, length-replicate {A = ℕ} 36048 0)));
     })
 
 returns-3 : tie.Need-returns-3

@@ -5,10 +5,10 @@ use Rattle.policyread.proofs.add_pair.Statement.{statement}
 use Rattle.policyread.proofs.add_pair.Tie as tie
 
 returns : tie.Need-returns
-returns c = rw c.before.before.before.before.before.enum_told.given.1 (c.put-juniors.ensures ∙ rw (c.before.before.with.ensures.is, c.before.before.before.directly-below.ensures))
+returns c = rw c.before.before.before.before.before.enum_told.given.1 (c.put_juniors.ensures ∙ rw (c.before.before.with.ensures.is, c.before.before.before.directly_below.ensures))
 
 returns-2 : tie.Need-returns-2
-returns-2 c = rw c.before.before.before.before.before.enum-told2.given.1 (c.put-assigned.ensures ∙ rw (c.before.before.with2.ensures.is, c.before.before.before.assigned-to.ensures))
+returns-2 c = rw c.before.before.before.before.before.enum-told2.given.1 (c.put_assigned.ensures ∙ rw (c.before.before.with2.ensures.is, c.before.before.before.assigned_to.ensures))
 
 pub add-pair-spec : {M : Type 1} → statement M
 add-pair-spec =

@@ -10,12 +10,12 @@ returns c =
     (table-count _ c.before.before.before.before.before.before.before.before.before.before.before.before.before.before.before.before.before.before.before.juniors.ensures c.before.before.before.before.before.before.before.before.before.before.before.before.before.before.before.before.before.before.members.ensures)
     (table-count _ c.before.before.before.before.before.before.before.before.before.before.before.before.before.before.before.before.assigned.ensures c.before.before.before.before.before.before.before.before.before.before.before.before.before.before.before.members2.ensures)
     (table-count _ c.before.before.before.before.before.before.before.before.before.before.before.before.before.holders.ensures c.before.before.before.before.before.before.before.before.before.before.before.before.members3.ensures)
-    c.before.before.before.before.before.before.before.before.before.before.directly-below.ensures
-    c.before.before.before.before.before.before.before.before.put-juniors.ensures
-    c.before.before.before.before.before.before.assigned-to.ensures
-    c.before.before.before.before.put-assigned.ensures
-    c.before.before.holders-of.ensures
-    c.put-holders.ensures
+    c.before.before.before.before.before.before.before.before.before.before.directly_below.ensures
+    c.before.before.before.before.before.before.before.before.put_juniors.ensures
+    c.before.before.before.before.before.before.assigned_to.ensures
+    c.before.before.before.before.put_assigned.ensures
+    c.before.before.holders_of.ensures
+    c.put_holders.ensures
 
 pub count-all-spec : {M : Type 1} → statement M
 count-all-spec =

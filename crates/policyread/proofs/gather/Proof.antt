@@ -10,7 +10,7 @@ returns c =
     c.before.before.before.before.before.before.before.before.before.before.before.before.before.before.before.before.before.before.before.start.ensures
     c.before.before.before.before.before.before.before.before.before.before.before.before.before.before.before.before.before.read-users.ensures.is
     c.before.before.before.before.before.before.before.before.before.before.before.before.before.before.before.before.read-roles.ensures.is
-    c.before.before.before.before.before.before.before.before.before.before.before.before.before.before.put-roles.ensures
+    c.before.before.before.before.before.before.before.before.before.before.before.before.before.before.put_roles.ensures
     c.before.before.before.before.before.before.before.before.before.before.before.before.read_pairs.ensures.is
     c.before.before.before.before.before.before.before.before.before.before.read-pairs2.ensures.is
     c.before.before.before.before.before.before.before.before.read-grants.ensures.is

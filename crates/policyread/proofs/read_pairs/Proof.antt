@@ -3,14 +3,14 @@ use borrow.Author.Rules.{rules}
 use Prim.Native.Nat.{◌≤◌}
 use native.Mathlib.Omega.{arith}
 use Rattle.state.specs.View.{view}
-use Rattle.text.specs.Places.{readSection}
-use Rattle.policyread.specs.Steps.{pairsMost, readPair}
+use Rattle.text.specs.Places.{read_section}
+use Rattle.policyread.specs.Steps.{pairs_most, read_pair}
 use Rattle.policyread.proofs.Loops.{Left, left-start, left_step, left_end, pair-was, pairs-few}
 use Rattle.policyread.proofs.read_pairs.Statement.{statement}
 use Rattle.policyread.proofs.read_pairs.Tie as tie
 
 abbrev invariant-loop : tie.invariant-loop
-invariant-loop bytes at pairs state₀ next₀ left₀ state next left = Left (readPair pairs bytes) (readSection bytes (pairsMost pairs) (readPair pairs bytes) at (view state₀)) 4 (pairsMost pairs) at left next (view state)
+invariant-loop bytes at pairs state₀ next₀ left₀ state next left = Left (read_pair pairs bytes) (read_section bytes (pairs_most pairs) (read_pair pairs bytes) at (view state₀)) 4 (pairs_most pairs) at left next (view state)
 
 abbrev decreases-loop : tie.decreases-loop
 decreases-loop bytes at pairs state₀ next₀ left₀ state next left = left
@@ -19,7 +19,7 @@ loop-holds : tie.Need-loop-init invariant-loop decreases-loop
 loop-holds c = left-start _ (rw c.before.most-pairs.ensures at c.count_at.ensures)
 
 -- there is room for every place that is read
-room : (c : tie.In-loop invariant-loop decreases-loop) → pairsMost c.before.before.before.before.before.args.pairs ≤ 2048
+room : (c : tie.In-loop invariant-loop decreases-loop) → pairs_most c.before.before.before.before.before.args.pairs ≤ 2048
 room c = pairs-few c.before.before.before.before.before.args.pairs
 
 loop-again : tie.Need-loop-preserved invariant-loop decreases-loop

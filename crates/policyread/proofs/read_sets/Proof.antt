@@ -2,14 +2,14 @@
 use borrow.Author.Rules.{rules}
 use native.Mathlib.Omega.{arith}
 use Rattle.state.specs.View.{view}
-use Rattle.text.specs.Places.{readSection}
-use Rattle.policyread.specs.Steps.{setAdded, readSet}
+use Rattle.text.specs.Places.{read_section}
+use Rattle.policyread.specs.Steps.{set_added, read_set}
 use Rattle.policyread.proofs.Loops.{Left, left-start, left_step, left_end, entry-was}
 use Rattle.policyread.proofs.read_sets.Statement.{statement}
 use Rattle.policyread.proofs.read_sets.Tie as tie
 
 abbrev invariant-loop : tie.invariant-loop
-invariant-loop bytes at kind state₀ next₀ left₀ state next left = Left (readSet kind bytes) (readSection bytes 16 (readSet kind bytes) at (view state₀)) 134 16 at left next (view state)
+invariant-loop bytes at kind state₀ next₀ left₀ state next left = Left (read_set kind bytes) (read_section bytes 16 (read_set kind bytes) at (view state₀)) 134 16 at left next (view state)
 
 abbrev decreases-loop : tie.decreases-loop
 decreases-loop bytes at kind state₀ next₀ left₀ state next left = left
@@ -18,7 +18,7 @@ loop-holds : tie.Need-loop-init invariant-loop decreases-loop
 loop-holds c = left-start _ c.count_at.ensures
 
 loop-again : tie.Need-loop-preserved invariant-loop decreases-loop
-loop-again c = left_step c.before.before.before.loop-test.true (entry-was (setAdded c.before.before.before.before.before.before.before.args.kind) _ _ c.before.before.read-entry.ensures c.put-set.ensures) (omega (arith, c.before.before.read-entry.ensures.list.room)) c.before.before.before.before.loop.invariant
+loop-again c = left_step c.before.before.before.loop-test.true (entry-was (set_added c.before.before.before.before.before.before.before.args.kind) _ _ c.before.before.read-entry.ensures c.put_set.ensures) (omega (arith, c.before.before.read-entry.ensures.list.room)) c.before.before.before.before.loop.invariant
 
 returns : tie.Need-returns invariant-loop decreases-loop
 returns c = left_end c.loop-test.false c.before.loop.invariant

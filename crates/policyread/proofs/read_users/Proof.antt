@@ -2,14 +2,14 @@
 use borrow.Author.Rules.{rules}
 use native.Mathlib.Omega.{arith}
 use Rattle.state.specs.View.{view}
-use Rattle.text.specs.Places.{readSection}
-use Rattle.policyread.specs.Steps.{readUser}
+use Rattle.text.specs.Places.{read_section}
+use Rattle.policyread.specs.Steps.{read_user}
 use Rattle.policyread.proofs.Loops.{Left, left-start, left_step, left_end, user-was}
 use Rattle.policyread.proofs.read_users.Statement.{statement}
 use Rattle.policyread.proofs.read_users.Tie as tie
 
 abbrev invariant-loop : tie.invariant-loop
-invariant-loop bytes at state₀ next₀ left₀ state next left = Left (readUser bytes) (readSection bytes 256 (readUser bytes) at (view state₀)) 2 256 at left next (view state)
+invariant-loop bytes at state₀ next₀ left₀ state next left = Left (read_user bytes) (read_section bytes 256 (read_user bytes) at (view state₀)) 2 256 at left next (view state)
 
 abbrev decreases-loop : tie.decreases-loop
 decreases-loop bytes at state₀ next₀ left₀ state next left = left
@@ -18,7 +18,7 @@ loop-holds : tie.Need-loop-init invariant-loop decreases-loop
 loop-holds c = left-start _ c.count_at.ensures
 
 loop-again : tie.Need-loop-preserved invariant-loop decreases-loop
-loop-again c = left_step c.before.before.before.loop-test.true (user-was _ _ _ _ _ c.before.before.word_at.ensures c.put-user.ensures) (omega arith) c.before.before.before.before.loop.invariant
+loop-again c = left_step c.before.before.before.loop-test.true (user-was _ _ _ _ _ c.before.before.word_at.ensures c.put_user.ensures) (omega arith) c.before.before.before.before.loop.invariant
 
 returns : tie.Need-returns invariant-loop decreases-loop
 returns c = left_end c.loop-test.false c.before.loop.invariant

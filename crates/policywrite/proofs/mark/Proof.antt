@@ -9,14 +9,14 @@ use Rattle.roleset.specs.Roles.{count}
 use Rattle.roleset.proofs.Laws.{without-small}
 use Rattle.hierarchy.specs.Lines.{table_of}
 use Rattle.roleset.proofs.Taking.{Taken, lowest-taken}
-use Rattle.policyform.specs.Encode.{pairIn}
+use Rattle.policyform.specs.Encode.{pair_in}
 use Rattle.policywrite.specs.Parts.{granted}
 use Rattle.policywrite.proofs.Turning.{mark-step, none_left}
 use Rattle.policywrite.proofs.mark.Statement.{statement}
 use Rattle.policywrite.proofs.mark.Tie as tie
 
 abbrev invariant-loop : tie.invariant-loop
-invariant-loop rows₀ set p rest₀ rows rest = (length rows ≡ 4096) × (rest < 2 ^ 64) × ((k : ℕ) → k < 262144 → (pairIn (table_of rows) k || granted rest p k) ≡ (pairIn (table_of rows₀) k || granted set p k))
+invariant-loop rows₀ set p rest₀ rows rest = (length rows ≡ 4096) × (rest < 2 ^ 64) × ((k : ℕ) → k < 262144 → (pair_in (table_of rows) k || granted rest p k) ≡ (pair_in (table_of rows₀) k || granted set p k))
 
 abbrev decreases-loop : tie.decreases-loop
 decreases-loop rows₀ set p rest₀ rows rest = count rest
@@ -41,7 +41,7 @@ loop-again c =
 returns : tie.Need-returns invariant-loop decreases-loop
 returns c =
     let head = c.before.loop in
-    record { size = head.invariant.0; each = λ k l. none_left (pairIn (table_of head.rows) k) head.rest _ k c.loop-test.false ∙ head.invariant.2 k l }
+    record { size = head.invariant.0; each = λ k l. none_left (pair_in (table_of head.rows) k) head.rest _ k c.loop-test.false ∙ head.invariant.2 k l }
 
 pub mark_spec : {M : Type 1} → statement M
 mark_spec =

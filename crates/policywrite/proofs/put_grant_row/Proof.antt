@@ -8,13 +8,13 @@ use Rattle.roleset.specs.Roles.{count}
 use Rattle.text.specs.Bytes.{two}
 use Rattle.text.specs.Places.{Wrote}
 use Rattle.text.proofs.Writing.{wrote-length}
-use Rattle.policyform.specs.Encode.{grantEntry}
+use Rattle.policyform.specs.Encode.{grant_entry}
 use Rattle.policywrite.proofs.Taking.{Least, least, Through, through-start, through-taken, through-end, through-room}
 use Rattle.policywrite.proofs.put_grant_row.Statement.{statement}
 use Rattle.policywrite.proofs.put_grant_row.Tie as tie
 
 abbrev invariant-loop : tie.invariant-loop
-invariant-loop row set out₀ at next₀ rest₀ out next rest = Through (λ r. grantEntry (64 * row + r)) set rest out₀ out at next
+invariant-loop row set out₀ at next₀ rest₀ out next rest = Through (λ r. grant_entry (64 * row + r)) set rest out₀ out at next
 
 abbrev decreases-loop : tie.decreases-loop
 decreases-loop row set out₀ at next₀ rest₀ out next rest = count rest
@@ -30,7 +30,7 @@ put-three-requires : tie.Need-put-three-requires invariant-loop decreases-loop
 put-three-requires c κs = omega (arith, through-room 6 (λ k. refl) c.before.before.before.loop.invariant)
 
 -- a row's numbers and a member are the grant with their number
-grant : {b d : List ℕ} {i j : ℕ} (row r : ℕ) → r < 64 → Wrote b d i j (two (row / 64) ++ (two (row % 64 / 4) ++ two (row % 4 * 64 + r))) → Wrote b d i j (grantEntry (64 * row + r))
+grant : {b d : List ℕ} {i j : ℕ} (row r : ℕ) → r < 64 → Wrote b d i j (two (row / 64) ++ (two (row % 64 / 4) ++ two (row % 4 * 64 + r))) → Wrote b d i j (grant_entry (64 * row + r))
 grant row r l x =
     let role : (64 * row + r) / 4096 ≡ row / 64 = omega arith in
     let operation : (64 * row + r) % 4096 / 256 ≡ row % 64 / 4 = omega arith in

@@ -5,13 +5,13 @@ use Prim.Native.Nat.{◌-◌}
 use native.Mathlib.Omega.{arith}
 use Rattle.hierarchy.specs.Lines.{table_of}
 use Rattle.text.proofs.Writing.{wrote-length}
-use Rattle.policyform.specs.Encode.{grantEntry}
+use Rattle.policyform.specs.Encode.{grant_entry}
 use Rattle.policywrite.proofs.Rows.{Rows, rows_start, rows_taken, rows_left, rows-size, rows-room, rows_end}
 use Rattle.policywrite.proofs.put_grant_rows.Statement.{statement}
 use Rattle.policywrite.proofs.put_grant_rows.Tie as tie
 
 abbrev invariant-loop : tie.invariant-loop
-invariant-loop rows out₀ at next₀ k₀ out next k = Rows grantEntry (table_of rows) 4096 out₀ out at next k
+invariant-loop rows out₀ at next₀ k₀ out next k = Rows grant_entry (table_of rows) 4096 out₀ out at next k
 
 abbrev decreases-loop : tie.decreases-loop
 decreases-loop rows out₀ at next₀ k₀ out next k = 4096 - k

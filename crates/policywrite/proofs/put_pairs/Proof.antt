@@ -6,13 +6,13 @@ use native.Mathlib.Omega.{arith}
 use lib.ListN.{length}
 use Rattle.hierarchy.specs.Lines.{table_of}
 use Rattle.text.proofs.Writing.{wrote-length}
-use Rattle.policyform.specs.Encode.{pairEntry}
+use Rattle.policyform.specs.Encode.{pair_entry}
 use Rattle.policywrite.proofs.Rows.{Rows, rows_start, rows_taken, rows_left, rows-size, rows-room, rows_end}
 use Rattle.policywrite.proofs.put_pairs.Statement.{statement}
 use Rattle.policywrite.proofs.put_pairs.Tie as tie
 
 abbrev invariant-loop : tie.invariant-loop
-invariant-loop table out₀ at next₀ k₀ out next k = Rows pairEntry (table_of table) (length table) out₀ out at next k
+invariant-loop table out₀ at next₀ k₀ out next k = Rows pair_entry (table_of table) (length table) out₀ out at next k
 
 abbrev decreases-loop : tie.decreases-loop
 decreases-loop table out₀ at next₀ k₀ out next k = length table - k

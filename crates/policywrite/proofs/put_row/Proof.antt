@@ -8,13 +8,13 @@ use Rattle.roleset.specs.Roles.{count}
 use Rattle.text.specs.Bytes.{two}
 use Rattle.text.specs.Places.{Wrote}
 use Rattle.text.proofs.Writing.{wrote-length}
-use Rattle.policyform.specs.Encode.{pairEntry}
+use Rattle.policyform.specs.Encode.{pair_entry}
 use Rattle.policywrite.proofs.Taking.{Least, least, Through, through-start, through-taken, through-end, through-room}
 use Rattle.policywrite.proofs.put_row.Statement.{statement}
 use Rattle.policywrite.proofs.put_row.Tie as tie
 
 abbrev invariant-loop : tie.invariant-loop
-invariant-loop place set out₀ at next₀ rest₀ out next rest = Through (λ r. pairEntry (64 * place + r)) set rest out₀ out at next
+invariant-loop place set out₀ at next₀ rest₀ out next rest = Through (λ r. pair_entry (64 * place + r)) set rest out₀ out at next
 
 abbrev decreases-loop : tie.decreases-loop
 decreases-loop place set out₀ at next₀ rest₀ out next rest = count rest
@@ -30,7 +30,7 @@ put-pair-requires : tie.Need-put-pair-requires invariant-loop decreases-loop
 put-pair-requires c κs = omega (arith, through-room 4 (λ k. refl) c.before.before.before.loop.invariant)
 
 -- a place and a member are the pair with their number
-pair : {b d : List ℕ} {i j : ℕ} (place r : ℕ) → r < 64 → Wrote b d i j (two place ++ two r) → Wrote b d i j (pairEntry (64 * place + r))
+pair : {b d : List ℕ} {i j : ℕ} (place r : ℕ) → r < 64 → Wrote b d i j (two place ++ two r) → Wrote b d i j (pair_entry (64 * place + r))
 pair place r l x = let left : (64 * place + r) / 64 ≡ place = omega arith in let right : (64 * place + r) % 64 ≡ r = omega arith in rw (left, right) x
 
 loop-less : tie.Need-loop-smaller invariant-loop decreases-loop

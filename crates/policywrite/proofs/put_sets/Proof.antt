@@ -4,15 +4,15 @@ use mathlib.Core.Path.{sym, ap, ◌∙◌}
 use Prim.Native.Nat.{◌-◌}
 use native.Mathlib.Omega.{arith}
 use Rattle.model.specs.Model.{RoleSet}
-use Rattle.model.specs.commands.Sets.{setsOf}
+use Rattle.model.specs.commands.Sets.{sets_of}
 use Rattle.state.specs.View.{view}
-use Rattle.policyform.specs.Encode.{setEntry}
+use Rattle.policyform.specs.Encode.{set_entry}
 use Rattle.policywrite.proofs.Under.{Under, under-start, under-taken, under_left, under-end, under-length}
 use Rattle.policywrite.proofs.put_sets.Statement.{statement}
 use Rattle.policywrite.proofs.put_sets.Tie as tie
 
 abbrev invariant-loop : tie.invariant-loop
-invariant-loop state kind out₀ at n₀ next₀ k₀ out n next k = Under (setEntry (setsOf kind (view state))) (λ m. (setsOf kind (view state) m).there) 134 16 out₀ out at next n k
+invariant-loop state kind out₀ at n₀ next₀ k₀ out n next k = Under (set_entry (sets_of kind (view state))) (λ m. (sets_of kind (view state) m).there) 134 16 out₀ out at next n k
 
 abbrev decreases-loop : tie.decreases-loop
 decreases-loop state kind out₀ at n₀ next₀ k₀ out n next k = 16 - k
@@ -21,10 +21,10 @@ loop-holds : tie.Need-loop-init invariant-loop decreases-loop
 loop-holds c = under-start
 
 loop-again : tie.Need-loop-preserved invariant-loop decreases-loop
-loop-again c = under-taken (omega arith) (sym (ap (λ (x : RoleSet). x.there) c.before.before.before.before.before.before.set-named.ensures) ∙ c.before.before.before.before.before.if1.true) c.before.before.put-entry.ensures.room c.before.before.before.before.before.before.before.before.loop.invariant (rw c.before.before.before.before.before.before.set-named.ensures at c.before.before.put-entry.ensures.wrote)
+loop-again c = under-taken (omega arith) (sym (ap (λ (x : RoleSet). x.there) c.before.before.before.before.before.before.set_named.ensures) ∙ c.before.before.before.before.before.if1.true) c.before.before.put-entry.ensures.room c.before.before.before.before.before.before.before.before.loop.invariant (rw c.before.before.before.before.before.before.set_named.ensures at c.before.before.put-entry.ensures.wrote)
 
 loop-again-2 : tie.Need-loop-preserved-2 invariant-loop decreases-loop
-loop-again-2 c = under_left (omega arith) (sym (ap (λ (x : RoleSet). x.there) c.before.set-named.ensures) ∙ c.if1.false) c.before.before.before.loop.invariant
+loop-again-2 c = under_left (omega arith) (sym (ap (λ (x : RoleSet). x.there) c.before.set_named.ensures) ∙ c.if1.false) c.before.before.before.loop.invariant
 
 same_length : tie.Need-same-length invariant-loop decreases-loop
 same_length c = under-length c.before.before.before.before.before.loop.invariant c.before.before.put_word.ensures

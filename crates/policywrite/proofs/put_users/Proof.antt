@@ -19,10 +19,10 @@ loop-holds : tie.Need-loop-init invariant-loop decreases-loop
 loop-holds c = under-start
 
 loop-again : tie.Need-loop-preserved invariant-loop decreases-loop
-loop-again c = under-taken (omega arith) (sym c.before.before.before.before.before.before.has-user.ensures ∙ c.before.before.before.before.before.if1.true) (omega arith) c.before.before.before.before.before.before.before.before.loop.invariant c.before.before.put_word.ensures
+loop-again c = under-taken (omega arith) (sym c.before.before.before.before.before.before.has_user.ensures ∙ c.before.before.before.before.before.if1.true) (omega arith) c.before.before.before.before.before.before.before.before.loop.invariant c.before.before.put_word.ensures
 
 loop-again-2 : tie.Need-loop-preserved-2 invariant-loop decreases-loop
-loop-again-2 c = under_left (omega arith) (sym c.before.has-user.ensures ∙ c.if1.false) c.before.before.before.loop.invariant
+loop-again-2 c = under_left (omega arith) (sym c.before.has_user.ensures ∙ c.if1.false) c.before.before.before.loop.invariant
 
 same_length : tie.Need-same-length invariant-loop decreases-loop
 same_length c = under-length c.before.before.before.before.before.loop.invariant c.before.before.put-word2.ensures

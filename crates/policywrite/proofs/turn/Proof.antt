@@ -6,14 +6,14 @@ use Prim.Native.Nat.{ℕ, ◌-◌, ◌≤◌, ◌<◌}
 use native.Mathlib.Omega.{arith}
 use lib.ListN.{length, length-replicate}
 use Rattle.hierarchy.specs.Lines.{table_of}
-use Rattle.policyform.specs.Encode.{pairIn}
+use Rattle.policyform.specs.Encode.{pair_in}
 use Rattle.policywrite.specs.Parts.{granted}
-use Rattle.policywrite.proofs.Turning.{grantBelow, turn-start, turn_step, turn_end}
+use Rattle.policywrite.proofs.Turning.{grant_below, turn-start, turn_step, turn_end}
 use Rattle.policywrite.proofs.turn.Statement.{statement}
 use Rattle.policywrite.proofs.turn.Tie as tie
 
 abbrev invariant-loop : tie.invariant-loop
-invariant-loop holders rows₀ p₀ rows p = (length rows ≡ 4096) × (p ≤ 4096) × ((k : ℕ) → k < 262144 → pairIn (table_of rows) k ≡ grantBelow (table_of holders) p k)
+invariant-loop holders rows₀ p₀ rows p = (length rows ≡ 4096) × (p ≤ 4096) × ((k : ℕ) → k < 262144 → pair_in (table_of rows) k ≡ grant_below (table_of holders) p k)
 
 abbrev decreases-loop : tie.decreases-loop
 decreases-loop holders rows₀ p₀ rows p = 4096 - p

@@ -12,7 +12,7 @@ use Rattle.state.specs.View.{view}
 use Rattle.text.specs.Bytes.{section}
 use Rattle.text.specs.Places.{Wrote}
 use Rattle.text.proofs.Writing.{wrote-length, wrote-more}
-use Rattle.policyform.specs.Encode.{pairEntry, pairIn, grantsPart, sessionsPart, encode}
+use Rattle.policyform.specs.Encode.{pair_entry, pair_in, grants_part, sessions_part, encode}
 use Rattle.policywrite.proofs.write.Statement.{statement}
 use Rattle.policywrite.proofs.write.Tie as tie
 
@@ -21,8 +21,8 @@ renamed : {a b : List ℕ} {at i : ℕ} {x y : List ℕ} → x ≡ y → Wrote a
 renamed {a} {b} {at} {i} e w = subst (λ (l : List ℕ). Wrote a b at i l) e w
 
 -- the pairs of a table that is lent are those of the table
-pairs : {a b : List ℕ} {at i n : ℕ} {table : ℕ → ℕ} {x : List ℕ} → Table n table x → Wrote a b at i (section pairEntry (members (64 * length x) (pairIn (table_of x)))) → Wrote a b at i (section pairEntry (members (64 * n) (pairIn table)))
-pairs t w = renamed (ap₂ (λ (n : ℕ) (f : ℕ → ℕ). section pairEntry (members (64 * n) (pairIn f))) t.long t.each) w
+pairs : {a b : List ℕ} {at i n : ℕ} {table : ℕ → ℕ} {x : List ℕ} → Table n table x → Wrote a b at i (section pair_entry (members (64 * length x) (pair_in (table_of x)))) → Wrote a b at i (section pair_entry (members (64 * n) (pair_in table)))
+pairs t w = renamed (ap₂ (λ (n : ℕ) (f : ℕ → ℕ). section pair_entry (members (64 * n) (pair_in f))) t.long t.each) w
 
 whole : (c : tie.After-put-sessions) → Wrote c.before.before.before.before.before.before.before.before.before.before.before.before.before.before.before.before.before.before.before.before.before.before.before.before.before.before.before.before.before.before.before.before.before.before.before.args.out.now c.put-sessions.new.1.0 0 c.put-sessions.result (encode (view c.before.before.before.before.before.before.before.before.before.before.before.before.before.before.before.before.before.before.before.before.before.before.before.before.before.before.before.before.before.before.before.before.before.before.before.args.state.now))
 unfolding encode
@@ -34,12 +34,12 @@ whole c =
     let lines = assigned.before.before.before.before.before in
     let roles = lines.before.before.before.before.before in
     let start = roles.before.before.before.before.before.before.before.before in
-    let last : Wrote dynamic.put-sets2.new.1.1.0 c.put-sessions.new.1.0 dynamic.put-sets2.result c.put-sessions.result (sessionsPart (view start.args.state.now).sessions) = c.put-sessions.ensures.wrote in
+    let last : Wrote dynamic.put-sets2.new.1.1.0 c.put-sessions.new.1.0 dynamic.put-sets2.result c.put-sessions.result (sessions_part (view start.args.state.now).sessions) = c.put-sessions.ensures.wrote in
     wrote-more roles.before.before.before.before.before.put-users.ensures.wrote
-    (wrote-more (rw roles.before.before.roles.ensures at roles.put-roles.ensures.wrote)
+    (wrote-more (rw roles.before.before.roles.ensures at roles.put_roles.ensures.wrote)
     (wrote-more (pairs lines.before.before.juniors.ensures lines.put-pairs.ensures.wrote)
     (wrote-more (pairs assigned.before.before.assigned.ensures assigned.put-pairs2.ensures.wrote)
-    (wrote-more (renamed (ap grantsPart grants.before.before.holders.ensures.each) grants.put-grants.ensures.wrote)
+    (wrote-more (renamed (ap grants_part grants.before.before.holders.ensures.each) grants.put-grants.ensures.wrote)
     (wrote-more static.put-sets.ensures.wrote
     (wrote-more dynamic.put-sets2.ensures.wrote
     last))))))

@@ -23,7 +23,7 @@ returns-3 c =
 returns-4 : tie.Need-returns-4
 returns-4 c =
     prints-at (at-total c.before.before.before.before.before.before.before.before.before.args.script.now c.before.before.before.before.before.before.before.before.before.args.run c.before.before.before.before.before.if1.false c.before.before.before.before.if2.false)
-    (record { text = c.before.before.total-text.ensures; run = refl }) refl
+    (record { text = c.before.before.total_text.ensures; run = refl }) refl
 
 pub next-spec : {M : Type 1} → statement M
 next-spec =

@@ -5,7 +5,7 @@ use Rattle.program.proofs.refuse.Statement.{statement}
 use Rattle.program.proofs.refuse.Tie as tie
 
 returns : tie.Need-returns
-returns c = record { text = c.before.before.before.answer-text.ensures; run = rw (← c.tallied.ensures) refl }
+returns c = record { text = c.before.before.before.answer_text.ensures; run = rw (← c.tallied.ensures) refl }
 
 pub refuse-spec : {M : Type 1} → statement M
 refuse-spec =

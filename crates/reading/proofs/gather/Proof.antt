@@ -20,7 +20,7 @@ decreases-loop text at₀ word numbers₀ count₀ at numbers count = length tex
 
 loop-holds : tie.Need-loop-init invariant-loop decreases-loop
 unfolding word_in
-loop-holds c = (c.which.ensures ∙ ap which c.before.next-from.ensures.0, rw c.before.next-from.ensures.1 (gathers-start c.before.before.before.before.args.text.now))
+loop-holds c = (c.which.ensures ∙ ap which c.before.next_from.ensures.0, rw c.before.next_from.ensures.1 (gathers-start c.before.before.before.before.args.text.now))
 
 returns : tie.Need-returns invariant-loop decreases-loop
 returns c = c.no_line.ensures ∙ sym (gathers-over c.before.before.before.before.before.before.before.before.args.text.now _ _ _ c.before.before.loop-test.true c.before.if1.true c.before.before.before.loop.invariant.1)

@@ -18,18 +18,18 @@ use Rattle.reading.proofs.gives.Statement.{statement}
 use Rattle.reading.proofs.gives.Tie as tie
 
 -- what stands in the buffer: the line, at its front
-put : (c : tie.After-put-numbers) → Put (replicate 2048 0) 0 (render c.before.before.before.before.before.before.before.args.word c.before.before.before.before.before.before.before.args.numbers.now) c.put-numbers.new.0 c.put-numbers.result
+put : (c : tie.After-put-numbers) → Put (replicate 2048 0) 0 (render c.before.before.before.before.before.before.before.args.word c.before.before.before.before.before.before.before.args.numbers.now) c.put_numbers.new.0 c.put_numbers.result
 unfolding render
-put c = put_then c.before.before.before.put_word.ensures c.put-numbers.ensures
+put c = put_then c.before.before.before.put_word.ensures c.put_numbers.ensures
 
 room : (c : tie.After-put-numbers) → length (render c.before.before.before.before.before.before.before.args.word c.before.before.before.before.before.before.before.args.numbers.now) ≤ 2048
 unfolding render
 room c = omega (arith, c.before.before.before.before.before.before.before.requires, length-append (spelling c.before.before.before.before.before.before.before.args.word) (numbered c.before.before.before.before.before.before.before.args.numbers.now), spelling-short c.before.before.before.before.before.before.before.args.word, numbered-short c.before.before.before.before.before.before.before.args.numbers.now)
 
-ends : (c : tie.After-put-numbers) → c.put-numbers.result ≡ length (render c.before.before.before.before.before.before.before.args.word c.before.before.before.before.before.before.before.args.numbers.now)
+ends : (c : tie.After-put-numbers) → c.put_numbers.result ≡ length (render c.before.before.before.before.before.before.before.args.word c.before.before.before.before.before.before.before.args.numbers.now)
 ends c = omega (arith, (put c).ends, room c, length-replicate {A = ℕ} 2048 0)
 
-long : (c : tie.After-put-numbers) → length c.put-numbers.new.0 ≡ 2048
+long : (c : tie.After-put-numbers) → length c.put_numbers.new.0 ≡ 2048
 long c = put-length (put c) ∙ length-replicate {A = ℕ} 2048 0
 
 array-share-prefix-buf : tie.Need-array-share-prefix-buf

@@ -13,7 +13,7 @@ use Rattle.state.specs.View.{told}
 use Rattle.policyform.specs.Promises.{Loads}
 use Rattle.text.specs.Putting.{Put}
 use Rattle.text.proofs.Putting.{put-length, put-within}
-use Rattle.reload.specs.Reloading.{answerLine}
+use Rattle.reload.specs.Reloading.{answer_line}
 use Rattle.reload.proofs.Pieces.{long, line-next, line-all, file-next, file-all, Again, saved-again}
 use Rattle.reload.proofs.print_all.Statement.{statement}
 use Rattle.reload.proofs.print_all.Tie as tie
@@ -26,7 +26,7 @@ loads c = rw c.before.before.start.ensures at c.load.ensures
 within : (c : tie.After-put-answer) → c.put-answer.result ≤ length c.put-answer.new.0
 within c = omega (arith, put-within c.put-answer.ensures (omega arith), put-length c.put-answer.ensures)
 
-answered : (c : tie.After-put-answer) → Put (replicate 8 0) 0 (answerLine (told c.before.before.load.result c.before.before.load.new.0).answer) c.put-answer.new.0 c.put-answer.result
+answered : (c : tie.After-put-answer) → Put (replicate 8 0) 0 (answer_line (told c.before.before.load.result c.before.before.load.new.0).answer) c.put-answer.new.0 c.put-answer.result
 unfolding told
 answered c = c.put-answer.ensures
 
@@ -36,7 +36,7 @@ counted c = omega (arith, c.before.write-next.ensures (not-false _ c.if1.false),
 
 zero : (c : tie.Then2) → (told c.before.before.before.before.before.before.before.before.before.load.result c.before.before.before.before.before.before.before.before.before.load.new.0).answer ≡ 0
 unfolding told
-zero c = eqb-true _ _ (sym c.before.is-done.ensures ∙ c.if2.true)
+zero c = eqb-true _ _ (sym c.before.is_done.ensures ∙ c.if2.true)
 
 saved : (c : tie.After-save) → Again c.before.before.before.before.before.before.before.before.before.before.before.before.before.before.before.before.before.args.file.now c.save.new.1.0 c.save.result.length
 unfolding told
@@ -77,7 +77,7 @@ returns-2 c = λ e.
 
 returns-3 : tie.Need-returns-3
 unfolding told
-returns-3 c = λ e. rw (counted c.before.before) (line-all _ _ (loads c.before.before.before.before.before.before.before.before.before) _ _ _ (answered c.before.before.before.before.before.before.before) (omega arith) (sym c.before.is-done.ensures ∙ c.if2.false))
+returns-3 c = λ e. rw (counted c.before.before) (line-all _ _ (loads c.before.before.before.before.before.before.before.before.before) _ _ _ (answered c.before.before.before.before.before.before.before) (omega arith) (sym c.before.is_done.ensures ∙ c.if2.false))
 
 pub print-all-spec : {M : Type 1} → statement M
 print-all-spec =

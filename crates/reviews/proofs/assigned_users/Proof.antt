@@ -3,7 +3,7 @@ use borrow.Author.Tests.{leb-false}
 use mathlib.Core.Bool.{not}
 use mathlib.Core.Path.{refl, sym, ap, ap₂, ◌∙◌}
 use Prim.Native.Nat.{ℕ}
-use Rattle.model.specs.Questions.{ask, assignedUsers}
+use Rattle.model.specs.Questions.{ask, assigned_users}
 use Rattle.state.specs.View.{view}
 use Rattle.reviews.specs.Reviewing.{meets}
 use Rattle.reviews.proofs.Filling.{meeting-members, has-meets}
@@ -13,13 +13,13 @@ use Rattle.reviews.proofs.assigned_users.Statement.{statement}
 use Rattle.reviews.proofs.assigned_users.Tie as tie
 
 returns : tie.Need-returns
-unfolding ask assignedUsers
+unfolding ask assigned_users
 returns c =
     let a = c.before.before.before.before.before.before.before.before.before.args in
-    let beyond = sym c.before.before.before.before.before.before.role-beyond.ensures in
+    let beyond = sym c.before.before.before.before.before.before.role_beyond.ensures in
     let one = c.before.before.before.before.before.before.before.with in
     let table = c.before.before.before.before.assigned in
-    told-review _ beyond (ap not (sym c.before.before.before.before.before.has-role.ensures))
+    told-review _ beyond (ap not (sym c.before.before.before.before.before.has_role.ensures))
     (λ e. meeting-members one.result table.result.now 256 _ table.ensures.long (λ u h. has-meets ((view a.state.now).assigned u) a.r.number (leb-false 64 a.r.number (beyond ∙ e)) ∙ ap₂ (λ (x : ℕ) (t : ℕ → ℕ). meets x (t u)) (sym one.ensures.is) (sym table.ensures.each)))
     c.before.before.review.ensures
 

@@ -5,15 +5,15 @@ use mathlib.Core.List.{[], ◌∷◌}
 use mathlib.Core.Path.{sym, ap}
 use Prim.Native.Nat.{◌%◌}
 use Rattle.model.specs.Model.{RoleSet}
-use Rattle.model.specs.Questions.{ask, setCount}
+use Rattle.model.specs.Questions.{ask, set_count}
 use Rattle.reviews.proofs.Settling.{told-review}
 use Rattle.reviews.proofs.set_count.Statement.{statement}
 use Rattle.reviews.proofs.set_count.Tie as tie
 
 returns : tie.Need-returns
-unfolding ask setCount
+unfolding ask set_count
 returns c =
-    let found = sym c.before.before.before.before.before.before.before.set-named.ensures in
+    let found = sym c.before.before.before.before.before.before.before.set_named.ensures in
     told-review _ (sym c.before.before.before.before.before.before.set_beyond.ensures) (ap (λ (x : RoleSet). not x.there) found) (λ e. ap (λ (x : RoleSet). (x.card % 65536) ∷ []) found) c.before.before.review-one.ensures
 
 pub set-count-spec : {M : Type 1} → statement M

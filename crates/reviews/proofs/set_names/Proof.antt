@@ -3,8 +3,8 @@ use borrow.Author.Rules.{rules}
 use mathlib.Core.Path.{◌≡◌, refl, sym, ap, ◌∙◌}
 use native.Mathlib.Omega.{arith}
 use lib.ListN.{length}
-use Rattle.model.specs.Questions.{ask, setNames}
-use Rattle.model.specs.commands.Sets.{setsOf}
+use Rattle.model.specs.Questions.{ask, set_names}
+use Rattle.model.specs.commands.Sets.{sets_of}
 use Rattle.state.specs.View.{view}
 use Rattle.reviews.specs.Reviewing.{meets}
 use Rattle.reviews.proofs.Filling.{meeting-members, meets-bit}
@@ -13,13 +13,13 @@ use Rattle.reviews.proofs.set_names.Statement.{statement}
 use Rattle.reviews.proofs.set_names.Tie as tie
 
 returns : tie.Need-returns
-unfolding ask setNames
+unfolding ask set_names
 returns c =
     let a = c.before.before.before.before.before.before.before.args in
     let table = c.before.before.before.before.before.there in
     let whole : length table.result ≡ 16 = omega arith in
     told-review _ refl refl
-    (λ e. meeting-members 1 table.result 16 _ whole (λ n h. meets-bit (setsOf a.kind (view a.state.now) n).there ∙ ap (meets 1) (sym (table.ensures n h))))
+    (λ e. meeting-members 1 table.result 16 _ whole (λ n h. meets-bit (sets_of a.kind (view a.state.now) n).there ∙ ap (meets 1) (sym (table.ensures n h))))
     c.before.before.review.ensures
 
 pub set-names-spec : {M : Type 1} → statement M

@@ -8,14 +8,14 @@ use Rattle.roleset.specs.Bounded.{some}
 use Rattle.roleset.specs.Roles.{has}
 use Rattle.roleset.proofs.BoundedLaws.{some-start, some_more, some-intro}
 use Rattle.model.specs.Model.{RoleSet}
-use Rattle.model.specs.commands.Sets.{setsOf}
+use Rattle.model.specs.commands.Sets.{sets_of}
 use Rattle.model.specs.commands.Users.{in_set}
 use Rattle.state.specs.View.{view}
 use Rattle.roles.proofs.in_set.Statement.{statement}
 use Rattle.roles.proofs.in_set.Tie as tie
 
 abbrev invariant-loop : tie.invariant-loop
-invariant-loop state kind r n₀ n = (n ≤ 16) × (some n (λ k. has (setsOf kind (view state) k).roles r.number) ≡ false)
+invariant-loop state kind r n₀ n = (n ≤ 16) × (some n (λ k. has (sets_of kind (view state) k).roles r.number) ≡ false)
 
 abbrev decreases-loop : tie.decreases-loop
 decreases-loop state kind r n₀ n = 16 - n
@@ -24,12 +24,12 @@ loop-holds : tie.Need-loop-init invariant-loop decreases-loop
 loop-holds c = (search rules, some-start _)
 
 -- what the test finds
-found : (c : tie.After-has invariant-loop decreases-loop) → let s = c.before.before.before.before in has (setsOf s.args.kind (view s.args.state.now) c.before.before.before.loop.n).roles s.args.r.number ≡ c.has.result
-found c = ap (λ (x : RoleSet). has x.roles c.before.before.before.before.args.r.number) (sym c.before.set-named.ensures) ∙ sym c.has.ensures
+found : (c : tie.After-has invariant-loop decreases-loop) → let s = c.before.before.before.before in has (sets_of s.args.kind (view s.args.state.now) c.before.before.before.loop.n).roles s.args.r.number ≡ c.has.result
+found c = ap (λ (x : RoleSet). has x.roles c.before.before.before.before.args.r.number) (sym c.before.set_named.ensures) ∙ sym c.has.ensures
 
 returns : tie.Need-returns invariant-loop decreases-loop
 unfolding in_set
-returns c = let s = c.before.before.before.before.before in sym (some-intro 16 (λ k. has (setsOf s.args.kind (view s.args.state.now) k).roles s.args.r.number) c.before.before.before.before.loop.n c.before.before.before.loop-test.true (found c.before ∙ c.if1.true))
+returns c = let s = c.before.before.before.before.before in sym (some-intro 16 (λ k. has (sets_of s.args.kind (view s.args.state.now) k).roles s.args.r.number) c.before.before.before.before.loop.n c.before.before.before.loop-test.true (found c.before ∙ c.if1.true))
 
 loop-again : tie.Need-loop-preserved invariant-loop decreases-loop
 loop-again c = (search rules, some_more _ _ c.before.before.before.before.loop.invariant.1 (found c.before ∙ c.if1.false))

@@ -9,8 +9,8 @@ use native.Mathlib.Omega.{arith}
 use Rattle.model.specs.Model.{Model}
 use Rattle.model.specs.Sheet.{verdict, settle, done}
 use Rattle.model.specs.Words.{shed}
-use Rattle.model.specs.commands.Naming.{roleBeyond, roleMissing}
-use Rattle.model.specs.commands.Users.{norole, withoutRole, in_set}
+use Rattle.model.specs.commands.Naming.{role_beyond, role_missing}
+use Rattle.model.specs.commands.Users.{norole, without_role, in_set}
 use Rattle.state.specs.View.{view, told}
 use Rattle.roles.proofs.Gone.{few, role-gone}
 use Rattle.roles.proofs.norole.Statement.{statement}
@@ -40,16 +40,16 @@ abbrev to-strip : tie.After-shed → tie.After-strip
 to-strip c = c.before.before.before.before.before.before.before.before.before.before.before
 
 -- what the tests find, and what is known past them
-clear-1 : (c : tie.Else1) → roleBeyond (name (to_start c)) ≡ false
-clear-1 c = sym c.before.role-beyond.ensures ∙ c.if1.false
+clear-1 : (c : tie.Else1) → role_beyond (name (to_start c)) ≡ false
+clear-1 c = sym c.before.role_beyond.ensures ∙ c.if1.false
 
 within : (c : tie.Else1) → name (to_start c) < 64
 within c = leb-false 64 (name (to_start c)) (clear-1 c)
 
-found-2 : (c : tie.After-has-role) → let s = to_start c.before.before in roleMissing (m s) (name s) ≡ not c.has-role.result
-found-2 c = ap not (sym c.has-role.ensures)
+found-2 : (c : tie.After-has-role) → let s = to_start c.before.before in role_missing (m s) (name s) ≡ not c.has_role.result
+found-2 c = ap not (sym c.has_role.ensures)
 
-clear-2 : (c : tie.Else2) → let s = to_start (to-1 c) in roleMissing (m s) (name s) ≡ false
+clear-2 : (c : tie.Else2) → let s = to_start (to-1 c) in role_missing (m s) (name s) ≡ false
 clear-2 c = found-2 c.before ∙ c.if2.false
 
 found-3 : (c : tie.After-either) → let s = to_start (to-1 c.before.before.before.before.before) in (in_set (m s).ssd (name s) || in_set (m s).dsd (name s)) ≡ c.either.result
@@ -59,19 +59,19 @@ clear-3 : (c : tie.Else3) → let s = to_start (to-1 (to-2 c)) in (in_set (m s).
 clear-3 c = found-3 c.before ∙ c.if3.false
 
 -- the stores: the role, its lines, assignments and grants, and then what is left to the sessions
-stored : (c : tie.After-put-all-active) → let s = to_start (to-1 (to-2 (to-3 (to-strip c.before.before.before.before.before.before.before)))) in view c.put-all-active.new.0 ≡ shed (withoutRole (m s) (name s))
+stored : (c : tie.After-put-all-active) → let s = to_start (to-1 (to-2 (to-3 (to-strip c.before.before.before.before.before.before.before)))) in view c.put_all_active.new.0 ≡ shed (without_role (m s) (name s))
 stored c =
     let swept = c.before.before.before.before.before.before.before in
     let t = to-strip swept in
     let u = swept.before.before.before.before.before in
     let c1 = to-1 (to-2 (to-3 t)) in
     let s = to_start c1 in
-    role-gone s.args.state.now _ _ _ _ (name s) _ _ swept.shed.result (within c1) t.before.before.juniors-table.ensures u.before.before.assigned-table.ensures t.strip.ensures u.strip2.ensures swept.shed.ensures
-    _ _ _ swept.before.before.before.before.before.before.before.before.before.count.ensures.0 c.before.before.before.put-without.ensures c.put-all-active.ensures
+    role-gone s.args.state.now _ _ _ _ (name s) _ _ swept.shed.result (within c1) t.before.before.juniors_table.ensures u.before.before.assigned_table.ensures t.strip.ensures u.strip2.ensures swept.shed.ensures
+    _ _ _ swept.before.before.before.before.before.before.before.before.before.count.ensures.0 c.before.before.before.put-without.ensures c.put_all_active.ensures
 
 returns : tie.Need-returns
 unfolding told norole settle verdict
-returns c = rw (← c.before.role-beyond.ensures, c.if1.true)
+returns c = rw (← c.before.role_beyond.ensures, c.if1.true)
 
 returns-2 : tie.Need-returns-2
 unfolding told norole settle verdict
@@ -93,7 +93,7 @@ array-write-juniors c = within (to-1 (to-2 (to-3 c.before.before)))
 add-put-without : tie.Need-overflow-add-put-without
 add-put-without c =
     let t = to-strip c.before.before in
-    omega (arith, few _ _ _ _ t.before.before.juniors-table.ensures t.strip.ensures, c.before.before.before.before.before.before.before.before.before.before.before.count.ensures.1)
+    omega (arith, few _ _ _ _ t.before.before.juniors_table.ensures t.strip.ensures, c.before.before.before.before.before.before.before.before.before.before.before.count.ensures.1)
 
 returns-4 : tie.Need-returns-4
 unfolding told norole settle verdict

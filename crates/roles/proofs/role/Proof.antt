@@ -5,9 +5,9 @@ use mathlib.Core.List.{[]}
 use mathlib.Core.Path.{◌≡◌, sym, ap, ◌∙◌}
 use Prim.Native.Nat.{ℕ}
 use Rattle.roleset.specs.Roles.{has, with}
-use Rattle.model.specs.Model.{Model, withRoles}
+use Rattle.model.specs.Model.{Model, with_roles}
 use Rattle.model.specs.Sheet.{verdict, settle, done}
-use Rattle.model.specs.commands.Naming.{roleBeyond}
+use Rattle.model.specs.commands.Naming.{role_beyond}
 use Rattle.model.specs.commands.Users.{role}
 use Rattle.state.specs.View.{view, told}
 use Rattle.roles.proofs.role.Statement.{statement}
@@ -24,15 +24,15 @@ name c = c.args.r.number
 abbrev to_start : tie.Else1 → tie.Start
 to_start c = c.before.before
 
-clear-1 : (c : tie.Else1) → roleBeyond (name (to_start c)) ≡ false
-clear-1 c = sym c.before.role-beyond.ensures ∙ c.if1.false
+clear-1 : (c : tie.Else1) → role_beyond (name (to_start c)) ≡ false
+clear-1 c = sym c.before.role_beyond.ensures ∙ c.if1.false
 
-found-2 : (c : tie.After-has-role) → let s = to_start c.before.before in has (m s).roles (name s) ≡ c.has-role.result
-found-2 c = sym c.has-role.ensures
+found-2 : (c : tie.After-has-role) → let s = to_start c.before.before in has (m s).roles (name s) ≡ c.has_role.result
+found-2 c = sym c.has_role.ensures
 
 returns : tie.Need-returns
 unfolding told role settle verdict
-returns c = rw (← c.before.role-beyond.ensures, c.if1.true)
+returns c = rw (← c.before.role_beyond.ensures, c.if1.true)
 
 returns-2 : tie.Need-returns-2
 unfolding told role settle verdict
@@ -45,7 +45,7 @@ returns-3 c =
     let c1 = c2.before.before.before in
     let s = to_start c1 in
     rw (clear-1 c1, found-2 c2.before, c2.if2.false)
-    (ap (done []) (c.put-roles.ensures ∙ ap (withRoles (m s)) (c.before.before.with.ensures.is ∙ ap (λ (x : ℕ). with x (name s)) c.before.before.before.roles.ensures)))
+    (ap (done []) (c.put_roles.ensures ∙ ap (with_roles (m s)) (c.before.before.with.ensures.is ∙ ap (λ (x : ℕ). with x (name s)) c.before.before.before.roles.ensures)))
 
 pub role-spec : {M : Type 1} → statement M
 role-spec =

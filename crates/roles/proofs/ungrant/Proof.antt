@@ -13,17 +13,17 @@ returns c =
     let kept = c.before.before.before in
     let found = kept.before.before.before.before in
     let s = found.before.before.before in
-    held (view s.args.state.now) s.args.p s.args.r.number found.before.holders-of.result found.before.holders-of.ensures _ _ _
+    held (view s.args.state.now) s.args.p s.args.r.number found.before.holders_of.result found.before.holders_of.ensures _ _ _
     (sym found.has.ensures ∙ kept.before.before.before.if1.true)
     c.before.without.ensures.is
-    (kept.less.ensures ∙ ap (λ (n : ℕ). n - 1) kept.before.grant-count.ensures)
-    c.put-holders.ensures
+    (kept.less.ensures ∙ ap (λ (n : ℕ). n - 1) kept.before.grant_count.ensures)
+    c.put_holders.ensures
 
 returns-2 : tie.Need-returns-2
 returns-2 c =
     let s = c.before.before.before.before in
-    let small : c.before.before.holders-of.result < 2 ^ 64 = omega arith in
-    not-held (view s.args.state.now) s.args.p s.args.r.number c.before.before.holders-of.result c.before.before.holders-of.ensures small (sym c.before.has.ensures ∙ c.if1.false)
+    let small : c.before.before.holders_of.result < 2 ^ 64 = omega arith in
+    not-held (view s.args.state.now) s.args.p s.args.r.number c.before.before.holders_of.result c.before.before.holders_of.ensures small (sym c.before.has.ensures ∙ c.if1.false)
 
 pub ungrant-spec : {M : Type 1} → statement M
 ungrant-spec =

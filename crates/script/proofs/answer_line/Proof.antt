@@ -11,15 +11,15 @@ use Rattle.script.proofs.Reading.{Reads, read_right, read-wrong, enough, room, o
 use Rattle.script.proofs.answer_line.Statement.{statement}
 use Rattle.script.proofs.answer_line.Tie as tie
 
-reads : (c : tie.Then1) → Reads c.before.before.before.before.before.args.text.now c.before.before.read-line.result
-reads c = read_right _ _ c.before.before.read-line.ensures c.if1.true
+reads : (c : tie.Then1) → Reads c.before.before.before.before.before.args.text.now c.before.before.read_line.result
+reads c = read_right _ _ c.before.before.read_line.ensures c.if1.true
 
 -- what the line tells is what its command or question tells
-tells : (c : tie.After-meaning) → let a = c.before.before.before.before.before.before.before.args in let l = c.before.before.before.before.read-line.result in obey (view a.state.now) a.text.now ≡ doing (view a.state.now) c.meaning.result (take (l.count - c.before.before-list.result) (drop c.before.before-list.result l.numbers))
-tells c = obeys _ _ (reads c.before.before) _ _ _ c.meaning.ensures c.before.before-list.ensures
+tells : (c : tie.After-meaning) → let a = c.before.before.before.before.before.before.before.args in let l = c.before.before.before.before.read_line.result in obey (view a.state.now) a.text.now ≡ doing (view a.state.now) c.meaning.result (take (l.count - c.before.before_list.result) (drop c.before.before_list.result l.numbers))
+tells c = obeys _ _ (reads c.before.before) _ _ _ c.meaning.ensures c.before.before_list.ensures
 
-start : (c : tie.After-before-list) → c.before-list.result ≤ c.before.before.before.read-line.result.count
-start c = omega (arith, c.before-list.ensures, enough _ _ (reads c.before))
+start : (c : tie.After-before-list) → c.before_list.result ≤ c.before.before.before.read_line.result.count
+start c = omega (arith, c.before_list.ensures, enough _ _ (reads c.before))
 
 sub-obey-command : tie.Need-overflow-sub-obey-command
 sub-obey-command c = start c.before.before.before.before.before
@@ -41,7 +41,7 @@ returns-3 c = rw (tells c.before.before.before.before.before.before, c.before.be
 
 returns-4 : tie.Need-returns-4
 unfolding obey
-returns-4 c = rw (read-wrong _ _ c.before.before.before.before.before.before.read-line.ensures c.before.before.before.before.if1.false) (record { puts = c.before.before.answer-no-line2.ensures _; state = refl })
+returns-4 c = rw (read-wrong _ _ c.before.before.before.before.before.before.read_line.ensures c.before.before.before.before.if1.false) (record { puts = c.before.before.answer-no-line2.ensures _; state = refl })
 
 pub answer-line-spec : {M : Type 1} → statement M
 answer-line-spec =

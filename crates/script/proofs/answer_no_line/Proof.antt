@@ -5,7 +5,7 @@ use Rattle.script.proofs.answer_no_line.Statement.{statement}
 use Rattle.script.proofs.answer_no_line.Tie as tie
 
 returns : tie.Need-returns
-returns c = λ m. record { text = c.before.before.answer-text.ensures; ok = refl }
+returns c = λ m. record { text = c.before.before.answer_text.ensures; ok = refl }
 
 pub answer-no-line-spec : {M : Type 1} → statement M
 answer-no-line-spec =

@@ -38,8 +38,8 @@ slice-aggregate-answer-text c = sym (length-take-le _ _ (within c.before.before.
 returns : tie.Need-returns
 returns c =
     record {
-      text = rw (← (c.before.before.before.before.before.before.number-of.ensures ∙ (reviewed c.before.before.before.before.before.before.before.before).answer), ← front c.before.before.before.before.before.before.before.before) c.before.before.answer-text.ensures;
-      ok = c.before.before.before.before.before.is-done.ensures ∙ ap (λ (n : ℕ). eqb n 0) (reviewed c.before.before.before.before.before.before.before.before).answer;
+      text = rw (← (c.before.before.before.before.before.before.number_of.ensures ∙ (reviewed c.before.before.before.before.before.before.before.before).answer), ← front c.before.before.before.before.before.before.before.before) c.before.before.answer_text.ensures;
+      ok = c.before.before.before.before.before.is_done.ensures ∙ ap (λ (n : ℕ). eqb n 0) (reviewed c.before.before.before.before.before.before.before.before).answer;
     }
 
 pub ask-question-spec : {M : Type 1} → statement M

@@ -9,16 +9,16 @@ use Rattle.script.proofs.obey_command.Statement.{statement}
 use Rattle.script.proofs.obey_command.Tie as tie
 
 -- the answer's number, and whether it is 0
-number_is : (c : tie.After-number-of) → c.number-of.result ≡ (step (view c.before.before.before.before.before.before.before.args.state.now) c.before.before.before.before.before.before.before.args.c c.before.before.before.before.before.before.before.args.list.now).answer
-number_is c = c.number-of.ensures ∙ c.before.before.before.step.ensures.answer
+number_is : (c : tie.After-number-of) → c.number_of.result ≡ (step (view c.before.before.before.before.before.before.before.args.state.now) c.before.before.before.before.before.before.before.args.c c.before.before.before.before.before.before.before.args.list.now).answer
+number_is c = c.number_of.ensures ∙ c.before.before.before.step.ensures.answer
 
-ok-is : (c : tie.After-is-done) → c.is-done.result ≡ eqb (step (view c.before.before.before.before.before.before.args.state.now) c.before.before.before.before.before.before.args.c c.before.before.before.before.before.before.args.list.now).answer 0
-ok-is c = c.is-done.ensures ∙ ap (λ (n : ℕ). eqb n 0) c.before.before.step.ensures.answer
+ok-is : (c : tie.After-is-done) → c.is_done.result ≡ eqb (step (view c.before.before.before.before.before.before.args.state.now) c.before.before.before.before.before.before.args.c c.before.before.before.before.before.before.args.list.now).answer 0
+ok-is c = c.is_done.ensures ∙ ap (λ (n : ℕ). eqb n 0) c.before.before.step.ensures.answer
 
 returns : tie.Need-returns
 returns c =
     record {
-      puts = record { text = rw (← number_is c.before.before.before.before.before.before, ← c.before.before.before.before.before.before.before.before.before.step.ensures.results, c.before.before.before.before.before.if1.true) c.before.before.answer-text.ensures; ok = ok-is c.before.before.before.before.before.before.before };
+      puts = record { text = rw (← number_is c.before.before.before.before.before.before, ← c.before.before.before.before.before.before.before.before.before.step.ensures.results, c.before.before.before.before.before.if1.true) c.before.before.answer_text.ensures; ok = ok-is c.before.before.before.before.before.before.before };
       state = c.before.before.before.before.before.before.before.before.before.step.ensures.after;
     }
 

@@ -8,8 +8,8 @@ use Prim.Native.Nat.{ℕ}
 use Rattle.roleset.specs.Roles.{has, with}
 use Rattle.model.specs.Model.{Model, Session}
 use Rattle.model.specs.Sheet.{verdict, settle}
-use Rattle.model.specs.Words.{reached, authorised, dynamicBroken}
-use Rattle.model.specs.commands.Sessions.{activate, activeSet}
+use Rattle.model.specs.Words.{reached, authorised, dynamic_broken}
+use Rattle.model.specs.commands.Sessions.{activate, active_set}
 use Rattle.model.proofs.Puts.{session-dynamic}
 use Rattle.state.specs.View.{view, told}
 use Rattle.sessions.proofs.Named.{Named, refuses, named, stored}
@@ -37,7 +37,7 @@ abbrev unauthorised : tie.Start → Bool
 unauthorised c = not (has (authorised (m c) (user c)) (role c))
 
 abbrev breaking : tie.Start → Bool
-breaking c = dynamicBroken (activeSet (m c) (number c) (with (held c) (role c))) (number c)
+breaking c = dynamic_broken (active_set (m c) (number c) (with (held c) (role c))) (number c)
 
 -- from the place past each refusal back to the one before it
 abbrev to_start : tie.Else1 → tie.Start
@@ -56,10 +56,10 @@ to-3 c = c.before.before.before.before
 past : (c : tie.Else1) → let s = to_start c in Named (m s) (user s) (number s) (role s)
 past c =
     let s = to_start c in
-    named (m s) (user s) (number s) (role s) _ c.before.before.first-refusals.ensures (sym c.before.is-done.ensures ∙ not-false _ c.if1.false)
+    named (m s) (user s) (number s) (role s) _ c.before.before.first-refusals.ensures (sym c.before.is_done.ensures ∙ not-false _ c.if1.false)
 
-active : (c : tie.After-session-at) → held (to_start c.before.before) ≡ c.session-at.result.active
-active c = ap (λ (x : Session). x.active) (sym c.session-at.ensures)
+active : (c : tie.After-session-at) → held (to_start c.before.before) ≡ c.session_at.result.active
+active c = ap (λ (x : Session). x.active) (sym c.session_at.ensures)
 
 found-2 : (c : tie.After-has) → let s = to_start c.before.before.before in has (held s) (role s) ≡ c.has.result
 found-2 c = rw (active c.before, c.has.ensures)
@@ -68,7 +68,7 @@ clear-2 : (c : tie.Else2) → let s = to_start (to-1 c) in has (held s) (role s)
 clear-2 c = found-2 c.before ∙ c.if2.false
 
 walked : (c : tie.After-reach) → let s = to_start (to-1 c.before.before.before.before) in reached (m s) ((m s).assigned (user s)) ≡ c.reach.result
-walked c = rw (← c.before.before.assigned-to.ensures) (sym c.reach.ensures.is)
+walked c = rw (← c.before.before.assigned_to.ensures) (sym c.reach.ensures.is)
 
 found-3 : (c : tie.After-has2) → unauthorised (to_start (to-1 c.before.before.before.before.before)) ≡ not c.has2.result
 found-3 c =
@@ -84,7 +84,7 @@ more : (c : tie.After-with) → let s = to_start (to-1 (to-2 c.before)) in with 
 more c = rw (active (to-2 c.before).before.before, c.with.ensures.is)
 
 found-4 : (c : tie.After-breaks-dynamic) → breaking (to_start (to-1 (to-2 c.before.before.before))) ≡ c.breaks-dynamic.result
-unfolding activeSet
+unfolding active_set
 found-4 c = session-dynamic _ _ _ ∙ rw (more c.before.before) (sym c.breaks-dynamic.ensures)
 
 clear-4 : (c : tie.Else4) → breaking (to_start (to-1 (to-2 (to-3 c)))) ≡ false
@@ -92,7 +92,7 @@ clear-4 c = found-4 c.before ∙ c.if4.false
 
 returns : tie.Need-returns
 unfolding told activate
-returns c = let s = c.before.before.before.before in refuses (m s) (user s) (number s) (role s) _ _ _ c.before.before.first-refusals.ensures (sym c.before.is-done.ensures ∙ not-true _ c.if1.true)
+returns c = let s = c.before.before.before.before in refuses (m s) (user s) (number s) (role s) _ _ _ c.before.before.first-refusals.ensures (sym c.before.is_done.ensures ∙ not-true _ c.if1.true)
 
 returns-2 : tie.Need-returns-2
 unfolding told activate settle verdict
@@ -124,7 +124,7 @@ returns-5 c =
     let p = past (to-1 c2) in
     let s = to_start (to-1 c2) in
     rw (p.within, p.there, p.own, clear-2 c2, clear-3 c3, clear-4 c4)
-    (stored (m s) _ (number s) _ _ c.put-active.ensures p.place (more c4.before.before.before))
+    (stored (m s) _ (number s) _ _ c.put_active.ensures p.place (more c4.before.before.before))
 
 pub activate-spec : {M : Type 1} → statement M
 activate-spec =

@@ -34,18 +34,18 @@ to_start c = c.before.before.before
 past : (c : tie.Else1) → let s = to_start c.before in Named (m s) (user s) (number s) (role s)
 past c =
     let s = to_start c.before in
-    named (m s) (user s) (number s) (role s) _ c.before.before.first-refusals.ensures (sym c.before.is-done.ensures ∙ not-false _ c.if1.false)
+    named (m s) (user s) (number s) (role s) _ c.before.before.first-refusals.ensures (sym c.before.is_done.ensures ∙ not-false _ c.if1.false)
 
 -- the session's active roles, as read
-active : (c : tie.After-session-at) → let s = to_start c.before.before.before in ((m s).sessions (number s)).active ≡ c.session-at.result.active
-active c = ap (λ (x : Session). x.active) (sym c.session-at.ensures)
+active : (c : tie.After-session-at) → let s = to_start c.before.before.before in ((m s).sessions (number s)).active ≡ c.session_at.result.active
+active c = ap (λ (x : Session). x.active) (sym c.session_at.ensures)
 
 found : (c : tie.After-has) → let s = to_start c.before.before.before.before in not (has ((m s).sessions (number s)).active (role s)) ≡ not c.has.result
 found c = rw (active c.before, c.has.ensures)
 
 returns : tie.Need-returns
 unfolding told drop
-returns c = let s = to_start c.before in refuses (m s) (user s) (number s) (role s) _ _ _ c.before.before.first-refusals.ensures (sym c.before.is-done.ensures ∙ not-true _ c.if1.true)
+returns c = let s = to_start c.before in refuses (m s) (user s) (number s) (role s) _ _ _ c.before.before.first-refusals.ensures (sym c.before.is_done.ensures ∙ not-true _ c.if1.true)
 
 returns-2 : tie.Need-returns-2
 unfolding told drop settle verdict
@@ -63,7 +63,7 @@ returns-3 c =
     let c2 = c.before.before.before in
     let p = past c2.before.before.before.before in
     let s = to_start c2.before.before.before.before.before in
-    rw (p.within, p.there, p.own, found c2.before ∙ c2.if2.false) (stored (m s) _ (number s) _ _ c.put-active.ensures p.place (less c.before))
+    rw (p.within, p.there, p.own, found c2.before ∙ c2.if2.false) (stored (m s) _ (number s) _ _ c.put_active.ensures p.place (less c.before))
 
 pub drop_spec : {M : Type 1} → statement M
 drop_spec =

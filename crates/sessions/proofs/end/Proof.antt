@@ -8,7 +8,7 @@ use Prim.Native.Nat.{ℕ}
 use Rattle.roleset.proofs.BoundedLaws.{or-clear}
 use Rattle.model.specs.Model.{Model, Session}
 use Rattle.model.specs.Sheet.{verdict, settle, done}
-use Rattle.model.specs.commands.Naming.{userBeyond, sessionBeyond, userMissing, sessionMissing}
+use Rattle.model.specs.commands.Naming.{user_beyond, session_beyond, user_missing, session_missing}
 use Rattle.model.specs.commands.Sessions.{end}
 use Rattle.state.specs.View.{view, told}
 use Rattle.state.proofs.Stored.{in-range}
@@ -27,10 +27,10 @@ number c = c.args.x.number
 
 -- the refusals' conditions, in the words of the definition
 abbrev beyond : tie.Start → Bool
-beyond s = userBeyond (user s) || sessionBeyond (number s)
+beyond s = user_beyond (user s) || session_beyond (number s)
 
 abbrev missing : tie.Start → Bool
-missing s = userMissing (m s) (user s) || sessionMissing (m s) (number s)
+missing s = user_missing (m s) (user s) || session_missing (m s) (number s)
 
 -- from the place past each refusal back to the one before it
 abbrev to_start : tie.Else1 → tie.Start
@@ -41,24 +41,24 @@ to-1 c = c.before.before.before.before.before.before.before
 
 -- what the tests find, and what is known past them
 found-1 : (c : tie.After-either) → beyond c.before.before.before ≡ c.either.result
-found-1 c = rw (← c.before.before.user-beyond.ensures, ← c.before.session-beyond.ensures) (sym c.either.ensures)
+found-1 c = rw (← c.before.before.user_beyond.ensures, ← c.before.session_beyond.ensures) (sym c.either.ensures)
 
 clear-1 : (c : tie.Else1) → beyond (to_start c) ≡ false
 clear-1 c = found-1 c.before ∙ c.if1.false
 
 found-2 : (c : tie.After-either2) → missing (to_start c.before.before.before.before.before.before) ≡ c.either2.result
-found-2 c = rw (← c.before.before.has-user.ensures, ← c.before.before.before.before.session-at.ensures) (sym c.either2.ensures)
+found-2 c = rw (← c.before.before.has_user.ensures, ← c.before.before.before.before.session_at.ensures) (sym c.either2.ensures)
 
 clear-2 : (c : tie.Else2) → missing (to_start (to-1 c)) ≡ false
 clear-2 c = found-2 c.before ∙ c.if2.false
 
 -- the session as it was found
 abbrev stood : tie.Else2 → Session
-stood c = c.before.before.before.before.before.session-at.result
+stood c = c.before.before.before.before.before.session_at.result
 
 -- whose the session is, in the words of the definition
 owner : (c : tie.Else2) → let s = to_start (to-1 c) in ((m s).sessions (number s)).owner ≡ (stood c).owner
-owner c = ap (λ (x : Session). x.owner) (sym c.before.before.before.before.before.session-at.ensures)
+owner c = ap (λ (x : Session). x.owner) (sym c.before.before.before.before.before.session_at.ensures)
 
 returns : tie.Need-returns
 unfolding told end settle verdict
@@ -81,7 +81,7 @@ returns-4 c =
     let c1 = to-1 c2 in
     let s = to_start c1 in
     rw (clear-1 c1, clear-2 c2, owner c2, eq-eqb (stood c2).owner (user s) c.before.before.if3.false)
-    (ap (done []) (c.close-session.ensures ∙ in-range 64 (number s) _ _ (leb-false 64 (number s) (or-clear (userBeyond (user s)) _ (clear-1 c1)).1)))
+    (ap (done []) (c.close_session.ensures ∙ in-range 64 (number s) _ _ (leb-false 64 (number s) (or-clear (user_beyond (user s)) _ (clear-1 c1)).1)))
 
 pub end-spec : {M : Type 1} → statement M
 end-spec =

@@ -27,27 +27,27 @@ to-1 c = c.before.before.before.before.before.before.before
 -- what the tests find, and what is known past them
 found-2 : (c : tie.After-either2) → absent (to_start c.before.before.before.before.before.before) ≡ c.either2.result
 found-2 c =
-    let user = c.before.before.before.before.has-user in
-    let old = c.before.before.before.before.before.session-at in
-    rw (← user.ensures, ← old.ensures, ← c.before.before.has-role.ensures, ← c.before.either.ensures) (sym c.either2.ensures)
+    let user = c.before.before.before.before.has_user in
+    let old = c.before.before.before.before.before.session_at in
+    rw (← user.ensures, ← old.ensures, ← c.before.before.has_role.ensures, ← c.before.either.ensures) (sym c.either2.ensures)
 
 clear-1 : (c : tie.Else1) → let s = (to_start c).args in beyond s.u.number s.x.number s.r.number ≡ false
-clear-1 c = sym c.before.activation-beyond.ensures ∙ c.if1.false
+clear-1 c = sym c.before.activation_beyond.ensures ∙ c.if1.false
 
 clear-2 : (c : tie.Else2) → absent (to_start (to-1 c)) ≡ false
 clear-2 c = found-2 c.before ∙ c.if2.false
 
 returns : tie.Need-returns
 unfolding verdict
-returns c = rw (← c.before.activation-beyond.ensures, c.if1.true)
+returns c = rw (← c.before.activation_beyond.ensures, c.if1.true)
 
 returns-2 : tie.Need-returns-2
 unfolding verdict
 returns-2 c = rw (clear-1 c.before.before.before.before.before.before.before, found-2 c.before ∙ c.if2.true)
 
 -- whose the session is, in the words of the definition
-owner : (c : tie.Else2) → ((m (to_start (to-1 c))).sessions (to_start (to-1 c)).args.x.number).owner ≡ c.before.before.before.before.before.before.session-at.result.owner
-owner c = ap (λ (x : Session). x.owner) (sym c.before.before.before.before.before.before.session-at.ensures)
+owner : (c : tie.Else2) → ((m (to_start (to-1 c))).sessions (to_start (to-1 c)).args.x.number).owner ≡ c.before.before.before.before.before.before.session_at.result.owner
+owner c = ap (λ (x : Session). x.owner) (sym c.before.before.before.before.before.before.session_at.ensures)
 
 returns-3 : tie.Need-returns-3
 unfolding verdict

@@ -13,15 +13,15 @@ use Rattle.numbers.specs.Ranges.{sessions}
 use Rattle.numbers.specs.declared.Session.{Session}
 use Rattle.model.specs.Model.{Model}
 use Rattle.model.specs.Sheet.{verdict, settle, done}
-use Rattle.model.specs.Words.{reached, authorised, breaksSome, dynamicBroken, sessionsOpen}
-use Rattle.model.specs.Lists.{ascending, someFrom, setOf}
-use Rattle.model.specs.commands.Naming.{userBeyond, userMissing}
-use Rattle.model.specs.commands.Sessions.{session, opened, openFor, sessionSet, lowestFree}
+use Rattle.model.specs.Words.{reached, authorised, breaks_some, dynamic_broken, sessions_open}
+use Rattle.model.specs.Lists.{ascending, some_from, set_of}
+use Rattle.model.specs.commands.Naming.{user_beyond, user_missing}
+use Rattle.model.specs.commands.Sessions.{session, opened, open_for, session_set, lowest_free}
 use Rattle.model.proofs.Puts.{session-dynamic}
 use Rattle.state.specs.Stores.{in_range}
 use Rattle.state.specs.View.{view}
 use Rattle.state.proofs.Stored.{in-range}
-use Rattle.sessions.specs.Answering.{toldOpened}
+use Rattle.sessions.specs.Answering.{told_opened}
 use Rattle.sweeps.proofs.Free.{full-free}
 use Rattle.sessions.proofs.session.Statement.{statement}
 use Rattle.sessions.proofs.session.Tie as tie
@@ -41,19 +41,19 @@ abbrev unordered : tie.Start → Bool
 unordered s = not (ascending (list s))
 
 abbrev beyond : tie.Start → Bool
-beyond s = userBeyond (user s) || someFrom 64 (list s)
+beyond s = user_beyond (user s) || some_from 64 (list s)
 
 abbrev missing : tie.Start → Bool
-missing s = userMissing (m s) (user s) || not (subset (setOf (list s)) (m s).roles)
+missing s = user_missing (m s) (user s) || not (subset (set_of (list s)) (m s).roles)
 
 abbrev unauthorised : tie.Start → Bool
-unauthorised s = not (subset (setOf (list s)) (authorised (m s) (user s)))
+unauthorised s = not (subset (set_of (list s)) (authorised (m s) (user s)))
 
 abbrev breaking : tie.Start → Bool
-breaking s = dynamicBroken (opened (m s) (user s) (setOf (list s))) (lowestFree (m s))
+breaking s = dynamic_broken (opened (m s) (user s) (set_of (list s))) (lowest_free (m s))
 
 abbrev full : tie.Start → Bool
-full s = leb sessions (sessionsOpen (m s))
+full s = leb sessions (sessions_open (m s))
 
 -- from the place past each refusal back to the one before it
 abbrev to_start : tie.Else1 → tie.Start
@@ -88,25 +88,25 @@ clear-1 : (c : tie.Else1) → unordered (to_start c) ≡ false
 clear-1 c = found-1 c.before.before ∙ c.if1.false
 
 found-2 : (c : tie.After-either) → beyond (to_start c.before.before) ≡ c.either.result
-found-2 c = rw (← c.before.user-beyond.ensures, ← c.before.before.before.before.read.ensures.beyond) (sym c.either.ensures)
+found-2 c = rw (← c.before.user_beyond.ensures, ← c.before.before.before.before.read.ensures.beyond) (sym c.either.ensures)
 
 clear-2 : (c : tie.Else2) → beyond (to_start (to-1 c)) ≡ false
 clear-2 c = found-2 c.before ∙ c.if2.false
 
 -- the set of the listed roles
-asked : (c : tie.Else1) → setOf (list (to_start c)) ≡ c.before.before.read.result.roles
+asked : (c : tie.Else1) → set_of (list (to_start c)) ≡ c.before.before.read.result.roles
 asked c = sym c.before.before.read.ensures.roles
 
 found-3 : (c : tie.After-either2) → missing (to_start (to-1 c.before.before.before.before.before.before)) ≡ c.either2.result
 found-3 c =
     let c2 = c.before.before.before.before.before.before in
-    ap₂ (λ (there all : Bool). not there || not all) (sym c.before.before.before.before.has-user.ensures) (ap₂ subset (asked (to-1 c2)) (sym c.before.before.roles.ensures) ∙ sym c.before.subset.ensures.is) ∙ sym c.either2.ensures
+    ap₂ (λ (there all : Bool). not there || not all) (sym c.before.before.before.before.has_user.ensures) (ap₂ subset (asked (to-1 c2)) (sym c.before.before.roles.ensures) ∙ sym c.before.subset.ensures.is) ∙ sym c.either2.ensures
 
 clear-3 : (c : tie.Else3) → missing (to_start (to-1 (to-2 c))) ≡ false
 clear-3 c = found-3 c.before ∙ c.if3.false
 
 walked : (c : tie.After-reach) → let s = to_start (to-1 (to-2 (from-reach c))) in reached (m s) ((m s).assigned (user s)) ≡ c.reach.result
-walked c = rw (← c.before.assigned-to.ensures) (sym c.reach.ensures.is)
+walked c = rw (← c.before.assigned_to.ensures) (sym c.reach.ensures.is)
 
 found-4 : (c : tie.After-subset2) → unauthorised (to_start (to-1 (to-2 (from-reach c.before)))) ≡ not c.subset2.result
 found-4 c = ap not (ap₂ subset (asked (to-1 (to-2 (from-reach c.before)))) (walked c.before) ∙ sym c.subset2.ensures.is)
@@ -119,46 +119,46 @@ unfolding opened
 found-5 c =
     let c1 = to-1 (to-2 (to-3 c.before.before)) in
     let s = to_start c1 in
-    let ruled : c.breaks-dynamic.result ≡ breaksSome (m s).dsd (reached (m s) c1.before.before.read.result.roles) = c.breaks-dynamic.ensures in
-    session-dynamic (m s) (lowestFree (m s)) (openFor (user s) (setOf (list s))) ∙ ap (λ (roles : ℕ). breaksSome (m s).dsd (reached (m s) roles)) (asked c1) ∙ sym ruled
+    let ruled : c.breaks-dynamic.result ≡ breaks_some (m s).dsd (reached (m s) c1.before.before.read.result.roles) = c.breaks-dynamic.ensures in
+    session-dynamic (m s) (lowest_free (m s)) (open_for (user s) (set_of (list s))) ∙ ap (λ (roles : ℕ). breaks_some (m s).dsd (reached (m s) roles)) (asked c1) ∙ sym ruled
 
 clear-5 : (c : tie.Else5) → breaking (to_start (to-1 (to-2 (to-3 (to-4 c))))) ≡ false
 clear-5 c = found-5 c.before ∙ c.if5.false
 
-found-6 : (c : tie.After-session-beyond) → full (to_start (to-1 (to-2 (to-3 (to-4 c.before.before.before))))) ≡ c.session-beyond.result
-unfolding sessionsOpen
-found-6 c = full-free (m (to_start (to-1 (to-2 (to-3 (to-4 c.before.before.before)))))).sessions ∙ ap (λ (x : Session). leb 64 x.number) (sym c.before.lowest-free.ensures) ∙ sym c.session-beyond.ensures
+found-6 : (c : tie.After-session-beyond) → full (to_start (to-1 (to-2 (to-3 (to-4 c.before.before.before))))) ≡ c.session_beyond.result
+unfolding sessions_open
+found-6 c = full-free (m (to_start (to-1 (to-2 (to-3 (to-4 c.before.before.before)))))).sessions ∙ ap (λ (x : Session). leb 64 x.number) (sym c.before.lowest_free.ensures) ∙ sym c.session_beyond.ensures
 
 clear-6 : (c : tie.Else6) → full (to_start (to-1 (to-2 (to-3 (to-4 (to-5 c)))))) ≡ false
 clear-6 c = found-6 c.before ∙ c.if6.false
 
 -- what is told where a session is opened
-stored : (m after : Model) (u n free roles kept : ℕ) → after ≡ in_range 64 n m (sessionSet m n (openFor u kept)) → n < 64 → n ≡ free → roles ≡ kept → done (n ∷ []) after ≡ done (free ∷ []) (sessionSet m free (openFor u roles))
-stored m after u n free roles kept p h e f = ap (done (n ∷ [])) (p ∙ in-range 64 n m (sessionSet m n (openFor u kept)) h) ∙ ap₂ (λ (n roles : ℕ). done (n ∷ []) (sessionSet m n (openFor u roles))) e (sym f)
+stored : (m after : Model) (u n free roles kept : ℕ) → after ≡ in_range 64 n m (session_set m n (open_for u kept)) → n < 64 → n ≡ free → roles ≡ kept → done (n ∷ []) after ≡ done (free ∷ []) (session_set m free (open_for u roles))
+stored m after u n free roles kept p h e f = ap (done (n ∷ [])) (p ∙ in-range 64 n m (session_set m n (open_for u kept)) h) ∙ ap₂ (λ (n roles : ℕ). done (n ∷ []) (session_set m n (open_for u roles))) e (sym f)
 
 returns : tie.Need-returns
-unfolding toldOpened session settle verdict
+unfolding told_opened session settle verdict
 returns c = rw c.not_opened.ensures (record { tells = rw (found-1 c.before.before.before ∙ c.before.if1.true); silent = λ h. refl })
 
 returns-2 : tie.Need-returns-2
-unfolding toldOpened session settle verdict
+unfolding told_opened session settle verdict
 returns-2 c = rw c.not-opened2.ensures (record { tells = rw (clear-1 c.before.before.before.before, found-2 c.before.before ∙ c.before.if2.true); silent = λ h. refl })
 
 returns-3 : tie.Need-returns-3
-unfolding toldOpened session settle verdict
+unfolding told_opened session settle verdict
 returns-3 c =
     let c2 = c.before.before.before.before.before.before.before.before in
     rw c.not-opened3.ensures (record { tells = rw (clear-1 (to-1 c2), clear-2 c2, found-3 c.before.before ∙ c.before.if3.true); silent = λ h. refl })
 
 returns-4 : tie.Need-returns-4
-unfolding toldOpened session settle verdict
+unfolding told_opened session settle verdict
 returns-4 c =
     let c3 = from-reach c.before.before.before in
     let c2 = to-2 c3 in
     rw c.not-opened4.ensures (record { tells = rw (clear-1 (to-1 c2), clear-2 c2, clear-3 c3, found-4 c.before.before ∙ c.before.if4.true); silent = λ h. refl })
 
 returns-5 : tie.Need-returns-5
-unfolding toldOpened session settle verdict
+unfolding told_opened session settle verdict
 returns-5 c =
     let c4 = c.before.before.before.before in
     let c3 = to-3 c4 in
@@ -166,7 +166,7 @@ returns-5 c =
     rw c.not-opened5.ensures (record { tells = rw (clear-1 (to-1 c2), clear-2 c2, clear-3 c3, clear-4 c4, found-5 c.before.before ∙ c.before.if5.true); silent = λ h. refl })
 
 returns-6 : tie.Need-returns-6
-unfolding toldOpened session settle verdict
+unfolding told_opened session settle verdict
 returns-6 c =
     let c5 = c.before.before.before.before.before in
     let c4 = to-4 c5 in
@@ -175,7 +175,7 @@ returns-6 c =
     rw c.not-opened6.ensures (record { tells = rw (clear-1 (to-1 c2), clear-2 c2, clear-3 c3, clear-4 c4, clear-5 c5, found-6 c.before.before ∙ c.before.if6.true); silent = λ h. refl })
 
 returns-7 : tie.Need-returns-7
-unfolding toldOpened session settle verdict opened
+unfolding told_opened session settle verdict opened
 returns-7 c =
     let c6 = c.before.before in
     let c5 = to-5 c6 in
@@ -184,12 +184,12 @@ returns-7 c =
     let c2 = to-2 c3 in
     let c1 = to-1 c2 in
     let s = to_start c1 in
-    let free = c6.before.before.lowest-free in
-    let number : free.result.number ≡ lowestFree (m s) = ap (λ (x : Session). x.number) free.ensures in
-    let within = leb-false 64 free.result.number (sym c6.before.session-beyond.ensures ∙ c6.if6.false) in
+    let free = c6.before.before.lowest_free in
+    let number : free.result.number ≡ lowest_free (m s) = ap (λ (x : Session). x.number) free.ensures in
+    let within = leb-false 64 free.result.number (sym c6.before.session_beyond.ensures ∙ c6.if6.false) in
     record {
       tells = rw (clear-1 c1, clear-2 c2, clear-3 c3, clear-4 c4, clear-5 c5, clear-6 c6)
-          (stored (m s) _ (user s) free.result.number _ _ _ c.open-session.ensures within number (asked c1));
+          (stored (m s) _ (user s) free.result.number _ _ _ c.open_session.ensures within number (asked c1));
       silent = λ h. clash true refl h;
     }
 

@@ -6,15 +6,15 @@ use mathlib.Core.Path.{◌≡◌, sym, ap, ◌∙◌}
 use Prim.Native.Nat.{ℕ}
 use Rattle.roleset.specs.Roles.{subset}
 use Rattle.numbers.specs.Answers.{number_of}
-use Rattle.model.specs.Lists.{ascending, someFrom, setOf}
+use Rattle.model.specs.Lists.{ascending, some_from, set_of}
 use Rattle.model.specs.Model.{Model}
 use Rattle.model.specs.Sheet.{Refusal, verdict, settle}
-use Rattle.model.specs.commands.Naming.{setBeyond}
-use Rattle.model.specs.commands.Sets.{setsOf, aSet, badCardinality, makeSet}
+use Rattle.model.specs.commands.Naming.{set_beyond}
+use Rattle.model.specs.commands.Sets.{sets_of, a_set, bad_cardinality, make_set}
 use Rattle.model.specs.declared.Kind.{Kind}
-use Rattle.state.specs.Stores.{setStored}
+use Rattle.state.specs.Stores.{set_stored}
 use Rattle.state.specs.View.{view, told}
-use Rattle.sets.specs.Asking.{ruleRefusals}
+use Rattle.sets.specs.Asking.{rule_refusals}
 use Rattle.state.proofs.Stored.{placed, within}
 use Rattle.sets.proofs.Laws.{last-refused, last_done}
 use Rattle.sets.proofs.make_set.Statement.{statement}
@@ -65,66 +65,66 @@ from-5 c = from-3 (to-3 (to-4 c))
 clear-1 : (c : tie.Else1) → not (ascending (list (to_start c))) ≡ false
 clear-1 c = ap not (sym c.before.before.read.ensures.ascending) ∙ c.if1.false
 
-asked_of : (c : tie.Else1) → setOf (list (to_start c)) ≡ c.before.before.read.result.roles
+asked_of : (c : tie.Else1) → set_of (list (to_start c)) ≡ c.before.before.read.result.roles
 asked_of c = sym c.before.before.read.ensures.roles
 
-found-2 : (c : tie.After-either) → let s = to_start c.before.before in (setBeyond (name s) || someFrom 64 (list s)) ≡ c.either.result
+found-2 : (c : tie.After-either) → let s = to_start c.before.before in (set_beyond (name s) || some_from 64 (list s)) ≡ c.either.result
 found-2 c = rw (← c.before.set_beyond.ensures, ← c.before.before.before.before.read.ensures.beyond) (sym c.either.ensures)
 
-clear-2 : (c : tie.Else2) → let s = to_start (to-1 c) in (setBeyond (name s) || someFrom 64 (list s)) ≡ false
+clear-2 : (c : tie.Else2) → let s = to_start (to-1 c) in (set_beyond (name s) || some_from 64 (list s)) ≡ false
 clear-2 c = found-2 c.before ∙ c.if2.false
 
-found-3 : (c : tie.After-subset) → let s = to_start (to-1 c.before.before.before) in not (subset (setOf (list s)) (m s).roles) ≡ not c.subset.result
+found-3 : (c : tie.After-subset) → let s = to_start (to-1 c.before.before.before) in not (subset (set_of (list s)) (m s).roles) ≡ not c.subset.result
 found-3 c = rw (asked_of (to-1 c.before.before.before), ← c.before.roles.ensures) (ap not (sym c.subset.ensures.is))
 
-clear-3 : (c : tie.Else3) → let s = from-3 c in not (subset (setOf (list s)) (m s).roles) ≡ false
+clear-3 : (c : tie.Else3) → let s = from-3 c in not (subset (set_of (list s)) (m s).roles) ≡ false
 clear-3 c = found-3 c.before ∙ c.if3.false
 
-found-4 : (c : tie.After-set-named) → let s = from-3 c.before.before in (setsOf (kind s) (m s) (name s)).there ≡ c.set-named.result.there
-found-4 c = rw (← c.set-named.ensures)
+found-4 : (c : tie.After-set-named) → let s = from-3 c.before.before in (sets_of (kind s) (m s) (name s)).there ≡ c.set_named.result.there
+found-4 c = rw (← c.set_named.ensures)
 
-clear-4 : (c : tie.Else4) → let s = from-3 (to-3 c) in (setsOf (kind s) (m s) (name s)).there ≡ false
+clear-4 : (c : tie.Else4) → let s = from-3 (to-3 c) in (sets_of (kind s) (m s) (name s)).there ≡ false
 clear-4 c = found-4 c.before ∙ c.if4.false
 
-found-5 : (c : tie.After-bad-cardinality) → let s = from-3 (to-3 c.before) in badCardinality (card s) (setOf (list s)) ≡ c.bad-cardinality.result
-found-5 c = rw (asked_of (to-1 (to-2 (to-3 c.before)))) (sym c.bad-cardinality.ensures)
+found-5 : (c : tie.After-bad-cardinality) → let s = from-3 (to-3 c.before) in bad_cardinality (card s) (set_of (list s)) ≡ c.bad_cardinality.result
+found-5 c = rw (asked_of (to-1 (to-2 (to-3 c.before)))) (sym c.bad_cardinality.ensures)
 
-clear-5 : (c : tie.Else5) → let s = from-5 c in badCardinality (card s) (setOf (list s)) ≡ false
+clear-5 : (c : tie.Else5) → let s = from-5 c in bad_cardinality (card s) (set_of (list s)) ≡ false
 clear-5 c = found-5 c.before ∙ c.if5.false
 
 -- what the rule of the set says, and what is stored
 abbrev rules : tie.Start → List Refusal
-rules s = ruleRefusals (kind s) (m s) (aSet (card s) (setOf (list s)))
+rules s = rule_refusals (kind s) (m s) (a_set (card s) (set_of (list s)))
 
 abbrev after : tie.Start → Model
-after s = setStored (kind s) (m s) (name s) (aSet (card s) (setOf (list s)))
+after s = set_stored (kind s) (m s) (name s) (a_set (card s) (set_of (list s)))
 
 asked : (c : tie.After-rule-refusal) → verdict (rules (from-5 (to-5 c))) ≡ number_of c.rule-refusal.result
 asked c = rw (asked_of (to-1 (to-2 (to-3 (to-4 (to-5 c)))))) (sym c.rule-refusal.ensures)
 
 returns : tie.Need-returns
-unfolding told makeSet settle verdict
+unfolding told make_set settle verdict
 returns c = rw (← c.before.before.read.ensures.ascending, c.if1.true)
 
 returns-2 : tie.Need-returns-2
-unfolding told makeSet settle verdict
+unfolding told make_set settle verdict
 returns-2 c = rw (clear-1 c.before.before.before, found-2 c.before ∙ c.if2.true)
 
 returns-3 : tie.Need-returns-3
-unfolding told makeSet settle verdict
+unfolding told make_set settle verdict
 returns-3 c =
     let c2 = c.before.before.before.before in
     rw (clear-1 (to-1 c2), clear-2 c2, found-3 c.before ∙ c.if3.true)
 
 returns-4 : tie.Need-returns-4
-unfolding told makeSet settle verdict
+unfolding told make_set settle verdict
 returns-4 c =
     let c3 = c.before.before.before in
     let c2 = to-2 c3 in
     rw (clear-1 (to-1 c2), clear-2 c2, clear-3 c3, found-4 c.before ∙ c.if4.true)
 
 returns-5 : tie.Need-returns-5
-unfolding told makeSet settle verdict
+unfolding told make_set settle verdict
 returns-5 c =
     let c4 = c.before.before in
     let c3 = to-3 c4 in
@@ -132,7 +132,7 @@ returns-5 c =
     rw (clear-1 (to-1 c2), clear-2 c2, clear-3 c3, clear-4 c4, found-5 c.before ∙ c.if5.true)
 
 returns-6 : tie.Need-returns-6
-unfolding told makeSet settle verdict
+unfolding told make_set settle verdict
 returns-6 c =
     let ruled = c.before.before in
     let c5 = to-5 ruled in
@@ -141,18 +141,18 @@ returns-6 c =
     let c2 = to-2 c3 in
     let s = from-5 c5 in
     rw (clear-1 (to-1 c2), clear-2 c2, clear-3 c3, clear-4 c4, clear-5 c5)
-    (last-refused (rules s) (m s) (after s) ruled.rule-refusal.result (asked ruled) _ c.before.is-done.ensures c.if6.true)
+    (last-refused (rules s) (m s) (after s) ruled.rule-refusal.result (asked ruled) _ c.before.is_done.ensures c.if6.true)
 
 -- the store: the new set
-stored : (c : tie.After-put-set) → let s = from-5 (to-5 c.before.before.before.before) in view c.put-set.new.0 ≡ after s
+stored : (c : tie.After-put-set) → let s = from-5 (to-5 c.before.before.before.before) in view c.put_set.new.0 ≡ after s
 stored c =
     let c5 = to-5 c.before.before.before.before in
     let c2 = to-2 (to-3 (to-4 c5)) in
     let s = from-5 c5 in
-    rw (asked_of (to-1 c2)) (placed 16 (name s) (m s) (setStored (kind s) (m s) (name s) (aSet (card s) (to-1 c2).before.before.read.result.roles)) _ (within 16 (name s) (someFrom 64 (list s)) (clear-2 c2)) c.put-set.ensures)
+    rw (asked_of (to-1 c2)) (placed 16 (name s) (m s) (set_stored (kind s) (m s) (name s) (a_set (card s) (to-1 c2).before.before.read.result.roles)) _ (within 16 (name s) (some_from 64 (list s)) (clear-2 c2)) c.put_set.ensures)
 
 returns-7 : tie.Need-returns-7
-unfolding told makeSet settle verdict
+unfolding told make_set settle verdict
 returns-7 c =
     let c6 = c.before.before in
     let ruled = c6.before.before in
@@ -162,7 +162,7 @@ returns-7 c =
     let c2 = to-2 c3 in
     let s = from-5 c5 in
     rw (clear-1 (to-1 c2), clear-2 c2, clear-3 c3, clear-4 c4, clear-5 c5)
-    (last_done (rules s) (m s) (after s) ruled.rule-refusal.result (asked ruled) _ c6.before.is-done.ensures c6.if6.false _ (stored c))
+    (last_done (rules s) (m s) (after s) ruled.rule-refusal.result (asked ruled) _ c6.before.is_done.ensures c6.if6.false _ (stored c))
 
 pub make-set-spec : {M : Type 1} → statement M
 make-set-spec =

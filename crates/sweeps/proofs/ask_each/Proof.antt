@@ -9,22 +9,22 @@ use lib.ListN.{length}
 use Rattle.roleset.specs.Bounded.{some}
 use Rattle.roleset.proofs.BoundedLaws.{some-start}
 use Rattle.hierarchy.specs.Lines.{table_of}
-use Rattle.model.specs.Words.{breaksSome}
-use Rattle.model.specs.commands.Sets.{setsOf}
+use Rattle.model.specs.Words.{breaks_some}
+use Rattle.model.specs.commands.Sets.{sets_of}
 use Rattle.state.specs.View.{view}
 use Rattle.sweeps.proofs.Asking.{breaking, passed-walk, passed-idle, asks-walk}
 use Rattle.sweeps.proofs.ask_each.Statement.{statement}
 use Rattle.sweeps.proofs.ask_each.Tie as tie
 
 abbrev invariant-loop : tie.invariant-loop
-invariant-loop state kind juniors own i₀ i = (i ≤ length own) × (breaksSome (setsOf kind (view state)) 0 ≡ false → some i (breaking (breaksSome (setsOf kind (view state))) (table_of juniors) (table_of own)) ≡ false)
+invariant-loop state kind juniors own i₀ i = (i ≤ length own) × (breaks_some (sets_of kind (view state)) 0 ≡ false → some i (breaking (breaks_some (sets_of kind (view state))) (table_of juniors) (table_of own)) ≡ false)
 
 abbrev decreases-loop : tie.decreases-loop
 decreases-loop state kind juniors own i₀ i = length own - i
 
 -- the rule, the lines and the roles that each has itself
 abbrev rule : tie.Start invariant-loop decreases-loop → ℕ → Bool
-rule c = breaksSome (setsOf c.args.kind (view c.args.state.now))
+rule c = breaks_some (sets_of c.args.kind (view c.args.state.now))
 
 abbrev lines : tie.Start invariant-loop decreases-loop → ℕ → ℕ
 lines c = table_of c.args.juniors.now
@@ -39,13 +39,13 @@ returns : tie.Need-returns invariant-loop decreases-loop
 returns c =
     let at = c.before.before.before.before.before.before in
     let s = at.before.before in
-    λ idle. asks-walk (rule s) (lines s) (table_of (own s)) (length (own s)) at.loop.i (table_of (own s) at.loop.i) c.before.before.reach.result c.before.before.before.before.before.loop-test.true refl c.before.before.reach.ensures.is (sym c.before.breaks-some.ensures ∙ c.if2.true)
+    λ idle. asks-walk (rule s) (lines s) (table_of (own s)) (length (own s)) at.loop.i (table_of (own s) at.loop.i) c.before.before.reach.result c.before.before.before.before.before.loop-test.true refl c.before.before.reach.ensures.is (sym c.before.breaks_some.ensures ∙ c.if2.true)
 
 loop-again : tie.Need-loop-preserved invariant-loop decreases-loop
 loop-again c =
     let at = c.before.before.before.before.before.before in
     let s = at.before.before in
-    (omega arith, λ idle. passed-walk (rule s) (lines s) (table_of (own s)) at.loop.i (table_of (own s) at.loop.i) c.before.before.reach.result refl c.before.before.reach.ensures.is (sym c.before.breaks-some.ensures ∙ c.if2.false) (at.loop.invariant.1 idle))
+    (omega arith, λ idle. passed-walk (rule s) (lines s) (table_of (own s)) at.loop.i (table_of (own s) at.loop.i) c.before.before.reach.result refl c.before.before.reach.ensures.is (sym c.before.breaks_some.ensures ∙ c.if2.false) (at.loop.invariant.1 idle))
 
 loop-again-2 : tie.Need-loop-preserved-2 invariant-loop decreases-loop
 loop-again-2 c =

@@ -5,25 +5,25 @@ use mathlib.Core.Bool.{Bool, false}
 use mathlib.Core.Path.{◌≡◌, sym, ◌∙◌}
 use Prim.Native.Nat.{ℕ}
 use Rattle.hierarchy.specs.Lines.{table_of}
-use Rattle.model.specs.Words.{breaksSome}
-use Rattle.model.specs.commands.Sets.{setsOf, asked_of}
+use Rattle.model.specs.Words.{breaks_some}
+use Rattle.model.specs.commands.Sets.{sets_of, asked_of}
 use Rattle.model.specs.declared.Kind.TheVariants.{Static, Dynamic}
 use Rattle.separation.proofs.Breaking.{some-any, some-grows}
 use Rattle.state.specs.View.{view}
-use Rattle.sweeps.specs.Sweeps.{ownRoles}
+use Rattle.sweeps.specs.Sweeps.{own_roles}
 use Rattle.sweeps.proofs.Asking.{asks_none, asks-any, asked-some, all_held, table-of, asked-of-table}
 use Rattle.sweeps.proofs.ask_rule.Statement.{statement}
 use Rattle.sweeps.proofs.ask_rule.Tie as tie
 
 -- the rule, the lines and the roles that each has itself
 abbrev rule : tie.Start → ℕ → Bool
-rule c = breaksSome (setsOf c.args.kind (view c.args.state.now))
+rule c = breaks_some (sets_of c.args.kind (view c.args.state.now))
 
 abbrev lines : tie.Start → ℕ → ℕ
 lines c = table_of c.args.juniors.now
 
 abbrev own : tie.Start → ℕ → ℕ
-own c = ownRoles c.args.kind (view c.args.state.now)
+own c = own_roles c.args.kind (view c.args.state.now)
 
 -- of how many it is asked
 abbrev all : tie.Start → ℕ
@@ -32,7 +32,7 @@ all c = asked_of c.args.kind
 returns : tie.Need-returns
 returns c =
     let s = c.before.before in
-    asks-any (rule s) (lines s) (own s) (all s) (asked-some s.args.kind) (λ held. some-any _ held (sym c.before.breaks-some.ensures ∙ c.if1.true))
+    asks-any (rule s) (lines s) (own s) (all s) (asked-some s.args.kind) (λ held. some-any _ held (sym c.before.breaks_some.ensures ∙ c.if1.true))
 
 returns-2 : tie.Need-returns-2
 returns-2 c =
@@ -41,7 +41,7 @@ returns-2 c =
 
 -- having no role breaks none
 idle : (c : tie.Else1) → rule c.before.before 0 ≡ false
-idle c = sym c.before.breaks-some.ensures ∙ c.if1.false
+idle c = sym c.before.breaks_some.ensures ∙ c.if1.false
 
 returns-3 : tie.Need-returns-3
 returns-3 c =

@@ -9,7 +9,7 @@ use Rattle.model.specs.commands.Sets.{asked_of, broken}
 use Rattle.model.specs.declared.Kind.TheVariants.{Static, Dynamic}
 use Rattle.separation.proofs.Breaking.{breaks-any}
 use Rattle.state.specs.View.{view}
-use Rattle.sweeps.specs.Sweeps.{ownRoles}
+use Rattle.sweeps.specs.Sweeps.{own_roles}
 use Rattle.sweeps.proofs.Asking.{breaking, set-broken, asks-any, asked-some, table-of, asked-of-table}
 use Rattle.sweeps.proofs.ask_set.Statement.{statement}
 use Rattle.sweeps.proofs.ask_set.Tie as tie
@@ -22,7 +22,7 @@ abbrev lines : tie.Start → ℕ → ℕ
 lines c = (view c.args.state.now).juniors
 
 abbrev own : tie.Start → ℕ → ℕ
-own c = ownRoles c.args.kind (view c.args.state.now)
+own c = own_roles c.args.kind (view c.args.state.now)
 
 -- of how many it is asked
 abbrev all : tie.Start → ℕ

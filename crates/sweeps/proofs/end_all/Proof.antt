@@ -4,7 +4,7 @@ use mathlib.Core.Logic.{⊎_elim}
 use mathlib.Core.Path.{◌≡◌, sym, ap, ◌∙◌}
 use Prim.Native.Nat.{◌≤◌, ◌-◌}
 use native.Mathlib.Omega.{arith}
-use Rattle.model.specs.commands.Users.{openOf, ended_of}
+use Rattle.model.specs.commands.Users.{open_of, ended_of}
 use Rattle.state.specs.View.{view}
 use Rattle.state.proofs.Stored.{in-range}
 use Rattle.sweeps.proofs.Shedding.{view-past}
@@ -22,8 +22,8 @@ loop-holds : tie.Need-loop-init invariant-loop decreases-loop
 loop-holds c = (omega arith, ended-start _ _)
 
 -- the session that the turn is about, as it was at the start
-found : (c : tie.After-session-at invariant-loop decreases-loop) → let at = c.before.before.before in c.session-at.result ≡ (view at.before.args.state.now).sessions at.loop.k
-found c = c.session-at.ensures ∙ c.before.before.before.loop.invariant.1.left _ (omega arith)
+found : (c : tie.After-session-at invariant-loop decreases-loop) → let at = c.before.before.before in c.session_at.result ≡ (view at.before.args.state.now).sessions at.loop.k
+found c = c.session_at.ensures ∙ c.before.before.before.loop.invariant.1.left _ (omega arith)
 
 loop-again : tie.Need-loop-preserved invariant-loop decreases-loop
 loop-again c =
@@ -31,9 +31,9 @@ loop-again c =
     let m = view at.before.args.state.now in
     let u = at.before.args.u.number in
     let k = at.loop.k in
-    let session = c.before.before.session-at.result in
+    let session = c.before.before.session_at.result in
     let now = found c.before.before in
-    let asked : openOf u session ≡ c.before.open_of.result = sym c.before.open_of.ensures in
+    let asked : open_of u session ≡ c.before.open_of.result = sym c.before.open_of.ensures in
     ⊎_elim
     (λ w. (omega arith, ended-one m u k (view at.loop.state) (view c.if1.state) at.loop.invariant.1 (ap view w.3 ∙ w.2.ensures ∙ in-range 64 k _ _ (omega arith)) (end-own u session (asked ∙ w.0.taken) ∙ ap (ended_of u) now)))
     (λ w. (omega arith, rw w.1 (ended-none m u k (view at.loop.state) at.loop.invariant.1 (rw now at (end-other u session (asked ∙ w.0.left))))))

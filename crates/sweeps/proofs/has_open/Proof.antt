@@ -6,13 +6,13 @@ use Prim.Native.Nat.{ℕ, ◌≤◌, ◌-◌}
 use native.Mathlib.Omega.{arith}
 use Rattle.roleset.specs.Bounded.{some}
 use Rattle.roleset.proofs.BoundedLaws.{some-start, some_more, some-intro}
-use Rattle.model.specs.commands.Users.{openOf, hasOpen}
+use Rattle.model.specs.commands.Users.{open_of, has_open}
 use Rattle.state.specs.View.{view}
 use Rattle.sweeps.proofs.has_open.Statement.{statement}
 use Rattle.sweeps.proofs.has_open.Tie as tie
 
 abbrev invariant-loop : tie.invariant-loop
-invariant-loop state u k₀ k = (k ≤ 64) × (some k (λ s. openOf u.number ((view state).sessions s)) ≡ false)
+invariant-loop state u k₀ k = (k ≤ 64) × (some k (λ s. open_of u.number ((view state).sessions s)) ≡ false)
 
 abbrev decreases-loop : tie.decreases-loop
 decreases-loop state u k₀ k = 64 - k
@@ -22,14 +22,14 @@ loop-holds c = (omega arith, some-start _)
 
 -- what is asked of each session
 abbrev asked : tie.Start invariant-loop decreases-loop → ℕ → Bool
-asked c s = openOf c.args.u.number ((view c.args.state.now).sessions s)
+asked c s = open_of c.args.u.number ((view c.args.state.now).sessions s)
 
 -- what is found of one session
 found : (c : tie.After-open-of invariant-loop decreases-loop) → asked c.before.before.before.before c.before.before.before.loop.at ≡ c.open_of.result
-found c = ap (openOf c.before.before.before.before.args.u.number) (sym c.before.session-at.ensures) ∙ sym c.open_of.ensures
+found c = ap (open_of c.before.before.before.before.args.u.number) (sym c.before.session_at.ensures) ∙ sym c.open_of.ensures
 
 returns : tie.Need-returns invariant-loop decreases-loop
-unfolding hasOpen
+unfolding has_open
 returns c =
     let place = c.before.before.before.before in
     sym (some-intro 64 (asked place.before) place.loop.at c.before.before.before.loop-test.true (found c.before ∙ c.if1.true))
@@ -38,7 +38,7 @@ loop-again : tie.Need-loop-preserved invariant-loop decreases-loop
 loop-again c = (omega arith, some_more _ _ c.before.before.before.before.loop.invariant.1 (found c.before ∙ c.if1.false))
 
 returns-2 : tie.Need-returns-2 invariant-loop decreases-loop
-unfolding hasOpen
+unfolding has_open
 returns-2 c = let whole : c.before.loop.at ≡ 64 = omega arith in sym (rw whole at c.before.loop.invariant.1)
 
 pub has-open-spec : {M : Type 1} → statement M

@@ -6,14 +6,14 @@ use native.Mathlib.Omega.{arith}
 use borrow.Author.Tests.{not-true, not-false}
 use Rattle.numbers.specs.declared.Session as numbered
 use Rattle.model.specs.Model.{Session}
-use Rattle.model.specs.commands.Sessions.{freeFrom}
+use Rattle.model.specs.commands.Sessions.{free_from}
 use Rattle.state.specs.View.{view}
 use Rattle.sweeps.proofs.Free.{look-on, look-found, look-end}
 use Rattle.sweeps.proofs.lowest_free.Statement.{statement}
 use Rattle.sweeps.proofs.lowest_free.Tie as tie
 
 abbrev invariant-loop : tie.invariant-loop
-invariant-loop state k₀ k = (k ≤ 64) × (freeFrom (view state).sessions (64 - k) k ≡ freeFrom (view state).sessions 64 0)
+invariant-loop state k₀ k = (k ≤ 64) × (free_from (view state).sessions (64 - k) k ≡ free_from (view state).sessions 64 0)
 
 abbrev decreases-loop : tie.decreases-loop
 decreases-loop state k₀ k = 64 - k
@@ -26,8 +26,8 @@ abbrev sessions : tie.At-loop invariant-loop decreases-loop → ℕ → Session
 sessions c = (view c.before.args.state.now).sessions
 
 -- whether the session is live
-found : (c : tie.After-session-at invariant-loop decreases-loop) → (sessions c.before.before c.before.before.loop.k).live ≡ c.session-at.result.live
-found c = ap (λ (s : Session). s.live) (sym c.session-at.ensures)
+found : (c : tie.After-session-at invariant-loop decreases-loop) → (sessions c.before.before c.before.before.loop.k).live ≡ c.session_at.result.live
+found c = ap (λ (s : Session). s.live) (sym c.session_at.ensures)
 
 -- the session with a number
 abbrev session : ℕ → numbered.Session

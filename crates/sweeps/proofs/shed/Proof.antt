@@ -26,7 +26,7 @@ loop-again c =
     let args = at.before.args in
     let j = table_of args.juniors.now in
     let a = part args.assigned.now 0 256 in
-    (omega arith, swept-store _ _ 64 at.loop.k at.loop.active _ (omega arith) (c.left-to.ensures ∙ ap (λ (s : Session). (shedded j a s).active) c.before.session-at.ensures) at.loop.invariant.1)
+    (omega arith, swept-store _ _ 64 at.loop.k at.loop.active _ (omega arith) (c.left-to.ensures ∙ ap (λ (s : Session). (shedded j a s).active) c.before.session_at.ensures) at.loop.invariant.1)
 
 returns : tie.Need-returns invariant-loop decreases-loop
 returns c =

@@ -4,13 +4,13 @@ use mathlib.Core.Path.{◌≡◌, refl, ap}
 use Prim.Native.Nat.{◌+◌, ◌≤◌, ◌<◌, ◌-◌}
 use native.Mathlib.Omega.{arith}
 use lib.ListN.{length}
-use Rattle.textlines.specs.Parts.{partAt}
+use Rattle.textlines.specs.Parts.{part_at}
 use Rattle.textlines.proofs.Laws.{part-stops, part-goes-on, part_none}
 use Rattle.textlines.proofs.end_of.Statement.{statement}
 use Rattle.textlines.proofs.end_of.Tie as tie
 
 abbrev invariant-loop : tie.invariant-loop
-invariant-loop s at stop end₀ end = (end ≤ length s) × (end + length (partAt stop s end) ≡ at + length (partAt stop s at))
+invariant-loop s at stop end₀ end = (end ≤ length s) × (end + length (part_at stop s end) ≡ at + length (part_at stop s at))
 
 abbrev decreases-loop : tie.decreases-loop
 decreases-loop s at stop end₀ end = length s - end

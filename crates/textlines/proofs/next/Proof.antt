@@ -43,7 +43,7 @@ use denote.Triple.Spec.{Meets, triple_of}
 use denote.Triple.Table.{entered, cited}
 use denote.Triple.Walked.{says, Stays, stay_ref, stay_none, walk_of, Goes-none, Goes-ref, Walks, ends_at, walked, walk_Meets}
 use denote.Exit.{yes}
-use Rattle.textlines.specs.Parts.{partAt, placePast}
+use Rattle.textlines.specs.Parts.{part_at, place_past}
 use Rattle.textlines.specs.declared.Reader.{Reader}
 use Rattle.textlines.specs.contracts.Reader as T
 use Rattle.textlines.proofs.Reader.TheLaws as T'
@@ -118,10 +118,10 @@ module _ {M : Type 1} {𝓤 : Ura M} (𝓛 : Logic 𝓤) (at_mem : Memory → SP
 
   -- what the function finds, and the place that it moves to
   abbrev found : List ℕ
-  found = partAt n h.src.now h.at
+  found = part_at n h.src.now h.at
 
   abbrev place : ℕ
-  place = placePast n h.src.now h.at
+  place = place_past n h.src.now h.at
 
   abbrev Post : Val → SProp 𝓤
   Post = (walk_of 𝓛 next.ended stayed (next.clauses 𝓛 at_mem run)).post (((κ, (κ', tt)), (q, (q', tt)), bounds, x, at), tt)

@@ -45,7 +45,7 @@ use denote.Triple.Spec.{Meets, triple_of}
 use denote.Triple.Table.{entered, cited}
 use denote.Triple.Walked.{says, Stays, stay_ref, stay_none, stay_none_slice, walk_of, Goes-none, Goes-none_slice, Goes-ref, Walks, ends_at, walked, walk_Meets}
 use denote.Exit.{yes}
-use Rattle.textlines.specs.Parts.{part_at, placePast}
+use Rattle.textlines.specs.Parts.{part_at, place_past}
 use Rattle.textlines.specs.declared.Reader.{Reader}
 use Rattle.textlines.specs.contracts.Reader as T
 use Rattle.textlines.proofs.Reader.TheLaws as T'
@@ -116,7 +116,7 @@ module _ {M : Type 1} {𝓤 : Ura M} (𝓛 : Logic 𝓤) (at_mem : Memory → SP
 
   -- what `next` says of the part and of the reader that it leaves
   abbrev Said : Bor (List ℕ) → Reader → Type 0
-  Said p z = (p.now ≡ part_at n s.now a) × ((z.src ≡ s) × (z.at ≡ placePast n s.now a))
+  Said p z = (p.now ≡ part_at n s.now a) × ((z.src ≡ s) × (z.at ≡ place_past n s.now a))
 
   abbrev Post : Val → SProp 𝓤
   Post = (walk_of 𝓛 next-from.ended stayed (next-from.clauses 𝓛 at_mem run)).post (((κ, (κ', tt)), (q, (q', tt)), tt, x, at), tt)
@@ -136,7 +136,7 @@ module _ {M : Type 1} {𝓤 : Ura M} (𝓛 : Logic 𝓤) (at_mem : Memory → SP
       nothing ! $ move ! (2 ∷ 0 ∷ []) $ join ! $ move ! (1 ∷ 0 ∷ []) $ join ! $ move ! (1 ∷ []) $
       nothing ! $ owned ! u8 (Is u8) (uint_Makes 𝓛 w8) n _ (refl, n-fits) $ fjoin ! $ move ! (1 ∷ 0 ∷ []) $ fjoin ! $ move ! (1 ∷ 0 ∷ []) $ join ! $ frame ! $ done !
 
-  exits : (m : ℕ) (p : Bor (List ℕ)) (u : Val) → p.now ≡ part_at n s.now a → m ≡ placePast n s.now a
+  exits : (m : ℕ) (p : Bor (List ℕ)) (u : Val) → p.now ≡ part_at n s.now a → m ≡ place_past n s.now a
       → ent 𝓤 (⋆ 𝓛 (‵ (fobs γ (usize.coded.code m)) ∷ ‵ (fbor κ' (Body (mem usize) b o γ)) ∷ ‵ (flft κ' q') ∷ ‵ (flft κ Lq) ∷ (‵ (flft κ Rq) ⊛ ‵ ftrue) ∷ ‵ ((ShrSlice (named 0) κ u8).own_val p (u ∷ [])) ∷ ‵ Src ∷ [])) (Post u)
   exits m p u f e =
       qed 𝓛 (‵ (fobs γ (usize.coded.code m)) ∷ ‵ (fbor κ' (Body (mem usize) b o γ)) ∷ ‵ (flft κ' q') ∷ ‵ (flft κ Lq) ∷ (‵ (flft κ Rq) ⊛ ‵ ftrue) ∷ ‵ ((ShrSlice (named 0) κ u8).own_val p (u ∷ [])) ∷ ‵ Src ∷ []) ∵

@@ -4,7 +4,7 @@ use mathlib.Core.Path.{◌≡◌, sym, ap, ◌∙◌}
 use Prim.Native.Nat.{ℕ, ◌≤◌, ◌-◌}
 use native.Mathlib.Omega.{arith}
 use lib.ListN.{length, take, drop}
-use Rattle.textlines.specs.Parts.{partAt}
+use Rattle.textlines.specs.Parts.{part_at}
 use Rattle.textlines.proofs.Laws.{part-within, part-front, part_none}
 use Rattle.textlines.proofs.part_at.Statement.{statement}
 use Rattle.textlines.proofs.part_at.Tie as tie
@@ -14,7 +14,7 @@ part-result-end c = let h : c.before.before.before.args.at ≤ length c.before.b
 
 returns : tie.Need-returns
 returns c =
-    let e : c.before.end_of_lem.result - c.before.before.before.before.args.at ≡ length (partAt c.before.before.before.before.args.stop c.before.before.before.before.args.s.now c.before.before.before.before.args.at) = omega (arith, c.before.end_of_lem.ensures) in
+    let e : c.before.end_of_lem.result - c.before.before.before.before.args.at ≡ length (part_at c.before.before.before.before.args.stop c.before.before.before.before.args.s.now c.before.before.before.before.args.at) = omega (arith, c.before.end_of_lem.ensures) in
     ap (λ (n : ℕ). take n (drop c.before.before.before.before.args.at c.before.before.before.before.args.s.now)) e ∙ part-front c.before.before.before.before.args.stop c.before.before.before.before.args.s.now c.before.before.before.before.args.at
 
 returns-2 : tie.Need-returns-2

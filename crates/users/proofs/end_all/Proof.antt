@@ -6,8 +6,8 @@ use mathlib.Core.Path.{◌≡◌, sym, ap, ◌∙◌}
 use Prim.Native.Nat.{ℕ}
 use Rattle.model.specs.Model.{Model}
 use Rattle.model.specs.Sheet.{verdict, settle, done}
-use Rattle.model.specs.commands.Naming.{userBeyond, userMissing}
-use Rattle.model.specs.commands.Users.{endAll}
+use Rattle.model.specs.commands.Naming.{user_beyond, user_missing}
+use Rattle.model.specs.commands.Users.{end_all}
 use Rattle.state.specs.View.{view, told}
 use Rattle.users.proofs.end_all.Statement.{statement}
 use Rattle.users.proofs.end_all.Tie as tie
@@ -23,26 +23,26 @@ name c = c.args.u.number
 abbrev to_start : tie.Else1 → tie.Start
 to_start c = c.before.before
 
-clear-1 : (c : tie.Else1) → userBeyond (name (to_start c)) ≡ false
-clear-1 c = sym c.before.user-beyond.ensures ∙ c.if1.false
+clear-1 : (c : tie.Else1) → user_beyond (name (to_start c)) ≡ false
+clear-1 c = sym c.before.user_beyond.ensures ∙ c.if1.false
 
-found-2 : (c : tie.After-has-user) → let s = to_start c.before.before in userMissing (m s) (name s) ≡ not c.has-user.result
-found-2 c = ap not (sym c.has-user.ensures)
+found-2 : (c : tie.After-has-user) → let s = to_start c.before.before in user_missing (m s) (name s) ≡ not c.has_user.result
+found-2 c = ap not (sym c.has_user.ensures)
 
 returns : tie.Need-returns
-unfolding told endAll settle verdict
-returns c = rw (← c.before.user-beyond.ensures, c.if1.true)
+unfolding told end_all settle verdict
+returns c = rw (← c.before.user_beyond.ensures, c.if1.true)
 
 returns-2 : tie.Need-returns-2
-unfolding told endAll settle verdict
+unfolding told end_all settle verdict
 returns-2 c = rw (clear-1 c.before.before.before, found-2 c.before ∙ c.if2.true)
 
 returns-3 : tie.Need-returns-3
-unfolding told endAll settle verdict
+unfolding told end_all settle verdict
 returns-3 c =
     let c2 = c.before.before in
     let c1 = c2.before.before.before in
-    rw (clear-1 c1, found-2 c2.before ∙ c2.if2.false) (ap (done []) c.end-all.ensures)
+    rw (clear-1 c1, found-2 c2.before ∙ c2.if2.false) (ap (done []) c.end_all.ensures)
 
 pub end-all-spec : {M : Type 1} → statement M
 end-all-spec = tie.close (tie.spec (λ c κs. search rules) returns (λ c κs. search rules) returns-2 (λ c κs. search rules) returns-3)

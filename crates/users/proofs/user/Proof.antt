@@ -7,7 +7,7 @@ use mathlib.Core.Path.{◌≡◌, sym, ap, ◌∙◌}
 use Prim.Native.Nat.{ℕ}
 use Rattle.model.specs.Model.{Model}
 use Rattle.model.specs.Sheet.{verdict, settle, done}
-use Rattle.model.specs.commands.Naming.{userBeyond}
+use Rattle.model.specs.commands.Naming.{user_beyond}
 use Rattle.model.specs.commands.Users.{user}
 use Rattle.state.specs.View.{view, told}
 use Rattle.state.proofs.Stored.{in-range}
@@ -25,15 +25,15 @@ name c = c.args.u.number
 abbrev to_start : tie.Else1 → tie.Start
 to_start c = c.before.before
 
-clear-1 : (c : tie.Else1) → userBeyond (name (to_start c)) ≡ false
-clear-1 c = sym c.before.user-beyond.ensures ∙ c.if1.false
+clear-1 : (c : tie.Else1) → user_beyond (name (to_start c)) ≡ false
+clear-1 c = sym c.before.user_beyond.ensures ∙ c.if1.false
 
-found-2 : (c : tie.After-has-user) → let s = to_start c.before.before in (m s).users (name s) ≡ c.has-user.result
-found-2 c = sym c.has-user.ensures
+found-2 : (c : tie.After-has-user) → let s = to_start c.before.before in (m s).users (name s) ≡ c.has_user.result
+found-2 c = sym c.has_user.ensures
 
 returns : tie.Need-returns
 unfolding told user settle verdict
-returns c = rw (← c.before.user-beyond.ensures, c.if1.true)
+returns c = rw (← c.before.user_beyond.ensures, c.if1.true)
 
 returns-2 : tie.Need-returns-2
 unfolding told user settle verdict
@@ -45,7 +45,7 @@ returns-3 c =
     let c2 = c.before.before in
     let c1 = c2.before.before.before in
     let s = to_start c1 in
-    rw (clear-1 c1, found-2 c2.before, c2.if2.false) (ap (done []) (c.put-user.ensures ∙ in-range 256 (name s) (m s) _ (leb-false 256 (name s) (clear-1 c1))))
+    rw (clear-1 c1, found-2 c2.before, c2.if2.false) (ap (done []) (c.put_user.ensures ∙ in-range 256 (name s) (m s) _ (leb-false 256 (name s) (clear-1 c1))))
 
 pub user-spec : {M : Type 1} → statement M
 user-spec =

@@ -1,7 +1,7 @@
 -- It is the walk with 64 roles allowed, begun with none met. Assumes nothing.
 use borrow.Author.Rules.{rules}
 use mathlib.Core.Path.{◌∙◌}
-use Rattle.state.specs.Places.{juniorsAt}
+use Rattle.state.specs.Places.{juniors_at}
 use Rattle.state.specs.View.{part, view}
 use Rattle.hierarchy.specs.Walks.{reach}
 use Rattle.hierarchy.proofs.Fronts.{walk-begun}
@@ -12,7 +12,7 @@ use Rattle.walking.proofs.reach.Tie as tie
 returns : tie.Need-returns
 unfolding reach view
 returns c =
-    let lines = part c.before.args.state.now juniorsAt 64 in
+    let lines = part c.before.args.state.now juniors_at 64 in
     reach-reaches lines c.before.args.from c.walk_from.result (c.walk_from.ensures ∙ walk-begun lines 64 c.before.args.from)
 
 pub reach-spec : {M : Type 1} → statement M

@@ -5,14 +5,14 @@ use Prim.Native.Nat.{◌<◌}
 use native.Mathlib.Omega.{arith}
 use lib.ListN.{length, take, length-take, get_or-eq_default}
 use lib.Seq.{get_or-take}
-use Rattle.words.proofs.Rows.{getD-within}
+use Rattle.words.proofs.Rows.{get_d-within}
 use Rattle.words.proofs.letter.Statement.{statement}
 use Rattle.words.proofs.letter.Tie as tie
 
 returns : tie.Need-returns
 returns c =
     let whole : c.before.args.i < length c.before.args.t1 = omega arith in
-    getD-within c.before.args.t1 c.before.args.i 0 32 whole ∙ sym (get_or-take 14 c.before.args.t1 c.before.args.i 32 c.if1.true)
+    get_d-within c.before.args.t1 c.before.args.i 0 32 whole ∙ sym (get_or-take 14 c.before.args.t1 c.before.args.i 32 c.if1.true)
 
 returns-2 : tie.Need-returns-2
 returns-2 c = sym (get_or-eq_default (take 14 c.before.args.t1) 32 (omega (arith, length-take 14 c.before.args.t1)))

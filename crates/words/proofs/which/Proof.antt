@@ -6,7 +6,7 @@ use Prim.Native.Nat.{ℕ, ◌+◌, ◌≤◌, ◌-◌}
 use native.Mathlib.Omega.{arith}
 use lib.ListN.{get_or, drop}
 use Rattle.words.specs.Bytes.{same}
-use Rattle.words.specs.ScriptWords.{words, wordCount, spelling, place_in, which}
+use Rattle.words.specs.ScriptWords.{words, word_count, spelling, place_in, which}
 use Rattle.words.specs.Rows.{row, letters}
 use Rattle.words.proofs.Laws.{found, passed, none_left, which-starts}
 use Rattle.words.proofs.Rows.{table-letters}
@@ -14,10 +14,10 @@ use Rattle.words.proofs.which.Statement.{statement}
 use Rattle.words.proofs.which.Tie as tie
 
 abbrev invariant-loop : tie.invariant-loop
-invariant-loop text rows k₀ k = (k ≤ wordCount) × (rows ≡ map row words) × (which text ≡ k + place_in (drop k words) text)
+invariant-loop text rows k₀ k = (k ≤ word_count) × (rows ≡ map row words) × (which text ≡ k + place_in (drop k words) text)
 
 abbrev decreases-loop : tie.decreases-loop
-decreases-loop text rows k₀ k = wordCount - k
+decreases-loop text rows k₀ k = word_count - k
 
 loop-holds : tie.Need-loop-init invariant-loop decreases-loop
 unfolding words row
@@ -43,8 +43,8 @@ loop-again c =
 
 returns-2 : tie.Need-returns-2 invariant-loop decreases-loop
 returns-2 c =
-    let z : c.before.loop.k ≡ wordCount = omega arith in
-    let e : which c.before.before.before.args.text.now ≡ wordCount + place_in (drop wordCount words) c.before.before.before.args.text.now = rw z at c.before.loop.invariant.2 in
+    let z : c.before.loop.k ≡ word_count = omega arith in
+    let e : which c.before.before.before.args.text.now ≡ word_count + place_in (drop word_count words) c.before.before.before.args.text.now = rw z at c.before.loop.invariant.2 in
     omega (arith, e, none_left c.before.before.before.args.text.now)
 
 pub which-spec : {M : Type 1} → statement M

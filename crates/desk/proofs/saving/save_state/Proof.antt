@@ -8,7 +8,7 @@ use Rattle.desk.proofs.saving.save_state.Statement.{statement}
 use Rattle.desk.proofs.saving.save_state.Tie as tie
 
 whole : (c : tie.Then1) → Whole c.before.before.before.before.before.before.before.before.args.file.now c.before.before.before.before.before.before.before.before.args.script.now c.before.before.before.save.new.1.0 c.before.before.before.save.result.length
-whole c = saved-whole _ _ _ c.before.before.before.before.before.before.before.before.requires _ _ _ _ (eqb-true _ _ (sym c.before.is-done.ensures ∙ c.if1.true)) c.before.before.before.save.ensures
+whole c = saved-whole _ _ _ c.before.before.before.before.before.before.before.before.requires _ _ _ _ (eqb-true _ _ (sym c.before.is_done.ensures ∙ c.if1.true)) c.before.before.before.save.ensures
 
 array-share-prefix-out : tie.Need-array-share-prefix-out
 array-share-prefix-out c = (whole c).within

@@ -18,7 +18,7 @@ loop-holds : tie.Need-loop-init invariant-loop decreases-loop
 loop-holds c = fill_start (omega arith)
 
 loop-again : tie.Need-loop-preserved invariant-loop decreases-loop
-loop-again c = fill-next (omega arith) c.holders-of.ensures c.before.before.loop.invariant
+loop-again c = fill-next (omega arith) c.holders_of.ensures c.before.before.loop.invariant
 
 returns : tie.Need-returns invariant-loop decreases-loop
 returns c = fill_end (omega arith) c.before.loop.invariant

@@ -6,7 +6,7 @@ use Rattle.reviews.proofs.listing.meet.Statement.{statement}
 use Rattle.reviews.proofs.listing.meet.Tie as tie
 
 returns : tie.Need-returns
-returns c = ap not (c.is-empty.ensures.is ∙ ap is_empty c.before.common.ensures.is)
+returns c = ap not (c.is_empty.ensures.is ∙ ap is_empty c.before.common.ensures.is)
 
 pub meet-spec : {M : Type 1} → statement M
 meet-spec = tie.close (tie.spec (λ c κs. tt) (λ c κs. tt) returns)

@@ -17,17 +17,17 @@ answered c = c.refusal.ensures ∙ ap (λ (n : ℕ). verdict (refusals c.before.
 write-requires : tie.Need-write-requires
 write-requires c κs =
     let a = c.before.before.before.before.before.before.before.args in
-    (c.before.before.before.before.before.before.before.requires, done-room a.beyond a.missing (length a.out.now) (length (meeting a.roles a.table.now)) (sym (answered c.before.before.before) ∙ eqb-true (number_of c.before.before.before.refusal.result) 0 (sym c.before.before.is-done.ensures ∙ c.before.if1.true)))
+    (c.before.before.before.before.before.before.before.requires, done-room a.beyond a.missing (length a.out.now) (length (meeting a.roles a.table.now)) (sym (answered c.before.before.before) ∙ eqb-true (number_of c.before.before.before.refusal.result) 0 (sym c.before.before.is_done.ensures ∙ c.before.if1.true)))
 
 returns : tie.Need-returns
 returns c =
     let a = c.before.before.before.before.before.before.before.before.before.before.args in
-    lists-done a.beyond a.missing (meeting a.roles a.table.now) a.out.now _ _ (answered c.before.before.before.before.before.before) (sym c.before.before.before.before.before.is-done.ensures ∙ c.before.before.before.before.if1.true) c.before.before.before.before.before.before.before.count.ensures c.before.before.write.ensures
+    lists-done a.beyond a.missing (meeting a.roles a.table.now) a.out.now _ _ (answered c.before.before.before.before.before.before) (sym c.before.before.before.before.before.is_done.ensures ∙ c.before.before.before.before.if1.true) c.before.before.before.before.before.before.before.count.ensures c.before.before.write.ensures
 
 returns-2 : tie.Need-returns-2
 returns-2 c =
     let a = c.before.before.before.before.before.before.args in
-    lists-refused a.beyond a.missing (meeting a.roles a.table.now) a.out.now _ _ (answered c.before.before) (sym c.before.is-done.ensures ∙ c.if1.false) refl refl
+    lists-refused a.beyond a.missing (meeting a.roles a.table.now) a.out.now _ _ (answered c.before.before) (sym c.before.is_done.ensures ∙ c.if1.false) refl refl
 
 pub review-spec : {M : Type 1} → statement M
 review-spec =

@@ -3,7 +3,7 @@ use borrow.Author.Rules.{rules}
 use mathlib.Core.Path.{◌≡◌, refl}
 use native.Mathlib.Omega.{arith}
 use lib.ListN.{length}
-use Rattle.state.specs.Places.{assignedAt}
+use Rattle.state.specs.Places.{assigned_at}
 use Rattle.state.specs.View.{view}
 use Rattle.state.proofs.Slots.{part_length}
 use Rattle.state.proofs.parts.assigned.Statement.{statement}
@@ -14,7 +14,7 @@ unfolding view
 returns c =
     let l = c.before.before.args.state.now in
     let long : length l ≡ 4616 = omega arith in
-    record { long = part_length l assignedAt 256 (omega arith); each = refl }
+    record { long = part_length l assigned_at 256 (omega arith); each = refl }
 
 pub assigned-spec : {M : Type 1} → statement M
 assigned-spec = tie.close (tie.spec (λ c. search rules) (λ c. search rules) (λ c. search rules) (λ c. search rules) returns)

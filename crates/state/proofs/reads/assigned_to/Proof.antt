@@ -2,7 +2,7 @@
 use borrow.Author.Rules.{rules}
 use mathlib.Core.Path.{sym}
 use native.Mathlib.Omega.{arith}
-use Rattle.state.specs.Places.{assignedAt}
+use Rattle.state.specs.Places.{assigned_at}
 use Rattle.state.specs.View.{view}
 use Rattle.state.proofs.Slots.{part_at, part_none}
 use Rattle.state.proofs.reads.assigned_to.Statement.{statement}
@@ -10,11 +10,11 @@ use Rattle.state.proofs.reads.assigned_to.Tie as tie
 
 returns : tie.Need-returns
 unfolding view
-returns c = let at = c.before.before.before.args in sym (part_at at.state.now assignedAt 256 at.u.number (omega arith))
+returns c = let at = c.before.before.before.args in sym (part_at at.state.now assigned_at 256 at.u.number (omega arith))
 
 returns-2 : tie.Need-returns-2
 unfolding view
-returns-2 c = let at = c.before.before.args in sym (part_none at.state.now assignedAt 256 at.u.number (omega arith))
+returns-2 c = let at = c.before.before.args in sym (part_none at.state.now assigned_at 256 at.u.number (omega arith))
 
 pub assigned-to-spec : {M : Type 1} → statement M
 assigned-to-spec = tie.close (tie.spec (λ c. search rules) (λ c. search rules) (λ c. search rules) (λ c. search rules) returns returns-2)

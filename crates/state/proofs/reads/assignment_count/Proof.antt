@@ -2,7 +2,7 @@
 use borrow.Author.Rules.{rules}
 use mathlib.Core.Path.{sym}
 use native.Mathlib.Omega.{arith}
-use Rattle.state.specs.Places.{assignmentCountAt}
+use Rattle.state.specs.Places.{assignment_count_at}
 use Rattle.state.specs.View.{view}
 use Rattle.state.proofs.Slots.{part_at}
 use Rattle.state.proofs.reads.assignment_count.Statement.{statement}
@@ -10,7 +10,7 @@ use Rattle.state.proofs.reads.assignment_count.Tie as tie
 
 returns : tie.Need-returns
 unfolding view
-returns c = sym (part_at c.before.args.state.now assignmentCountAt 1 0 (omega arith))
+returns c = sym (part_at c.before.args.state.now assignment_count_at 1 0 (omega arith))
 
 pub assignment-count-spec : {M : Type 1} → statement M
 assignment-count-spec = tie.close (tie.spec (λ c. search rules) returns)

@@ -1,7 +1,7 @@
 -- The one number of its part, asked for a bit. Assumes nothing.
 use borrow.Author.Rules.{rules}
 use native.Mathlib.Omega.{arith}
-use Rattle.state.specs.Places.{rolesAt}
+use Rattle.state.specs.Places.{roles_at}
 use Rattle.state.specs.View.{view}
 use Rattle.state.proofs.Slots.{part_at}
 use Rattle.state.proofs.reads.has_role.Statement.{statement}
@@ -9,7 +9,7 @@ use Rattle.state.proofs.reads.has_role.Tie as tie
 
 returns : tie.Need-returns
 unfolding view
-returns c = rw (part_at c.before.before.args.state.now rolesAt 1 0 (omega arith)) c.has.ensures
+returns c = rw (part_at c.before.before.args.state.now roles_at 1 0 (omega arith)) c.has.ensures
 
 pub has-role-spec : {M : Type 1} → statement M
 has-role-spec = tie.close (tie.spec (λ c. search rules) (λ c κs. search rules) returns)

@@ -4,7 +4,7 @@ use mathlib.Core.Path.{◌≡◌, sym, ◌∙◌}
 use native.Mathlib.Omega.{arith}
 use Prim.Native.Nat.{ℕ, ◌+◌}
 use lib.ListN.{length, length-set}
-use Rattle.state.specs.Places.{ownersAt}
+use Rattle.state.specs.Places.{owners_at}
 use Rattle.state.specs.View.{view}
 use Rattle.state.proofs.Stored.{in-range, beyond, session-stored}
 use Rattle.state.proofs.stores.close_session.Statement.{statement}
@@ -22,4 +22,4 @@ returns-2 c =
     session-stored at.state.now at.x.number (long c) (omega arith) 0 0 ∙ sym (in-range 64 at.x.number (view at.state.now) _ (omega arith))
 
 pub close-session-spec : {M : Type 1} → statement M
-close-session-spec = tie.close (tie.spec (λ c. search rules) returns (λ c. search rules) (λ c. search rules) (λ c. search rules) (λ c. search rules) (λ c. search rules) (λ c. omega (arith, long c, length-set c.before.before.before.args.state.now (ownersAt + c.before.before.before.args.x.number) 0)) returns-2)
+close-session-spec = tie.close (tie.spec (λ c. search rules) returns (λ c. search rules) (λ c. search rules) (λ c. search rules) (λ c. search rules) (λ c. search rules) (λ c. omega (arith, long c, length-set c.before.before.before.args.state.now (owners_at + c.before.before.before.args.x.number) 0)) returns-2)

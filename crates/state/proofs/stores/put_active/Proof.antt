@@ -4,8 +4,8 @@ use mathlib.Core.Path.{◌≡◌, sym, ◌∙◌}
 use native.Mathlib.Omega.{arith}
 use Prim.Native.Nat.{ℕ, ◌+◌}
 use lib.ListN.{length, length-set}
-use Rattle.model.specs.commands.Sessions.{activeSet}
-use Rattle.state.specs.Places.{ownersAt}
+use Rattle.model.specs.commands.Sessions.{active_set}
+use Rattle.state.specs.Places.{owners_at}
 use Rattle.state.specs.View.{view}
 use Rattle.state.proofs.Stored.{in-range, beyond, active-stored}
 use Rattle.state.proofs.stores.put_active.Statement.{statement}
@@ -18,7 +18,7 @@ returns : tie.Need-returns
 returns c = let at = c.before.before.args in sym (beyond 64 at.x.number (view at.state.now) _ (omega arith))
 
 returns-2 : tie.Need-returns-2
-unfolding activeSet view
+unfolding active_set view
 returns-2 c =
     let at = c.before.before.before.args in
     active-stored at.state.now at.x.number (long c) (omega arith) at.active ∙ sym (in-range 64 at.x.number (view at.state.now) _ (omega arith))

@@ -4,8 +4,8 @@ use mathlib.Core.Path.{◌≡◌, ap, ◌∙◌}
 use native.Mathlib.Omega.{arith}
 use Prim.Native.Nat.{ℕ, ◌≤◌, ◌-◌}
 use lib.ListN.{length, length-set}
-use Rattle.model.specs.Model.{Model, put, withAssignments}
-use Rattle.state.specs.Places.{assignedAt, assignmentCountAt, places}
+use Rattle.model.specs.Model.{Model, put, with_assignments}
+use Rattle.state.specs.Places.{assigned_at, assignment_count_at, places}
 use Rattle.state.specs.View.{view}
 use Rattle.state.proofs.Slots.{Filled, fill_start, fill-store, fill_end, set-within, part-store}
 use Rattle.state.proofs.Stored.{assigned-changed, assignments-counted}
@@ -13,20 +13,20 @@ use Rattle.state.proofs.stores.put_assignments.Statement.{statement}
 use Rattle.state.proofs.stores.put_assignments.Tie as tie
 
 abbrev invariant-loop : tie.invariant-loop
-invariant-loop assigned standing all₀ k₀ all k = (k ≤ 256) × (length all ≡ places) × Filled assignedAt 256 k assigned all₀ all
+invariant-loop assigned standing all₀ k₀ all k = (k ≤ 256) × (length all ≡ places) × Filled assigned_at 256 k assigned all₀ all
 
 abbrev decreases-loop : tie.decreases-loop
 decreases-loop assigned standing all₀ k₀ all k = 256 - k
 
 loop-holds : tie.Need-loop-init invariant-loop decreases-loop
-loop-holds c = let long : length c.before.args.state.now ≡ places = c.all.given.0.1 in (omega arith, long, fill_start assignedAt 256 _ _)
+loop-holds c = let long : length c.before.args.state.now ≡ places = c.all.given.0.1 in (omega arith, long, fill_start assigned_at 256 _ _)
 
 loop-again : tie.Need-loop-preserved invariant-loop decreases-loop
 loop-again c =
     let at = c.before.before in
     let l = at.before.before.args.state.now in
     let long : length l ≡ places = at.before.all.given.0.1 in
-    (omega arith, length-set at.loop.all _ _ ∙ at.loop.invariant.1, fill-store assignedAt 256 at.loop.k at.before.before.args.assigned.now l at.loop.all (omega arith) (omega arith) at.loop.invariant.2)
+    (omega arith, length-set at.loop.all _ _ ∙ at.loop.invariant.1, fill-store assigned_at 256 at.loop.k at.before.before.args.assigned.now l at.loop.all (omega arith) (omega arith) at.loop.invariant.2)
 
 returns : tie.Need-returns invariant-loop decreases-loop
 unfolding put
@@ -36,8 +36,8 @@ returns c =
     let l = start.state.now in
     let whole : at.loop.k ≡ 256 = omega arith in
     let filled = rw whole at at.loop.invariant.2 in
-    assignments-counted at.loop.all _ (set-within at.loop.all assignmentCountAt 1 0 start.standing (omega arith)) start.standing (ap (λ (f : ℕ → ℕ). f 0) (part-store at.loop.all assignmentCountAt 1 0 start.standing (omega arith) (omega (arith, at.loop.invariant.1))))
-    ∙ ap (λ (m : Model). withAssignments m m.assigned start.standing) (assigned-changed l at.loop.all filled.within _ (fill_end assignedAt 256 start.assigned.now l at.loop.all filled))
+    assignments-counted at.loop.all _ (set-within at.loop.all assignment_count_at 1 0 start.standing (omega arith)) start.standing (ap (λ (f : ℕ → ℕ). f 0) (part-store at.loop.all assignment_count_at 1 0 start.standing (omega arith) (omega (arith, at.loop.invariant.1))))
+    ∙ ap (λ (m : Model). with_assignments m m.assigned start.standing) (assigned-changed l at.loop.all filled.within _ (fill_end assigned_at 256 start.assigned.now l at.loop.all filled))
 
 pub put-assignments-spec : {M : Type 1} → statement M
 put-assignments-spec = tie.close (tie.spec invariant-loop decreases-loop loop-holds (λ c. search rules) (λ c. search rules) (λ c. search rules) (λ c. search rules) (λ c. search rules) (λ c. search rules) (λ c. search rules) loop-again (λ c. search rules) returns)

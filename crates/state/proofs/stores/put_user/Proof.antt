@@ -4,7 +4,7 @@ use mathlib.Core.Path.{◌≡◌, sym, ◌∙◌}
 use native.Mathlib.Omega.{arith}
 use Prim.Native.Nat.{◌+◌, ◌/◌}
 use lib.ListN.{length}
-use Rattle.state.specs.Places.{places, usersAt}
+use Rattle.state.specs.Places.{places, users_at}
 use Rattle.state.specs.View.{view}
 use Rattle.state.proofs.Stored.{in-range, beyond, user-stored}
 use Rattle.state.proofs.stores.put_user.Statement.{statement}
