@@ -2,6 +2,7 @@
 """Brings the repository's own definitions and lemmas to the spelling of today's Rattle: words and fields in snake case.
 
 usage: tools/respell.py           at the top of the repository, once, after port.py
+       tools/respell.py --local   then: lemmas declared inside a module or a `where`, with their equations and uses
 
 What is declared in specs/ and proofs/ (proofs/*/Proof.antt aside, whose names are those of an older kit) is read first:
   - a definition or lemma in camel case, as juniorsOf, gets snake case: juniors_of; a dash in a definition of specs/ becomes _;
@@ -87,7 +88,47 @@ LEMMAS = {"crates/benchsheet/proofs/Same.antt": ("same_by", "same_by_lem"), "cra
 APART = {"in_order", "numbers_of", "one_more", "part_at"}
 
 
+def mend_local(text):
+    """A lemma of a module or a `where` in a file was taken for a field where it is declared: its equations and uses follow."""
+    for m in set(re.findall(r"(?m)^\s+(?:pub )?([a-z]" + CHARS + r"*_" + CHARS + r"*) :(?: |$)", text)):
+        for old in {m.replace("_", "-")} | {o for o in re.findall(r"(?m)^\s+([a-z]" + CHARS + r"*-" + CHARS + r"*)(?: [^=\n]*)? = ?", text) if o.replace("-", "_") == m}:
+            if re.search(r"(?m)^\s+" + re.escape(old) + r"(?: [^=\n]*)? =", text):
+                text = re.sub(r"(?<!" + CHARS + ")" + re.escape(old) + "(?!" + CHARS + ")", m, text)
+    return text
+
+
+# What is left in camel case: constructors, parameters and local names.
+LEFT = re.compile(r"(?<!" + CHARS + r")([a-z][a-z0-9']*[A-Z][A-Za-z0-9']*(?:[-_]" + CHARS + r"*)?)(?!" + CHARS + ")")
+
+
+def mend_imports():
+    """A name that a file brings in is spelled as where it is declared."""
+    declared, any_name = {}, re.compile(r"(?m)^\s*(?:(?:pub|abbrev|unfoldable|record|data|ruleset)\s+)*(" + CHARS + r"+)(?: [({][^=\n]*)? :(?: |$)")
+    for path in files(".antt", ".rt"):
+        text = new = open(path, encoding="utf-8").read()
+        for m in re.finditer(r"use Rattle\.(\w+)\.(specs|proofs)\.([\w.+]+?)\.\{([^}]*)\}", text):
+            source = f"crates/{m.group(1)}/{m.group(2)}/{m.group(3).replace('.', '/')}.antt"
+            if not os.path.exists(source):
+                continue
+            if source not in declared:
+                declared[source] = set(any_name.findall(open(source, encoding="utf-8").read()))
+            for name in (n.strip().split(" as ")[0] for n in m.group(4).split(",")):
+                now = [n for n in declared[source] if n.replace("-", "_") == name.replace("-", "_")]
+                if name and name not in declared[source] and now:
+                    new = re.sub(r"(?<!" + CHARS + ")" + re.escape(name) + "(?!" + CHARS + ")", now[0], new)
+        if new != text:
+            open(path, "w", encoding="utf-8").write(new)
+
+
 def main():
+    if "--local" in sys.argv:
+        for path in files(".antt"):
+            text = open(path, encoding="utf-8").read()
+            new = LEFT.sub(lambda m: snake(m.group(1)), mend_local(text))
+            if new != text:
+                open(path, "w", encoding="utf-8").write(new)
+        mend_imports()
+        return
     for path, (old, new) in LEMMAS.items():
         text = open(path, encoding="utf-8").read()
         open(path, "w", encoding="utf-8").write(re.sub(r"(?<!" + CHARS + ")" + old + "(?!" + CHARS + ")", new, text))

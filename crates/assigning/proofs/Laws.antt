@@ -14,7 +14,7 @@ use Rattle.state.specs.View.{part, view}
 use Rattle.state.proofs.Stored.{placed-as}
 use Rattle.sweeps.specs.Sweeps.{ShedsAll}
 use Rattle.sweeps.proofs.Changing.{as-part, table-put}
-use Rattle.sweeps.proofs.Shedding.{sheds-same, shed-stored, view-past}
+use Rattle.sweeps.proofs.Shedding.{sheds-same, shed_stored, view-past}
 
 -- the roles stored for a user, and the count, are these
 pub assigned-stored : (m after : Model) (u roles new standing count : ℕ) → roles ≡ new → standing ≡ count → u < 256 → after ≡ in_range 256 u m (with_assignments m (put m.assigned u roles) standing) → after ≡ with_assignments m (put m.assigned u new) count
@@ -27,4 +27,4 @@ module _ (l juniors assigned : List ℕ) (u r new : ℕ) (kept : List ℕ) (h : 
 
   pub deassigned_shed : (between after : Model) → between ≡ deassigned (view l) u r → after ≡ with_sessions between (with_active between.sessions (part kept 0 64)) → after ≡ shed (deassigned (view l) u r)
   unfolding deassigned
-  deassigned_shed = shed-stored (deassigned (view l) u r) kept swept (view-past l)
+  deassigned_shed = shed_stored (deassigned (view l) u r) kept swept (view-past l)

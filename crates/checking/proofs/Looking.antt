@@ -43,18 +43,18 @@ module _ (rest r holders : ℕ) (small : r < 64) (lowest : Lowest rest r) where
   stands = members-lowest 64 (has rest) (has (without rest r)) r small lowest.member lowest.first (has-without rest r)
 
   pub passed_seen : has holders r ≡ false → seen rest holders ≡ suc (seen (without rest r) holders)
-  passed-seen e = ap (λ (l : List ℕ). length (up_to_first (has holders) l)) stands ∙ ap (λ (l : List ℕ). length l) (first-fails (has holders) r (members 64 (has (without rest r))) e)
+  passed_seen e = ap (λ (l : List ℕ). length (up_to_first (has holders) l)) stands ∙ ap (λ (l : List ℕ). length l) (first-fails (has holders) r (members 64 (has (without rest r))) e)
 
   pub passed_found : has holders r ≡ false → found (without rest r) holders ≡ found rest holders
   unfolding common
-  passed-found e = ap (λ (s : ℕ). not (is_empty s)) (those-ext _ _ (λ k h. go k h (ℕ_discrete k r)))
+  passed_found e = ap (λ (s : ℕ). not (is_empty s)) (those-ext _ _ (λ k h. go k h (ℕ_discrete k r)))
     where
       go : (k : ℕ) → k < 64 → Dec (k ≡ r) → (has (without rest r) k && has holders k) ≡ (has rest k && has holders k)
       go k h (yes p) = let off : has holders k ≡ false = ap (has holders) p ∙ e in rw off (and-false (has (without rest r) k) ∙ sym (and-false (has rest k)))
       go k h (no p) = let same : has (without rest r) k ≡ has rest k = has-without rest r k h ∙ rw (ne_eqb k r p) (and-true (has rest k)) in rw same
 
   pub held_seen : has holders r ≡ true → seen rest holders ≡ 1
-  held-seen e = ap (λ (l : List ℕ). length (up_to_first (has holders) l)) stands ∙ ap (λ (l : List ℕ). length l) (first_passes (has holders) r (members 64 (has (without rest r))) e)
+  held_seen e = ap (λ (l : List ℕ). length (up_to_first (has holders) l)) stands ∙ ap (λ (l : List ℕ). length l) (first_passes (has holders) r (members 64 (has (without rest r))) e)
 
   pub held_found : has holders r ≡ true → found rest holders ≡ true
   held_found e = not_yes (is_empty (common rest holders)) (never (is_empty (common rest holders)) (λ empty. clash (has (common rest holders) r) (has-common rest holders r small ∙ and_both (has rest r) (has holders r) lowest.member e) (is_empty-true (common rest holders) empty r small)))

@@ -5,7 +5,7 @@ use Rattle.demands.proofs.Demand2.{demand2}
 use Rattle.demands.proofs.Demand3.{demand3}
 use Rattle.demands.proofs.ShorterSheet.{shorter-sheet}
 use Rattle.demands.proofs.TwoMoves.{two-moves}
-use Rattle.demands.proofs.EffectiveRoles.{effective-roles}
+use Rattle.demands.proofs.EffectiveRoles.{effective_roles}
 use Rattle.demands.proofs.Conditions.{conditions}
 use Rattle.demands.proofs.Effects.{effects}
 use Rattle.demands.proofs.Reviews.{questions-demand}
@@ -90,7 +90,7 @@ claims =
       demand3 = demand3;
       shorter_sheet = shorter-sheet;
       two_moves = two-moves;
-      effective_roles = effective-roles;
+      effective_roles = effective_roles;
       faithful = faithful;
       file_form = paper-form;
       loading = loading;

@@ -28,7 +28,7 @@ use Rattle.text.specs.Putting.{Put}
 use Rattle.decimal.specs.Decimal.{decimal, numbered}
 use Rattle.decimal.proofs.Laws.{decimal-short, numbered-short}
 use Rattle.words.specs.ScriptWords.{word_of}
-use Rattle.reading.specs.Form.{Parsed, line, noLine, parse}
+use Rattle.reading.specs.Form.{Parsed, line, no_line, parse}
 use Rattle.meaning.specs.Meaning.{meant}
 use Rattle.meaning.specs.declared.Meant.{Meant}
 use Rattle.meaning.specs.declared.Meant.TheVariants.{Do, Ask, Nothing}
@@ -50,7 +50,7 @@ long-done m Nothing list h = refl
 
 long-obeyed : (m : Model) (p : Parsed) → 12 < length (answer_line (obeyed m p)) → (obeyed m p).after ≡ m
 long-obeyed m (line k ns) h = long-done m (meant k (get_or ns 0 0) (get_or ns 1 0) (get_or ns 2 0)) (drop (word_of k).numbers ns) h
-long-obeyed m noLine h = refl
+long-obeyed m no_line h = refl
 
 long-answer : (m : Model) (text : List ℕ) → 12 < length (answer_line (obey m text)) → (obey m text).after ≡ m
 unfolding obey
@@ -101,13 +101,13 @@ module _ (m : Model) (s op obj : ℕ) where
 
 -- ---- a result where the caller says
 
-pub checked-done : {m : Model} {told : Told} {x : Checked} (before lookedBefore : ℕ) → Checks m told x → is_done x.answer ≡ true → number_of x.answer ≡ 0 → ChecksAt told before (bit x.yes) lookedBefore x.looked 0
+pub checked-done : {m : Model} {told : Told} {x : Checked} (before looked_before : ℕ) → Checks m told x → is_done x.answer ≡ true → number_of x.answer ≡ 0 → ChecksAt told before (bit x.yes) looked_before x.looked 0
 unfolding told_checked
-checked-done before lookedBefore p e z = rw (← p.tells) (record { answered = sym z; result = rw e; looked = rw e })
+checked-done before looked_before p e z = rw (← p.tells) (record { answered = sym z; result = rw e; looked = rw e })
 
-pub checked_refused : {m : Model} {told : Told} {x : Checked} (before lookedBefore : ℕ) → Checks m told x → is_done x.answer ≡ false → ChecksAt told before before lookedBefore lookedBefore (number_of x.answer)
+pub checked_refused : {m : Model} {told : Told} {x : Checked} (before looked_before : ℕ) → Checks m told x → is_done x.answer ≡ false → ChecksAt told before before looked_before looked_before (number_of x.answer)
 unfolding told_checked
-checked_refused before lookedBefore p e = rw (← p.tells) (record { answered = refl; result = rw e; looked = rw e })
+checked_refused before looked_before p e = rw (← p.tells) (record { answered = refl; result = rw e; looked = rw e })
 
 pub saved-done : {m : Model} {out after : List ℕ} {a n : ℕ} (before : ℕ) → Saves m out after a n → a ≡ 0 → SavesAt m out after before n 0
 saved-done before (inl p) z = absurd (omega (arith, p.answered))

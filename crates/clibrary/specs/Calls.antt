@@ -43,10 +43,10 @@ placed (result ∷ rest) before = result
 
 -- What `check` tells: the answer's number, and its two results where the caller says. "Every refusal changes nothing in .. lent buffers, and gives no
 -- results."
-pub record ChecksAt (told : Told) (before after lookedBefore lookedAfter answer : ℕ) : Type 0 where
+pub record ChecksAt (told : Told) (before after looked_before looked_after answer : ℕ) : Type 0 where
   pub answered : answer ≡ told.answer
   pub result : after ≡ placed told.results before
-  pub looked : lookedAfter ≡ placed (drop 1 told.results) lookedBefore
+  pub looked : looked_after ≡ placed (drop 1 told.results) looked_before
 
 -- what a load tells that answers a and leaves the state l
 abbrev pub loaded : ℕ → List ℕ → Told

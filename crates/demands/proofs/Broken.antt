@@ -11,7 +11,7 @@ use Rattle.roleset.specs.Bounded.{some}
 use Rattle.roleset.specs.Roles.{has, common, count}
 use Rattle.roleset.proofs.BoundedLaws.{clash, some-intro, some-elim}
 use Rattle.roleset.proofs.Laws.{member-small, common-small}
-use Rattle.hierarchy.proofs.WalkLaws.{reach-small}
+use Rattle.hierarchy.proofs.WalkLaws.{reach_small}
 use Rattle.model.specs.Model.{Model, RoleSet, Session, with_sessions}
 use Rattle.model.specs.Words.{authorised, counted, breaks, breaks_some, static_broken, dynamic_broken}
 use Rattle.model.specs.Sound.{Existing, Shape, Sound}
@@ -50,7 +50,7 @@ module _ (n : ℕ) (sets : ℕ → RoleSet) (held : ℕ → ℕ) (Holds : ℕ �
       }
 
   breaks_so : (b : Broken sets Holds) → breaks (sets b.name) (held b.who) ≡ true
-  breaks-so b =
+  breaks_so b =
       let shared = many-map (λ r h. let e = (exact b.who r).1 h.1 in common-intro (sets b.name).roles (held b.who) r (member-small (held b.who) r (small b.who) e) h.0 e) b.many in
       (breaks-exact (sets b.name) (held b.who)).1 (b.there, (many-in (sets b.name).card (common (sets b.name).roles (held b.who)) (common-small (sets b.name).roles (held b.who))).1 shared)
 
@@ -65,7 +65,7 @@ module _ (n : ℕ) (sets : ℕ → RoleSet) (held : ℕ → ℕ) (Holds : ℕ �
           found i.0 name.0 name.2
 
       back : Broken sets Holds → some n (λ i. breaks_some sets (held i)) ≡ true
-      back b = some-intro n (λ i. breaks_some sets (held i)) b.who (within (dec_lt b.who n)) (some-breaks sets (held b.who) b.name (named b.name b.there) (breaks-so b))
+      back b = some-intro n (λ i. breaks_some sets (held i)) b.who (within (dec_lt b.who n)) (some-breaks sets (held b.who) b.name (named b.name b.there) (breaks_so b))
         where
           within : Dec (b.who < n) → b.who < n
           within (yes l) = l
@@ -98,7 +98,7 @@ two-above h = omega arith
 
 pub static-exact : (m : Model) → Shape m → (would_break Static m ≡ true) ↔ StaticBroken m
 unfolding static_broken
-static-exact m x = broken-exact 256 m.ssd (authorised m) (Authorised m) (λ u. reach-small m.juniors (m.assigned u)) (authorises m x) (nobody-beyond m x) (λ name. (x.ssd name).named) (λ name t. two-above ((x.ssd name).at_least t))
+static-exact m x = broken-exact 256 m.ssd (authorised m) (Authorised m) (λ u. reach_small m.juniors (m.assigned u)) (authorises m x) (nobody-beyond m x) (λ name. (x.ssd name).named) (λ name t. two-above ((x.ssd name).at_least t))
 
 pub dynamic-exact : (m : Model) → Shape m → (would_break Dynamic m ≡ true) ↔ DynamicBroken m
 unfolding dynamic_broken

@@ -15,12 +15,12 @@ use Rattle.model.specs.Model.{Model, put, standing}
 use Rattle.model.specs.Sound.{Shape}
 use Rattle.model.specs.Words.{assignments, grants, lines_standing, sessions_open}
 use Rattle.model.proofs.Puts.{put_same, put_other}
-use Rattle.sound.proofs.Carried.{role-small, lines-small}
+use Rattle.sound.proofs.Carried.{role_small, lines_small}
 use Rattle.sound.proofs.Counting.{one-changed}
 use Rattle.sound.proofs.Put.{put_all}
 use Rattle.sound.proofs.Members.{without-member, without_other}
 use Rattle.demands.specs.Many.{AsMany}
-use Rattle.demands.proofs.Many.{many-map, counted-many, many-counted}
+use Rattle.demands.proofs.Many.{many-map, counted_many, many_counted}
 
 -- ---- a test of the numbers below k
 
@@ -56,15 +56,15 @@ module _ (k : ℕ) where
 
   -- As many as n pass the test exactly where it is counted n times or more.
   pub many_passing : (n : ℕ) (f : ℕ → Bool) → ((i : ℕ) → f i ≡ true → i < k) → (n ≤ tally k f) ↔ AsMany n (λ i. f i ≡ true)
-  many-passing n f small = (
-    (λ h. many-map (λ i p. p.1) (counted-many (tally k) Passing except one_passes one_less passed passes n f h)),
-    (λ x. many-counted (tally k) Passing except one_passes one_less passed passes n f (many-map (λ i e. (small i e, e)) x)),
+  many_passing n f small = (
+    (λ h. many-map (λ i p. p.1) (counted_many (tally k) Passing except one_passes one_less passed passes n f h)),
+    (λ x. many_counted (tally k) Passing except one_passes one_less passed passes n f (many-map (λ i e. (small i e, e)) x)),
   )
 
 -- As many as n roles are in a set exactly where it has n roles or more.
 pub many-in : (n set : ℕ) → set < 2 ^ 64 → (n ≤ count set) ↔ AsMany n (λ r. has set r ≡ true)
 unfolding count
-many-in n set small = many-passing 64 n (has set) (λ r e. member-small set r small e)
+many-in n set small = many_passing 64 n (has set) (λ r e. member-small set r small e)
 
 -- ---- a table of k sets of roles
 
@@ -78,7 +78,7 @@ module _ (k : ℕ) where
 
   one_pair : (table : ℕ → ℕ) → 0 < standing k table → (p : ℕ × ℕ) × Pair table p
   unfolding standing
-  one-pair table h = go (some k (λ i. not (is_empty (table i)))) refl
+  one_pair table h = go (some k (λ i. not (is_empty (table i)))) refl
     where
       go : (b : Bool) → some k (λ i. not (is_empty (table i))) ≡ b → (p : ℕ × ℕ) × Pair table p
       go true e =
@@ -91,14 +91,14 @@ module _ (k : ℕ) where
           none_in set z = omega (arith, count-mono set 0 (λ r l h. clash (has set r) h (is_empty-true set z r l)), count_none)
 
   pair_less : (table : ℕ → ℕ) (p : ℕ × ℕ) → Pair table p → suc (standing k (taken table p)) ≡ standing k table
-  pair-less table p h = omega (arith, one-changed k table p.0 (without (table p.0) p.1) h.0, count-without (table p.0) p.1 h.1 h.2)
+  pair_less table p h = omega (arith, one-changed k table p.0 (without (table p.0) p.1) h.0, count-without (table p.0) p.1 h.1 h.2)
 
   pair_was : (table : ℕ → ℕ) (p q : ℕ × ℕ) → Pair (taken table p) q → Pair table q × (q ≡ p → ⊥)
-  pair-was table p q h = let was = put_all (λ i set. (r : ℕ) → has set r ≡ true → (has (table i) r ≡ true) × (i ≡ p.0 → r ≡ p.1 → ⊥)) table p.0 (without (table p.0) p.1) (λ r e. let w = without-member (table p.0) p.1 r e in (w.1, λ same. w.2)) (λ i ne r e. (e, λ same. absurd (ne same))) q.0 q.1 h.2 in
+  pair_was table p q h = let was = put_all (λ i set. (r : ℕ) → has set r ≡ true → (has (table i) r ≡ true) × (i ≡ p.0 → r ≡ p.1 → ⊥)) table p.0 (without (table p.0) p.1) (λ r e. let w = without-member (table p.0) p.1 r e in (w.1, λ same. w.2)) (λ i ne r e. (e, λ same. absurd (ne same))) q.0 q.1 h.2 in
       ((h.0, h.1, was.0), λ e. was.1 (ap (λ (x : ℕ × ℕ). x.0) e) (ap (λ (x : ℕ × ℕ). x.1) e))
 
   pair_stays : (table : ℕ → ℕ) (p q : ℕ × ℕ) → Pair table q → (q ≡ p → ⊥) → Pair (taken table p) q
-  pair-stays table p q h ne = (h.0, h.1, go (ℕ_discrete q.0 p.0))
+  pair_stays table p q h ne = (h.0, h.1, go (ℕ_discrete q.0 p.0))
     where
       go : Dec (q.0 ≡ p.0) → has (taken table p q.0) q.1 ≡ true
       go (yes e) = ap (λ (i : ℕ). has (taken table p i) q.1) e ∙ ap (λ (set : ℕ). has set q.1) (put_same table p.0 (without (table p.0) p.1)) ∙ without_other (table p.0) p.1 q.1 h.1 (sym (ap (λ (i : ℕ). has (table i) q.1) e) ∙ h.2) (λ f. ne (λ i. (e i, f i)))
@@ -106,9 +106,9 @@ module _ (k : ℕ) where
 
   -- As many as n pairs stand in the table exactly where it is counted to hold n or more.
   pub many_standing : (n : ℕ) (table : ℕ → ℕ) → ((i r : ℕ) → has (table i) r ≡ true → (i < k) × (r < 64)) → (n ≤ standing k table) ↔ AsMany n (λ (p : ℕ × ℕ). has (table p.0) p.1 ≡ true)
-  many-standing n table small = (
-    (λ h. many-map (λ p x. x.2) (counted-many (standing k) Pair taken one-pair pair-less pair-was pair-stays n table h)),
-    (λ x. many-counted (standing k) Pair taken one-pair pair-less pair-was pair-stays n table (many-map (λ p e. let s = small p.0 p.1 e in (s.0, s.1, e)) x)),
+  many_standing n table small = (
+    (λ h. many-map (λ p x. x.2) (counted_many (standing k) Pair taken one_pair pair_less pair_was pair_stays n table h)),
+    (λ x. many_counted (standing k) Pair taken one_pair pair_less pair_was pair_stays n table (many-map (λ p e. let s = small p.0 p.1 e in (s.0, s.1, e)) x)),
   )
 
 -- ---- how full the tables of a policy are
@@ -116,16 +116,16 @@ module _ (k : ℕ) where
 module _ (m : Model) (x : Shape m) where
   pub assignments_many : (n : ℕ) → (n ≤ assignments m) ↔ AsMany n (λ (p : ℕ × ℕ). has (m.assigned p.0) p.1 ≡ true)
   unfolding assignments
-  assignments-many n = many-standing 256 n m.assigned (λ u r e. (x.users u (x.assignees u r e), role-small m x r ((x.assigned u).exist r e)))
+  assignments_many n = many_standing 256 n m.assigned (λ u r e. (x.users u (x.assignees u r e), role_small m x r ((x.assigned u).exist r e)))
 
   pub grants_many : (n : ℕ) → (n ≤ grants m) ↔ AsMany n (λ (p : ℕ × ℕ). has (m.holders p.0) p.1 ≡ true)
   unfolding grants
-  grants-many n = many-standing 4096 n m.holders (λ p r e. (x.permissions p r e, role-small m x r ((x.holders p).exist r e)))
+  grants_many n = many_standing 4096 n m.holders (λ p r e. (x.permissions p r e, role_small m x r ((x.holders p).exist r e)))
 
   pub lines_many : (n : ℕ) → (n ≤ lines_standing m) ↔ AsMany n (λ (p : ℕ × ℕ). has (m.juniors p.0) p.1 ≡ true)
   unfolding lines_standing
-  lines-many n = many-standing 64 n m.juniors (lines-small m x).within
+  lines_many n = many_standing 64 n m.juniors (lines_small m x).within
 
   pub sessions_many : (n : ℕ) → (n ≤ sessions_open m) ↔ AsMany n (λ s. (m.sessions s).live ≡ true)
   unfolding sessions_open
-  sessions-many n = many-passing 64 n (λ s. (m.sessions s).live) (λ s e. (x.sessions s).numbered e)
+  sessions_many n = many_passing 64 n (λ s. (m.sessions s).live) (λ s e. (x.sessions s).numbered e)

@@ -22,7 +22,7 @@ use Rattle.demands.specs.Demand2.{Demand2, Exactly, Obeys, Answers, refusals, re
 use Rattle.demands.proofs.Commands.{shown}
 use Rattle.demands.proofs.Exact.{exact}
 use Rattle.demands.proofs.Kept.{reachable-sound}
-use Rattle.demands.proofs.Looking.{effective-to, effective-met, looked-most, looked-up-to, looked-at-all, one-up-to, one-at-all, looked-none}
+use Rattle.demands.proofs.Looking.{effective_to, effective_met, looked_most, looked_up_to, looked_at_all, one_up_to, one_at_all, looked_none}
 
 -- what is settled by a list in the sheet's order is told exactly so
 exactly : (cases : List Refusal) (m : Model) (results : List ℕ) (after : Model) (told : Told) → ordered cases ≡ true → positive cases ≡ true → told ≡ settle cases m results after → Exactly m cases results after told
@@ -70,10 +70,10 @@ module _ (m : Model) (s : Sound m) (k op obj : ℕ) where
   whole = exactly _ m _ m (check m k op obj) refl refl refl
 
   allowed : permitted m k (permission op obj) ≡ true → Granted m k (permission op obj)
-  allowed e = let q = (permitted-exact m k (permission op obj)).0 e in record { role = q.0; effective = effective-to m s k q.0 q.1; holds = q.2 }
+  allowed e = let q = (permitted-exact m k (permission op obj)).0 e in record { role = q.0; effective = effective_to m s k q.0 q.1; holds = q.2 }
 
   allows : Granted m k (permission op obj) → permitted m k (permission op obj) ≡ true
-  allows g = (permitted-exact m k (permission op obj)).1 (g.role, effective-met m s k g.role g.effective, g.holds)
+  allows g = (permitted-exact m k (permission op obj)).1 (g.role, effective_met m s k g.role g.effective, g.holds)
 
   denied : permitted m k (permission op obj) ≡ false → Granted m k (permission op obj) → ⊥
   denied e g = clash (permitted m k (permission op obj)) (allows g) e
@@ -84,32 +84,32 @@ module _ (m : Model) (s : Sound m) (k op obj : ℕ) where
     given_both = whole.gives z
 
     said_yes : Granted m k (permission op obj) → (check m k op obj).results ≡ 1 ∷ looked m k (permission op obj) ∷ []
-    said-yes g = given_both ∙ ap (λ (b : Bool). bit b ∷ looked m k (permission op obj) ∷ []) (allows g)
+    said_yes g = given_both ∙ ap (λ (b : Bool). bit b ∷ looked m k (permission op obj) ∷ []) (allows g)
 
     said_no : (Granted m k (permission op obj) → ⊥) → (check m k op obj).results ≡ 0 ∷ looked m k (permission op obj) ∷ []
-    said-no none = given_both ∙ ap (λ (b : Bool). bit b ∷ looked m k (permission op obj) ∷ []) (never (permitted m k (permission op obj)) (λ e. none (allowed e)))
+    said_no none = given_both ∙ ap (λ (b : Bool). bit b ∷ looked m k (permission op obj) ∷ []) (never (permitted m k (permission op obj)) (λ e. none (allowed e)))
 
     granted_by : (n : ℕ) → (check m k op obj).results ≡ 1 ∷ n ∷ [] → Granted m k (permission op obj)
-    granted-by n e = allowed (bit-yes (permitted m k (permission op obj)) _ n (sym given_both ∙ e))
+    granted_by n e = allowed (bit-yes (permitted m k (permission op obj)) _ n (sym given_both ∙ e))
 
     number_by : (a n : ℕ) → (check m k op obj).results ≡ a ∷ n ∷ [] → looked m k (permission op obj) ≡ n
     number_by a n e = same_second _ a _ n (sym given_both ∙ e)
 
     on_yes : (n : ℕ) → ((check m k op obj).results ≡ 1 ∷ n ∷ []) ↔ LookedUpTo m k (permission op obj) n
-    on-yes n = (
-      (λ e. subst (LookedUpTo m k (permission op obj)) (number_by 1 n e) (looked-up-to m s k (permission op obj) (granted-by n e))),
-      λ x. said-yes (record { role = x.role; effective = x.holder.effective; holds = x.holder.holds }) ∙ ap (λ (j : ℕ). 1 ∷ j ∷ []) (one-up-to m s k (permission op obj) x),
+    on_yes n = (
+      (λ e. subst (LookedUpTo m k (permission op obj)) (number_by 1 n e) (looked_up_to m s k (permission op obj) (granted_by n e))),
+      λ x. said_yes (record { role = x.role; effective = x.holder.effective; holds = x.holder.holds }) ∙ ap (λ (j : ℕ). 1 ∷ j ∷ []) (one_up_to m s k (permission op obj) x),
     )
 
     on_no : (n : ℕ) → ((check m k op obj).results ≡ 0 ∷ n ∷ []) ↔ LookedAtAll m k (permission op obj) n
-    on-no n = (
-      (λ e. subst (LookedAtAll m k (permission op obj)) (number_by 0 n e) (looked-at-all m s k (permission op obj) (denied (bit-no (permitted m k (permission op obj)) _ n (sym given_both ∙ e))))),
-      λ x. said-no x.none ∙ ap (λ (j : ℕ). 0 ∷ j ∷ []) (one-at-all m s k (permission op obj) x),
+    on_no n = (
+      (λ e. subst (LookedAtAll m k (permission op obj)) (number_by 0 n e) (looked_at_all m s k (permission op obj) (denied (bit-no (permitted m k (permission op obj)) _ n (sym given_both ∙ e))))),
+      λ x. said_no x.none ∙ ap (λ (j : ℕ). 0 ∷ j ∷ []) (one_at_all m s k (permission op obj) x),
     )
 
   -- results are given only where the answer is 0
   answered_by : (a n : ℕ) → (check m k op obj).results ≡ a ∷ n ∷ [] → (check m k op obj).answer ≡ 0
-  answered-by a n e = go (ℕ_discrete (check m k op obj).answer 0)
+  answered_by a n e = go (ℕ_discrete (check m k op obj).answer 0)
     where
       go : Dec ((check m k op obj).answer ≡ 0) → (check m k op obj).answer ≡ 0
       go (yes z) = z
@@ -122,11 +122,11 @@ module _ (m : Model) (s : Sound m) (k op obj : ℕ) where
         refused = whole.refused;
         done = whole.done;
         answers = λ z. (looked m k (permission op obj), subst (λ (l : List ℕ). (l ≡ 1 ∷ looked m k (permission op obj) ∷ []) ⊎ (l ≡ 0 ∷ looked m k (permission op obj) ∷ [])) (sym (given_both z)) (bit-or-not (permitted m k (permission op obj)) (looked m k (permission op obj))));
-        exactly = λ z. ((λ x. granted-by z x.0 x.1), λ g. (looked m k (permission op obj), said-yes z g));
-        looked_yes = on-yes;
-        looked_no = on-no;
-        at_most = λ a n e. omega (arith, number_by (answered-by a n e) a n e, looked-most m s k (permission op obj));
-        none_active = λ a n e. subst (λ (j : ℕ). (j ≡ 0) ↔ ((r : ℕ) → has (m.sessions k).active r ≡ false)) (number_by (answered-by a n e) a n e) (looked-none m s k (permission op obj));
+        exactly = λ z. ((λ x. granted_by z x.0 x.1), λ g. (looked m k (permission op obj), said_yes z g));
+        looked_yes = on_yes;
+        looked_no = on_no;
+        at_most = λ a n e. omega (arith, number_by (answered_by a n e) a n e, looked_most m s k (permission op obj));
+        none_active = λ a n e. subst (λ (j : ℕ). (j ≡ 0) ↔ ((r : ℕ) → has (m.sessions k).active r ≡ false)) (number_by (answered_by a n e) a n e) (looked_none m s k (permission op obj));
         silent = whole.silent;
         unchanged = settle-same _ m _;
       }

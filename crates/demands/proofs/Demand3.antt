@@ -10,7 +10,7 @@ use Rattle.roleset.specs.Roles.{has}
 use Rattle.roleset.proofs.BoundedLaws.{clash, some-none}
 use Rattle.hierarchy.specs.Lines.{Inherits, one, more}
 use Rattle.hierarchy.proofs.InheritsLaws.{trans}
-use Rattle.hierarchy.proofs.CircleLaws.{chain-circle}
+use Rattle.hierarchy.proofs.CircleLaws.{chain_circle}
 use Rattle.model.specs.Model.{Model}
 use Rattle.model.specs.Sheet.{Told, Refusal, done, verdict, settle}
 use Rattle.model.specs.Sound.{Sound}
@@ -18,14 +18,14 @@ use Rattle.model.specs.Sound as sound
 use Rattle.model.specs.Words.{permission, static_broken, dynamic_broken}
 use Rattle.model.specs.commands.Sets.{sets_of}
 use Rattle.model.specs.commands.Sessions.{check, permitted}
-use Rattle.sound.proofs.Carried.{lines-small, role-small, member-there, closed-idle}
+use Rattle.sound.proofs.Carried.{lines_small, role_small, member-there, closed_idle}
 use Rattle.sound.proofs.Sets.{shape_of}
 use Rattle.sound.proofs.Sheet.{settle-done, settle-refused}
 use Rattle.sound.proofs.Words.{effective-exact, permitted-exact, sessions-limit}
 use Rattle.demands.specs.Authorised.{Authorised, Effective, InOrBelow}
 use Rattle.demands.specs.Demand3.{Demand3, Rules, Through, Shape, Limits}
 use Rattle.demands.proofs.Broken.{authorises, static-exact, dynamic-exact}
-use Rattle.demands.proofs.Counts.{many-in, assignments-many, grants-many, lines-many, sessions-many}
+use Rattle.demands.proofs.Counts.{many-in, assignments_many, grants_many, lines_many, sessions_many}
 use Rattle.demands.proofs.Kept.{reachable-sound}
 
 -- ---- a result is given only when the answer is 0
@@ -57,7 +57,7 @@ below m set a r (inr q) p = inr (q.0, q.1, trans q.2 p)
 
 pub rules : (m : Model) → Sound m → Rules m
 unfolding check
-rules m s = record { circles = s.rules.acyclic.never; active = active; access = access; static = unbroken 256 (static_broken m) (static-exact m s.shape).1 s.rules.static; dynamic = unbroken 64 (dynamic_broken m) (dynamic-exact m s.shape).1 s.rules.dynamic; chains = λ r c. let x = chain-circle m.juniors (lines-small m s.shape) _ (omega arith) c in s.rules.acyclic.never x.0 x.1 }
+rules m s = record { circles = s.rules.acyclic.never; active = active; access = access; static = unbroken 256 (static_broken m) (static-exact m s.shape).1 s.rules.static; dynamic = unbroken 64 (dynamic_broken m) (dynamic-exact m s.shape).1 s.rules.dynamic; chains = λ r c. let x = chain_circle m.juniors (lines_small m s.shape) _ (omega arith) c in s.rules.acyclic.never x.0 x.1 }
   where
     unbroken : (n : ℕ) (test : ℕ → Bool) {Broken : Type 0} → (Broken → some n test ≡ true) → ((i : ℕ) → test i ≡ false) → Broken → ⊥
     unbroken n test shown never b = clash (some n test) (shown b) (some-none n test (λ i l. never i))
@@ -85,7 +85,7 @@ shaped : (m : Model) → Sound m → Shape m
 shaped m s =
     record {
       users = λ u e. let l = x.users u e in omega arith;
-      roles = λ r e. let l = role-small m x r e in omega arith;
+      roles = λ r e. let l = role_small m x r e in omega arith;
       sessions = λ k e. let l = (x.sessions k).numbered e in omega arith;
       sets = λ kind name e. let l = (shape_of kind m x name).named e in omega arith;
       permissions = λ p r e. let l = x.permissions p r e in omega arith;
@@ -109,15 +109,15 @@ shaped m s =
       where
         go : (b : Bool) → (m.sessions k).live ≡ b → (m.sessions k).live ≡ true
         go true e = e
-        go false e = clash (has (m.sessions k).active r) h (closed-idle m x k e r)
+        go false e = clash (has (m.sessions k).active r) h (closed_idle m x k e r)
 
 limited : (m : Model) → Sound m → Limits m
 limited m s =
     record {
-      assignments = λ many. let c = (assignments-many m s.shape 2049).1 many in let most = s.limits.assigned in omega arith;
-      grants = λ many. let c = (grants-many m s.shape 2049).1 many in let most = s.limits.granted in omega arith;
-      lines = λ many. let c = (lines-many m s.shape 513).1 many in let most = s.limits.lined in omega arith;
-      sessions = λ many. let c = (sessions-many m s.shape 65).1 many in let most = sessions-limit m in omega arith;
+      assignments = λ many. let c = (assignments_many m s.shape 2049).1 many in let most = s.limits.assigned in omega arith;
+      grants = λ many. let c = (grants_many m s.shape 2049).1 many in let most = s.limits.granted in omega arith;
+      lines = λ many. let c = (lines_many m s.shape 513).1 many in let most = s.limits.lined in omega arith;
+      sessions = λ many. let c = (sessions_many m s.shape 65).1 many in let most = sessions-limit m in omega arith;
     }
 
 -- no role inherits itself; every active role is one its owner is authorised for, and access goes only through such a role; the separation rules

@@ -65,10 +65,10 @@ module _ (m : Model) (list : List ℕ) (s x : ℕ) where
         deassign = λ u r. effective-fewer m _ (kept (Fewer m) _ m _ _ refl (same m) (λ c. shed-fewer m (deassigned m u.number r.number) (λ k e. e) (λ a j e. e) refl)) s x;
         disinherit = λ a b. effective-fewer m _ (kept (Fewer m) _ m _ _ refl (same m) (λ c. shed-fewer m (unlined m a.number b.number) (λ k e. e) (fewer-at m.juniors a.number b.number) refl)) s x;
         norole = λ r. effective-fewer m _ (kept (Fewer m) _ m _ _ refl (same m) (λ c. shed-fewer m (without_role m r.number) (λ k e. (without-member m.roles r.number k e).1) (stripped-fewer m.juniors r.number) refl)) s x;
-        drop = λ u k r. effective-fewer m _ (kept (Fewer m) _ m _ _ refl (same m) (λ c. session-fewer k.number _ (λ j e. (without-member (m.sessions k.number).active r.number j e).1))) s x;
-        end = λ u k. effective-fewer m _ (kept (Fewer m) _ m _ _ refl (same m) (λ c. session-fewer k.number closed_session (λ j e. clash (has 0 j) e (has-none j)))) s x;
+        drop = λ u k r. effective-fewer m _ (kept (Fewer m) _ m _ _ refl (same m) (λ c. session_fewer k.number _ (λ j e. (without-member (m.sessions k.number).active r.number j e).1))) s x;
+        end = λ u k. effective-fewer m _ (kept (Fewer m) _ m _ _ refl (same m) (λ c. session_fewer k.number closed_session (λ j e. clash (has 0 j) e (has-none j)))) s x;
         end_all = λ u. effective-fewer m _ (kept (Fewer m) _ m _ _ refl (same m) (λ c. record { roles = λ r e. e; lines = λ a j e. e; active = λ k r. ended-all (λ y. has y.active r ≡ true → has (m.sessions k).active r ≡ true) u.number (m.sessions k) (λ e. clash (has 0 r) e (has-none r)) (λ o e. e) })) s x;
       }
     where
       session_fewer : (k : ℕ) (new : Session) → ((r : ℕ) → has new.active r ≡ true → has (m.sessions k).active r ≡ true) → Fewer m (session_set m k new)
-      session-fewer k new fewer = record { roles = λ r e. e; lines = λ a j e. e; active = put_all (λ i y. (r : ℕ) → has y.active r ≡ true → has (m.sessions i).active r ≡ true) m.sessions k new fewer (λ i d r e. e) }
+      session_fewer k new fewer = record { roles = λ r e. e; lines = λ a j e. e; active = put_all (λ i y. (r : ℕ) → has y.active r ≡ true → has (m.sessions i).active r ≡ true) m.sessions k new fewer (λ i d r e. e) }

@@ -31,7 +31,7 @@ use Rattle.model.specs.declared.Command.TheVariants.{AddUser, AddRole, NoUser, N
 use Rattle.model.specs.declared.Kind.{Kind}
 use Rattle.model.specs.declared.Kind.TheVariants.{Static, Dynamic}
 use Rattle.model.proofs.Puts.{put_same, put_other}
-use Rattle.sound.proofs.Carried.{closed-idle}
+use Rattle.sound.proofs.Carried.{closed_idle}
 use Rattle.sound.proofs.Members.{or_no}
 use Rattle.sound.proofs.Sets.{shape_of}
 use Rattle.sound.proofs.Sheet.{AllClear, done-clear, settle-answer, settle-done}
@@ -144,11 +144,11 @@ shedding m base s t same =
     to k r h = let p = (authorised-exact (shed base) t (base.sessions k).owner r).0 h in record { exists = p.0; through = p.1 }
 
     idle : (k r : ℕ) → (base.sessions k).live ≡ false → has (base.sessions k).active r ≡ false
-    idle k r e = ap (λ (x : ℕ → Session). has (x k).active r) same ∙ closed-idle m s.shape k (sym (ap (λ (x : ℕ → Session). (x k).live) same) ∙ e) r
+    idle k r e = ap (λ (x : ℕ → Session). has (x k).active r) same ∙ closed_idle m s.shape k (sym (ap (λ (x : ℕ → Session). (x k).live) same) ∙ e) r
 
     kept : (k r : ℕ) (b : Bool) → (base.sessions k).live ≡ b → (has ((shed base).sessions k).active r ≡ true) ↔ ((has (base.sessions k).active r ≡ true) × Authorised (shed base) (base.sessions k).owner r)
     kept k r true e = ((λ h. let p = (shed-exact base k r e).0 h in (p.0, to k r p.1)), (λ p. (shed-exact base k r e).1 (p.0, (authorised-exact (shed base) t (base.sessions k).owner r).1 (p.1.exists, p.1.through))))
-    kept k r false e = ((λ h. clash (has ((shed base).sessions k).active r) h (closed-idle (shed base) t.shape k ((shed-stays base k).0 ∙ e) r)), (λ p. clash (has (base.sessions k).active r) p.0 (idle k r e)))
+    kept k r false e = ((λ h. clash (has ((shed base).sessions k).active r) h (closed_idle (shed base) t.shape k ((shed-stays base k).0 ∙ e) r)), (λ p. clash (has (base.sessions k).active r) p.0 (idle k r e)))
 
 -- ---- one set, one session
 
@@ -173,17 +173,17 @@ changed m (NoRole r) list s t c = record { roles = λ q. without-each m.roles r.
     x = effect m (NoRole r) list
 changed m (Assign u r) list s t c = record { assigned = added m.assigned u.number r.number (λ k. (s.shape.assigned k).small) (leb-false 64 r.number (or_no (user_beyond u.number) (role_beyond r.number) c.0).1); only = ap (with_assignments m (assigned m u.number r.number).assigned) t.counted.assigned }
 changed m (Deassign u r) list s t c = record { assigned = removed m.assigned u.number r.number (λ k. (s.shape.assigned k).small); shedding = shedding m (deassigned m u.number r.number) s t refl; only = ap (λ (n : ℕ). shed (with_assignments m (deassigned m u.number r.number).assigned n)) t.counted.assigned }
-changed m (Grant op obj r) list s t c = record { grants = added m.holders (words.permission op obj) r.number (λ k. (s.shape.holders k).small) (leb-false 64 r.number (or_no (naming.permissionBeyond op obj) (role_beyond r.number) c.0).1); only = ap (with_grants m (granted m (words.permission op obj) r.number).holders) t.counted.granted }
+changed m (Grant op obj r) list s t c = record { grants = added m.holders (words.permission op obj) r.number (λ k. (s.shape.holders k).small) (leb-false 64 r.number (or_no (naming.permission_beyond op obj) (role_beyond r.number) c.0).1); only = ap (with_grants m (granted m (words.permission op obj) r.number).holders) t.counted.granted }
 changed m (Revoke op obj r) list s t c = record { grants = removed m.holders (words.permission op obj) r.number (λ k. (s.shape.holders k).small); only = ap (with_grants m (revoked m (words.permission op obj) r.number).holders) t.counted.granted }
 changed m (Inherit senior junior) list s t c = record { lines = added m.juniors senior.number junior.number (λ k. (s.shape.juniors k).small) (leb-false 64 junior.number (or_no (role_beyond senior.number) (role_beyond junior.number) c.0).1); only = ap (with_lines m (lined m senior.number junior.number).juniors) t.counted.lined }
 changed m (Disinherit senior junior) list s t c = record { lines = removed m.juniors senior.number junior.number (λ k. (s.shape.juniors k).small); shedding = shedding m (unlined m senior.number junior.number) s t refl; only = ap (λ (n : ℕ). shed (with_lines m (unlined m senior.number junior.number).juniors n)) t.counted.lined }
 changed m (MakeSet kind name n) list s t c = set-becomes kind m name.number (a_set n (set_of list)) (listed list) (λ q. listed-each list q (or_no (set_beyond name.number) (some_from 64 list) c.1.0).1)
-changed m (DropSet kind name) list s t c = set-becomes kind m name.number model.absentSet (λ q. false) has-none
+changed m (DropSet kind name) list s t c = set-becomes kind m name.number model.absent_set (λ q. false) has-none
 changed m (AddMember kind name r) list s t c = set-becomes kind m name.number _ _ (λ q. with_each (sets_of kind m name.number).roles r.number q (shape_of kind m s.shape name.number).members.small (leb-false 64 r.number (or_no (set_beyond name.number) (role_beyond r.number) c.0).1))
 changed m (DropMember kind name r) list s t c = set-becomes kind m name.number _ _ (λ q. without-each (sets_of kind m name.number).roles r.number q (shape_of kind m s.shape name.number).members.small)
 changed m (SetCardinality kind name n) list s t c = set-becomes kind m name.number _ _ (λ q. refl)
 changed m (OpenSession u) list s t c = session-becomes m (lowest_free m) _ true u.number (listed list) refl refl (λ q. listed-each list q (or_no (user_beyond u.number) (some_from 64 list) c.1.0).1)
-changed m (Activate u k r) list s t c = session-becomes m k.number _ true u.number _ (live_of c) (eqb-true (m.sessions k.number).owner u.number (not-false (eqb (m.sessions k.number).owner u.number) c.1.1.0)) (λ q. with_each (m.sessions k.number).active r.number q (s.shape.sessions k.number).active.small (leb-false 64 r.number (or_no (naming.sessionBeyond k.number) (role_beyond r.number) (or_no (user_beyond u.number) _ c.0).1).1))
+changed m (Activate u k r) list s t c = session-becomes m k.number _ true u.number _ (live_of c) (eqb-true (m.sessions k.number).owner u.number (not-false (eqb (m.sessions k.number).owner u.number) c.1.1.0)) (λ q. with_each (m.sessions k.number).active r.number q (s.shape.sessions k.number).active.small (leb-false 64 r.number (or_no (naming.session_beyond k.number) (role_beyond r.number) (or_no (user_beyond u.number) _ c.0).1).1))
   where
     live_of : AllClear (refusals m (Activate u k r) list) → (m.sessions k.number).live ≡ true
     live_of c = not-false (m.sessions k.number).live (or_no (session_missing m k.number) (role_missing m r.number) (or_no (user_missing m u.number) _ c.1.0).1).0

@@ -12,7 +12,7 @@ use Rattle.roleset.specs.Roles.{has}
 use Rattle.roleset.proofs.BoundedLaws.{clash, never}
 use Rattle.roleset.proofs.Laws.{member-small}
 use Rattle.roleset.proofs.MembersLaws.{members-most}
-use Rattle.hierarchy.proofs.WalkLaws.{reach-small}
+use Rattle.hierarchy.proofs.WalkLaws.{reach_small}
 use Rattle.model.specs.Lists.{up_to_first}
 use Rattle.model.specs.Model.{Model}
 use Rattle.model.specs.Sound.{Sound}
@@ -32,13 +32,13 @@ module _ (f : ℕ → Bool) where
   -- it is ascending where the whole is
   up_to_ascending : {l : List ℕ} → Ascending l → Ascending (up_to_first f l)
   unfolding up_to_first
-  up-to-ascending empty = empty
-  up-to-ascending (single {a}) = go (f a)
+  up_to_ascending empty = empty
+  up_to_ascending (single {a}) = go (f a)
     where
       go : (b : Bool) → Ascending (a ∷ elim b as (λ _. List ℕ) [ true ↦ [] | false ↦ [] ])
       go true = single
       go false = single
-  up-to-ascending (rises {a} {b} {rest} lt order) = go (f a) (up-to-ascending order)
+  up_to_ascending (rises {a} {b} {rest} lt order) = go (f a) (up_to_ascending order)
     where
       go : (t : Bool) → Ascending (up_to_first f (b ∷ rest)) → Ascending (a ∷ elim t as (λ _. List ℕ) [ true ↦ [] | false ↦ up_to_first f (b ∷ rest) ])
       go true ih = single
@@ -72,8 +72,8 @@ module _ (f : ℕ → Bool) where
   -- in the list up to the first stand those that are above none that passes
   up_to_members : (l : List ℕ) → Ascending l → (k : ℕ) → Memᴰ k (up_to_first f l) ↔ (Memᴰ k l × ((r : ℕ) → Memᴰ r l → f r ≡ true → k ≤ r))
   unfolding up_to_first
-  up-to-members [] order k = ((λ h. absurd (Memᴰ.not-nil h)), λ q. absurd (Memᴰ.not-nil q.0))
-  up-to-members (a ∷ l) order k = go (f a) refl (up-to-members l (later-ascending order) k)
+  up_to_members [] order k = ((λ h. absurd (Memᴰ.not-nil h)), λ q. absurd (Memᴰ.not-nil q.0))
+  up_to_members (a ∷ l) order k = go (f a) refl (up_to_members l (later-ascending order) k)
     where
       lowest : (r : ℕ) → Memᴰ r (a ∷ l) → a ≤ r
       lowest r h = least_first order h
@@ -105,13 +105,13 @@ module _ (f : ℕ → Bool) where
   -- only that of the empty list is empty
   up_to_empty : (l : List ℕ) → length (up_to_first f l) ≡ 0 → (k : ℕ) → Memᴰ k l → ⊥
   unfolding up_to_first
-  up-to-empty [] e k h = Memᴰ.not-nil h
-  up-to-empty (a ∷ l) e k h = absurd (omega (arith, e))
+  up_to_empty [] e k h = Memᴰ.not-nil h
+  up_to_empty (a ∷ l) e k h = absurd (omega (arith, e))
 
   up_to_nothing : (l : List ℕ) → ((k : ℕ) → Memᴰ k l → ⊥) → length (up_to_first f l) ≡ 0
   unfolding up_to_first
-  up-to-nothing [] h = refl
-  up-to-nothing (a ∷ l) h = absurd (h a (Memᴰ.head refl))
+  up_to_nothing [] h = refl
+  up_to_nothing (a ∷ l) h = absurd (h a (Memᴰ.head refl))
 
 -- two numbers that tell how many there are of the same are one
 pub how-many-one : {P Q : ℕ → Type 0} {n k : ℕ} → ((j : ℕ) → P j → Q j) → ((j : ℕ) → Q j → P j) → HowMany P n → HowMany Q k → n ≡ k
@@ -137,12 +137,12 @@ module _ (set holders : ℕ) (small : set < 2 ^ 64) {P : ℕ → Type 0} (stated
   -- as many as are above no holder
   pub how_far : HowMany (λ k. P k × ((r : ℕ) → P r → has holders r ≡ true → k ≤ r)) number
   unfolding all
-  how_far = record { list = up_to_first (has holders) all; ascending = up-to-ascending (has holders) ascending; members = each; long = refl }
+  how_far = record { list = up_to_first (has holders) all; ascending = up_to_ascending (has holders) ascending; members = each; long = refl }
     where
       each : (k : ℕ) → Memᴰ k (up_to_first (has holders) all) ↔ (P k × ((r : ℕ) → P r → has holders r ≡ true → k ≤ r))
       each k = (
-        (λ h. let q = (up-to-members (has holders) all ascending k).0 h in ((listed k).0 q.0, λ r p e. q.1 r ((listed r).1 p) e)),
-        λ q. (up-to-members (has holders) all ascending k).1 ((listed k).1 q.0, λ r h e. q.1 r ((listed r).0 h) e),
+        (λ h. let q = (up_to_members (has holders) all ascending k).0 h in ((listed k).0 q.0, λ r p e. q.1 r ((listed r).1 p) e)),
+        λ q. (up_to_members (has holders) all ascending k).1 ((listed k).1 q.0, λ r h e. q.1 r ((listed r).0 h) e),
       )
 
   pub at_most_64 : number ≤ 64
@@ -150,43 +150,43 @@ module _ (set holders : ℕ) (small : set < 2 ^ 64) {P : ℕ → Type 0} (stated
 
   -- where one is a holder there is a first
   pub first_holder : (k : ℕ) → P k → has holders k ≡ true → (r : ℕ) × P r × (has holders r ≡ true) × ((j : ℕ) → P j → has holders j ≡ true → r ≤ j)
-  first-holder k p e = let x = find (has holders) all ascending k ((listed k).1 p) e in (x.0, (listed x.0).0 x.1.member, x.1.passes, λ j q h. x.1.first j ((listed j).1 q) h)
+  first_holder k p e = let x = find (has holders) all ascending k ((listed k).1 p) e in (x.0, (listed x.0).0 x.1.member, x.1.passes, λ j q h. x.1.first j ((listed j).1 q) h)
 
   -- none is looked at exactly where there is none
   pub none_there : (number ≡ 0) ↔ ((k : ℕ) → P k → ⊥)
   unfolding all
-  none_there = ((λ e k p. up-to-empty (has holders) all e k ((listed k).1 p)), λ h. up-to-nothing (has holders) all (λ k i. h k ((listed k).0 i)))
+  none_there = ((λ e k p. up_to_empty (has holders) all e k ((listed k).1 p)), λ h. up_to_nothing (has holders) all (λ k i. h k ((listed k).0 i)))
 
 -- ---- the effective roles of a session
 
 module _ (m : Model) (s : Sound m) (k : ℕ) where
   -- the computed set is the stated one
   pub effective_to : (q : ℕ) → has (effective m k) q ≡ true → Effective m k q
-  effective-to q h = let e = (effective-exact m s k q).0 h in record { exists = e.0; through = e.1 }
+  effective_to q h = let e = (effective-exact m s k q).0 h in record { exists = e.0; through = e.1 }
 
   pub effective_met : (q : ℕ) → Effective m k q → has (effective m k) q ≡ true
-  effective-met q a = (effective-exact m s k q).1 (a.exists, a.through)
+  effective_met q a = (effective-exact m s k q).1 (a.exists, a.through)
 
   effective_stated : (q : ℕ) → (has (effective m k) q ≡ true) ↔ Effective m k q
-  effective-stated q = (effective-to q, effective-met q)
+  effective_stated q = (effective_to q, effective_met q)
 
   effective_small : effective m k < 2 ^ 64
-  effective_small = reach-small m.juniors (m.sessions k).active
+  effective_small = reach_small m.juniors (m.sessions k).active
 
   -- how many of them are looked at for a permission
   module _ (p : ℕ) where
     pub looked_most : looked m k p ≤ 64
     unfolding looked
-    looked_most = at-most-64 (effective m k) (m.holders p) effective-small effective-stated
+    looked_most = at-most-64 (effective m k) (m.holders p) effective-small effective_stated
 
     seen : HowMany (λ j. Effective m k j × ((r : ℕ) → Effective m k r → has (m.holders p) r ≡ true → j ≤ r)) (looked m k p)
     unfolding looked
-    seen = how-far (effective m k) (m.holders p) effective-small effective-stated
+    seen = how-far (effective m k) (m.holders p) effective-small effective_stated
 
     -- on yes
     pub looked_up_to : Granted m k p → LookedUpTo m k p (looked m k p)
-    looked-up-to g =
-        let x = first-holder (effective m k) (m.holders p) effective-small effective-stated g.role g.effective g.holds in
+    looked_up_to g =
+        let x = first_holder (effective m k) (m.holders p) effective-small effective_stated g.role g.effective g.holds in
         record {
           role = x.0;
           holder = record { effective = x.1; holds = x.2; lowest = x.3 };
@@ -203,7 +203,7 @@ module _ (m : Model) (s : Sound m) (k : ℕ) where
 
     -- on no
     pub looked_at_all : (Granted m k p → ⊥) → LookedAtAll m k p (looked m k p)
-    looked-at-all none =
+    looked_at_all none =
         record {
           none = none;
           number = record {
@@ -216,20 +216,20 @@ module _ (m : Model) (s : Sound m) (k : ℕ) where
 
     -- the number is the only one so stated
     pub one_up_to : {n : ℕ} → LookedUpTo m k p n → looked m k p ≡ n
-    one-up-to x =
-        let y = looked-up-to (record { role = x.role; effective = x.holder.effective; holds = x.holder.holds }) in
+    one_up_to x =
+        let y = looked_up_to (record { role = x.role; effective = x.holder.effective; holds = x.holder.holds }) in
         let low : y.role ≤ x.role = y.holder.lowest x.role x.holder.effective x.holder.holds in
         let high : x.role ≤ y.role = x.holder.lowest y.role y.holder.effective y.holder.holds in
         how-many-one (λ j q. (q.0, omega arith)) (λ j q. (q.0, omega arith)) y.number x.number
 
     pub one_at_all : {n : ℕ} → LookedAtAll m k p n → looked m k p ≡ n
-    one-at-all x = how-many-one (λ j q. q) (λ j q. q) (looked-at-all x.none).number x.number
+    one_at_all x = how-many-one (λ j q. q) (λ j q. q) (looked_at_all x.none).number x.number
 
     -- none is looked at exactly where none is active
     pub looked_none : (looked m k p ≡ 0) ↔ ((r : ℕ) → has (m.sessions k).active r ≡ false)
     unfolding looked
     looked_none =
-        let none = none-there (effective m k) (m.holders p) effective-small effective-stated in
+        let none = none-there (effective m k) (m.holders p) effective-small effective_stated in
         ((λ e r. never (has (m.sessions k).active r) (λ h. none.0 e r (record { exists = (s.shape.sessions k).active.exist r h; through = inl h }))), λ h. none.1 (λ j e. idle h e.through))
       where
         idle : ((r : ℕ) → has (m.sessions k).active r ≡ false) → {j : ℕ} → InOrBelow m (m.sessions k).active j → ⊥

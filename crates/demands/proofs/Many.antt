@@ -25,18 +25,18 @@ module _ {A S : Type 0} (size : S → ℕ) (In : S → A → Type 0) (remove : S
 
   -- A count of n or more gives n different members,
   pub counted_many : (n : ℕ) (s : S) → n ≤ size s → AsMany n (In s)
-  counted-many zero s h = record { list = []; different = none; long = refl; each = λ a m. absurd (Memᴰ.not-nil m) }
-  counted-many (suc n) s h =
+  counted_many zero s h = record { list = []; different = none; long = refl; each = λ a m. absurd (Memᴰ.not-nil m) }
+  counted_many (suc n) s h =
       let found = some_in s (omega arith) in
-      one_more n s found.0 found.1 (counted-many n (remove s found.0) (omega (arith, less s found.0 found.1)))
+      one_more n s found.0 found.1 (counted_many n (remove s found.0) (omega (arith, less s found.0 found.1)))
 
   -- different members are no more than the count,
   listed_most : (list : List A) → Different list → (s : S) → ((a : A) → Memᴰ a list → In s a) → length list ≤ size s
-  listed-most [] d s f = omega arith
-  listed-most (a ∷ rest) (more new d) s f =
-      let h = listed-most rest d (remove s a) (λ b m. kept s a b (f b (Memᴰ.tail m)) (λ e. new (subst (λ (y : A). Memᴰ y rest) e m))) in
+  listed_most [] d s f = omega arith
+  listed_most (a ∷ rest) (more new d) s f =
+      let h = listed_most rest d (remove s a) (λ b m. kept s a b (f b (Memᴰ.tail m)) (λ e. new (subst (λ (y : A). Memᴰ y rest) e m))) in
       omega (arith, less s a (f a (Memᴰ.head refl)))
 
   -- so n different members are counted as n at least.
   pub many_counted : (n : ℕ) (s : S) → AsMany n (In s) → n ≤ size s
-  many-counted n s x = omega (arith, listed-most x.list x.different s x.each, x.long)
+  many_counted n s x = omega (arith, listed_most x.list x.different s x.each, x.long)

@@ -14,7 +14,7 @@ use Rattle.roleset.proofs.BoundedLaws.{and_left, and_right, or_cases, or_left, o
 use Rattle.roleset.proofs.Laws.{member-small, is_empty_false}
 use Rattle.hierarchy.specs.Lines.{AtOrAbove}
 use Rattle.hierarchy.proofs.InheritsLaws.{ends-small}
-use Rattle.hierarchy.proofs.WalkLaws.{not-empty, reach-sound, reach-complete, under_one, one-under}
+use Rattle.hierarchy.proofs.WalkLaws.{not-empty, reach_sound, reach_complete, under_one, one-under}
 use Rattle.model.specs.Lists.{rising, listed}
 use Rattle.model.specs.Model.{Model}
 use Rattle.model.specs.Questions.{ask, review, holds, assigned_users, assigned_roles, auth_users, auth_roles, role_perms, user_perms, session_roles, session_perms, role_ops, user_ops, set_names, set_roles}
@@ -24,10 +24,10 @@ use Rattle.model.specs.Words.{reached, authorised, effective, permission}
 use Rattle.model.specs.declared.Kind.TheVariants.{Static, Dynamic}
 use Rattle.model.specs.declared.Question.{Question}
 use Rattle.model.specs.declared.Question.TheVariants.{Check, AssignedUsers, AssignedRoles, AuthUsers, AuthRoles, RolePerms, UserPerms, SessionRoles, SessionPerms, RoleOps, UserOps, Sets, SetRoles, SetCount}
-use Rattle.sound.proofs.Carried.{lines-small}
+use Rattle.sound.proofs.Carried.{lines_small}
 use Rattle.sound.proofs.Members.{common-member, common-intro}
 use Rattle.sound.proofs.Words.{authorised-exact}
-use Rattle.reviews.proofs.Agreeing.{auth-agree}
+use Rattle.reviews.proofs.Agreeing.{auth_agree}
 use Rattle.reviews.proofs.ListLaws.{listed-member, member-listed, members-ascending}
 use Rattle.reviews.proofs.Listed.{set-count-cardinality}
 use Rattle.demands.specs.Authorised.{Authorised, Effective}
@@ -38,7 +38,7 @@ use Rattle.demands.proofs.Demand2.{demand2}
 use Rattle.demands.proofs.Exact.{exact}
 use Rattle.demands.proofs.Lists.{member, ascends}
 use Rattle.demands.proofs.Kept.{reachable-sound}
-use Rattle.demands.proofs.Looking.{effective-to, effective-met}
+use Rattle.demands.proofs.Looking.{effective_to, effective_met}
 
 -- ---- a review
 
@@ -62,29 +62,29 @@ module _ (m : Model) (s : Sound m) where
 
   -- What the walk from a role meets is the role itself or inherited by it,
   lower : (r q : ℕ) → has (reached m (with none r)) q ≡ true → AtOrAbove m.juniors r q
-  lower r q h = under_one r q (reach-sound m.juniors (with none r) q h)
+  lower r q h = under_one r q (reach_sound m.juniors (with none r) q h)
 
   -- and it meets all of these.
   lower_met : (r q : ℕ) → q < 64 → AtOrAbove m.juniors r q → has (reached m (with none r)) q ≡ true
-  lower-met r q l a = reach-complete m.juniors (with none r) (lines-small m s.shape) q (one-under r q (small a) a)
+  lower_met r q l a = reach_complete m.juniors (with none r) (lines_small m s.shape) q (one-under r q (small a) a)
     where
       small : AtOrAbove m.juniors r q → r < 64
       small (inl e) = omega arith
-      small (inr i) = (ends-small (lines-small m s.shape) i).0
+      small (inr i) = (ends-small (lines_small m s.shape) i).0
 
   -- The computed set of the roles that a user is authorised for is the stated one.
   authorised_to : (u q : ℕ) → has (authorised m u) q ≡ true → Authorised m u q
-  authorised-to u q h = let e = (authorised-exact m s u q).0 h in record { exists = e.0; through = e.1 }
+  authorised_to u q h = let e = (authorised-exact m s u q).0 h in record { exists = e.0; through = e.1 }
 
   authorised_met : (u q : ℕ) → Authorised m u q → has (authorised m u) q ≡ true
-  authorised-met u q a = (authorised-exact m s u q).1 (a.exists, a.through)
+  authorised_met u q a = (authorised-exact m s u q).1 (a.exists, a.through)
 
   -- The users that are authorised for a role are those that have it among theirs.
   auth_users : {room : ℕ} {beyond missing : Bool} (r : ℕ) → Listing m room beyond missing (λ u. Authorised m u r) (review m room beyond missing (auth_users m r))
   unfolding auth_users auth_roles
-  auth-users r =
+  auth_users r =
       reviewed (auth_users m r) ((ascends (auth_users m r)).0 (members-ascending 256 _))
-      (λ u. ((λ h. authorised-to u r (listed-member 64 (has (authorised m u)) r (sym (auth-agree m s u r) ∙ (member (auth_users m r) u).1 h)).1), (λ a. (member (auth_users m r) u).0 (auth-agree m s u r ∙ member-listed 64 (has (authorised m u)) r (member-small m.roles r s.shape.roles a.exists) (authorised-met u r a)))))
+      (λ u. ((λ h. authorised_to u r (listed-member 64 (has (authorised m u)) r (sym (auth_agree m s u r) ∙ (member (auth_users m r) u).1 h)).1), (λ a. (member (auth_users m r) u).0 (auth_agree m s u r ∙ member-listed 64 (has (authorised m u)) r (member-small m.roles r s.shape.roles a.exists) (authorised_met u r a)))))
 
   -- ---- permissions that some role of a set holds
 
@@ -117,14 +117,14 @@ unfolding ask assigned_users assigned_roles auth_roles role_perms user_perms ses
 answered m p s room (Check k op obj) = demand2.access m p k.number op obj
 answered m p s room (AssignedUsers r) = all_listed 256 _ (λ u h. h) (λ u h. (s.shape.users u (s.shape.assignees u r.number h), h))
 answered m p s room (AssignedRoles u) = all_listed 64 _ (λ r h. h) (λ r h. (member-small _ r (s.shape.assigned u.number).small h, h))
-answered m p s room (AuthUsers r) = auth-users m s r.number
-answered m p s room (AuthRoles u) = all_listed 64 _ (authorised-to m s u.number) (λ r a. (member-small _ r s.shape.roles a.exists, authorised-met m s u.number r a))
-answered m p s room (RolePerms r) = perms m s _ (lower m s r.number) (lower-met m s r.number)
-answered m p s room (UserPerms u) = perms m s _ (authorised-to m s u.number) (λ q l. authorised-met m s u.number q)
+answered m p s room (AuthUsers r) = auth_users m s r.number
+answered m p s room (AuthRoles u) = all_listed 64 _ (authorised_to m s u.number) (λ r a. (member-small _ r s.shape.roles a.exists, authorised_met m s u.number r a))
+answered m p s room (RolePerms r) = perms m s _ (lower m s r.number) (lower_met m s r.number)
+answered m p s room (UserPerms u) = perms m s _ (authorised_to m s u.number) (λ q l. authorised_met m s u.number q)
 answered m p s room (SessionRoles k) = all_listed 64 _ (λ r h. h) (λ r h. (member-small _ r (s.shape.sessions k.number).active.small h, h))
-answered m p s room (SessionPerms k) = perms m s _ (effective-to m s k.number) (λ q l. effective-met m s k.number q)
-answered m p s room (RoleOps r obj) = ops m s _ obj (lower m s r.number) (lower-met m s r.number)
-answered m p s room (UserOps u obj) = ops m s _ obj (authorised-to m s u.number) (λ q l. authorised-met m s u.number q)
+answered m p s room (SessionPerms k) = perms m s _ (effective_to m s k.number) (λ q l. effective_met m s k.number q)
+answered m p s room (RoleOps r obj) = ops m s _ obj (lower m s r.number) (lower_met m s r.number)
+answered m p s room (UserOps u obj) = ops m s _ obj (authorised_to m s u.number) (λ q l. authorised_met m s u.number q)
 answered m p s room (Sets Static) = all_listed 16 _ (λ n h. h) (λ n h. ((s.shape.ssd n).named h, h))
 answered m p s room (Sets Dynamic) = all_listed 16 _ (λ n h. h) (λ n h. ((s.shape.dsd n).named h, h))
 answered m p s room (SetRoles Static name) = all_listed 64 _ (λ r h. h) (λ r h. (member-small _ r (s.shape.ssd name.number).members.small h, h))

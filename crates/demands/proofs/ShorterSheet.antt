@@ -13,10 +13,10 @@ use Rattle.numbers.specs.Answers.{answer_of, with_number}
 use Rattle.numbers.specs.declared.Named.TheVariants.{Nothing}
 use Rattle.numbers.proofs.Answers.{nothing-named}
 use Rattle.hierarchy.specs.Lines.{Chain}
-use Rattle.hierarchy.proofs.CircleLaws.{chain-circle, circular-complete}
+use Rattle.hierarchy.proofs.CircleLaws.{chain_circle, circular_complete}
 use Rattle.model.specs.Model.{Model}
 use Rattle.model.specs.Sheet.{Told, verdict, settle, refused}
-use Rattle.sound.proofs.Carried.{lines-small}
+use Rattle.sound.proofs.Carried.{lines_small}
 use Rattle.sound.proofs.Sheet.{verdict-here, settle-refused}
 use Rattle.policyform.specs.Form.{Formed, FileOf}
 use Rattle.policyform.specs.Promises.{Loads}
@@ -45,7 +45,7 @@ others-on most k e n l other = ⊎_elim (λ h. absurd (other (eqb-true n k h))) 
 chains : (m : Model) → Reachable m → (n r : ℕ) → 64 < n → Chain m.juniors n r → ⊥
 chains m p n r h c =
     let s = reachable-sound p in
-    let x = chain-circle m.juniors (lines-small m s.shape) n h c in
+    let x = chain_circle m.juniors (lines_small m s.shape) n h c in
     s.rules.acyclic.never x.0 x.1
 
 -- the first rule of a policy that may stand in a file is broken where its lines hold such a chain
@@ -53,8 +53,8 @@ circles : (m : Model) → Formed m → (n r : ℕ) → 64 < n → Chain m.junior
 unfolding rules_broken
 circles m f n r h c =
     let small = formed-lines m f in
-    let x = chain-circle m.juniors small n h c in
-    verdict-here _ _ (circular-complete m.juniors small x.0 x.1)
+    let x = chain_circle m.juniors small n h c in
+    verdict-here _ _ (circular_complete m.juniors small x.0 x.1)
 
 loading : (before m : Model) (bytes : List ℕ) (told : Told) → FileOf m bytes → Loads before bytes told → (n r : ℕ) → 64 < n → Chain m.juniors n r → told ≡ refused 6 before
 loading before m bytes told x (inl y) n r h c = absurd (y.no_file m x)

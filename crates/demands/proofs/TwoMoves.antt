@@ -242,21 +242,21 @@ sixteen m p u s o =
 module _ (m : Model) (sound : Sound m) (u s : ℕ) (o : OpenOf m u s) where
   -- one session changed, which is not this one, or is left open and its owner's
   one_changed : (k : ℕ) (new : Session) → (k ≡ s → (new.live ≡ true) × (new.owner ≡ u)) → OpenOf (session_set m k new) u s
-  one-changed k new same = put_all (λ j (x : Session). j ≡ s → (x.live ≡ true) × (x.owner ≡ u)) m.sessions k new same (λ j d e. (ap (λ (i : ℕ). (m.sessions i).live) e ∙ o.0, ap (λ (i : ℕ). (m.sessions i).owner) e ∙ o.1)) s refl
+  one_changed k new same = put_all (λ j (x : Session). j ≡ s → (x.live ≡ true) × (x.owner ≡ u)) m.sessions k new same (λ j d e. (ap (λ (i : ℕ). (m.sessions i).live) e ∙ o.0, ap (λ (i : ℕ). (m.sessions i).owner) e ∙ o.1)) s refl
 
   -- other roles are active in a session
   still : (k roles : ℕ) → OpenOf (active_set m k roles) u s
   unfolding active_set
-  still k roles = one-changed k _ (λ e. (ap (λ (i : ℕ). (m.sessions i).live) e ∙ o.0, ap (λ (i : ℕ). (m.sessions i).owner) e ∙ o.1))
+  still k roles = one_changed k _ (λ e. (ap (λ (i : ℕ). (m.sessions i).live) e ∙ o.0, ap (λ (i : ℕ). (m.sessions i).owner) e ∙ o.1))
 
   -- a set is another
   set_open : (kind : Kind) (name : ℕ) (set : RoleSet) → OpenOf (set_made kind m name set) u s
-  set-open Static name set = o
-  set-open Dynamic name set = o
+  set_open Static name set = o
+  set_open Dynamic name set = o
 
   -- shedding, with other lines or assignments
   shed_open : (base : Model) → base.sessions ≡ m.sessions → OpenOf (shed base) u s
-  shed-open base e = ((shed-stays base s).0 ∙ ap (λ (x : ℕ → Session). (x s).live) e ∙ o.0, (shed-stays base s).1 ∙ ap (λ (x : ℕ → Session). (x s).owner) e ∙ o.1)
+  shed_open base e = ((shed-stays base s).0 ∙ ap (λ (x : ℕ → Session). (x s).live) e ∙ o.0, (shed-stays base s).1 ∙ ap (λ (x : ℕ → Session). (x s).owner) e ∙ o.1)
 
   -- a command that is done and does not end it leaves it open, and the user's
   left_open : (c : Command) (list : List ℕ) → (Ends u s c → ⊥) → AllClear (refusals m c list) → OpenOf (effect m c list) u s
@@ -264,25 +264,25 @@ module _ (m : Model) (sound : Sound m) (u s : ℕ) (o : OpenOf m u s) where
   left_open (AddUser v) list spared c = o
   left_open (AddRole r) list spared c = o
   left_open (NoUser v) list spared c = o
-  left_open (NoRole r) list spared c = shed-open (without_role m r.number) refl
+  left_open (NoRole r) list spared c = shed_open (without_role m r.number) refl
   left_open (Assign v r) list spared c = o
-  left_open (Deassign v r) list spared c = shed-open (deassigned m v.number r.number) refl
+  left_open (Deassign v r) list spared c = shed_open (deassigned m v.number r.number) refl
   left_open (Grant op obj r) list spared c = o
   left_open (Revoke op obj r) list spared c = o
   left_open (Inherit a b) list spared c = o
-  left_open (Disinherit a b) list spared c = shed-open (unlined m a.number b.number) refl
-  left_open (MakeSet kind name n) list spared c = set-open kind name.number _
-  left_open (DropSet kind name) list spared c = set-open kind name.number _
-  left_open (AddMember kind name r) list spared c = set-open kind name.number _
-  left_open (DropMember kind name r) list spared c = set-open kind name.number _
-  left_open (SetCardinality kind name n) list spared c = set-open kind name.number _
+  left_open (Disinherit a b) list spared c = shed_open (unlined m a.number b.number) refl
+  left_open (MakeSet kind name n) list spared c = set_open kind name.number _
+  left_open (DropSet kind name) list spared c = set_open kind name.number _
+  left_open (AddMember kind name r) list spared c = set_open kind name.number _
+  left_open (DropMember kind name r) list spared c = set_open kind name.number _
+  left_open (SetCardinality kind name n) list spared c = set_open kind name.number _
   left_open (OpenSession v) list spared c =
-      one-changed (lowest_free m) _ (λ e. clash (m.sessions s).live o.0 (sym (ap (λ (i : ℕ). (m.sessions i).live) e) ∙ (lowest-free m (leb-false 64 (sessions_open m) c.1.1.1.1.1.0)).free))
+      one_changed (lowest_free m) _ (λ e. clash (m.sessions s).live o.0 (sym (ap (λ (i : ℕ). (m.sessions i).live) e) ∙ (lowest-free m (leb-false 64 (sessions_open m) c.1.1.1.1.1.0)).free))
   left_open (Activate v k r) list spared c = still k.number _
   left_open (DropActive v k r) list spared c = still k.number _
   left_open (EndSession v k) list spared c =
       let own = eqb-true (m.sessions k.number).owner v.number (not-false (eqb (m.sessions k.number).owner v.number) c.1.1.0) in
-      one-changed k.number closed_session (λ e. absurd (spared (one v k (sym own ∙ ap (λ (i : ℕ). (m.sessions i).owner) e ∙ o.1) e)))
+      one_changed k.number closed_session (λ e. absurd (spared (one v k (sym own ∙ ap (λ (i : ℕ). (m.sessions i).owner) e ∙ o.1) e)))
   left_open (EndAll v) list spared c =
       let same = not-ended v.number (m.sessions s) (λ l own. spared (all v (sym own ∙ o.1))) in
       (ap (λ (x : Session). x.live) same ∙ o.0, ap (λ (x : Session). x.owner) same ∙ o.1)

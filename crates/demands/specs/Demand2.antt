@@ -49,7 +49,7 @@ effect m (Inherit senior junior) list = lined m senior.number junior.number
 effect m (Disinherit senior junior) list = shed (unlined m senior.number junior.number)
 -- "SSD set: roles and a cardinality n"; "DSD set: the same shape"
 effect m (MakeSet kind name n) list = set_made kind m name.number (a_set n (set_of list))
-effect m (DropSet kind name) list = set_made kind m name.number model.absentSet
+effect m (DropSet kind name) list = set_made kind m name.number model.absent_set
 effect m (AddMember kind name r) list = set_made kind m name.number (a_set (sets_of kind m name.number).card (with (sets_of kind m name.number).roles r.number))
 effect m (DropMember kind name r) list = set_made kind m name.number (a_set (sets_of kind m name.number).card (without (sets_of kind m name.number).roles r.number))
 effect m (SetCardinality kind name n) list = set_made kind m name.number (a_set n (sets_of kind m name.number).roles)
@@ -57,7 +57,7 @@ effect m (SetCardinality kind name n) list = set_made kind m name.number (a_set 
 effect m (OpenSession u) list = opened m u.number (set_of list)
 effect m (Activate u s r) list = active_set m s.number (with (m.sessions s.number).active r.number)
 effect m (DropActive u s r) list = active_set m s.number (without (m.sessions s.number).active r.number)
-effect m (EndSession u s) list = session_set m s.number model.closedSession
+effect m (EndSession u s) list = session_set m s.number model.closed_session
 -- "`end-all u` ends the user's sessions"
 effect m (EndAll u) list = all_ended m u.number
 

@@ -112,8 +112,8 @@ pub record LineGone (m after : Model) (senior junior : ℕ) : Type 0 where
 -- ---- separation sets, of either kind
 
 -- The set `name` is there or not, has this cardinality and these roles; every other set is as it was, and nothing else is changed.
-pub record SetBecomes (kind : Kind) (m after : Model) (name : ℕ) (isThere : Bool) (n : ℕ) (member : ℕ → Bool) : Type 0 where
-  pub there : (sets_of kind after name).there ≡ isThere
+pub record SetBecomes (kind : Kind) (m after : Model) (name : ℕ) (is_there : Bool) (n : ℕ) (member : ℕ → Bool) : Type 0 where
+  pub there : (sets_of kind after name).there ≡ is_there
   pub card : (sets_of kind after name).card ≡ n
   pub roles : (q : ℕ) → has (sets_of kind after name).roles q ≡ member q
   pub others : (k : ℕ) → (k ≡ name → ⊥) → sets_of kind after k ≡ sets_of kind m k
@@ -122,10 +122,10 @@ pub record SetBecomes (kind : Kind) (m after : Model) (name : ℕ) (isThere : Bo
 -- ---- sessions
 
 -- Session s is open or not, has this owner and these active roles; every other session is as it was, and nothing else is changed.
-pub record SessionBecomes (m after : Model) (s : ℕ) (isLive : Bool) (u : ℕ) (activeRole : ℕ → Bool) : Type 0 where
-  pub live : (after.sessions s).live ≡ isLive
+pub record SessionBecomes (m after : Model) (s : ℕ) (is_live : Bool) (u : ℕ) (active_role : ℕ → Bool) : Type 0 where
+  pub live : (after.sessions s).live ≡ is_live
   pub owner : (after.sessions s).owner ≡ u
-  pub active : (q : ℕ) → has (after.sessions s).active q ≡ activeRole q
+  pub active : (q : ℕ) → has (after.sessions s).active q ≡ active_role q
   pub others : (k : ℕ) → (k ≡ s → ⊥) → after.sessions k ≡ m.sessions k
   pub only : after ≡ with_sessions m after.sessions
 

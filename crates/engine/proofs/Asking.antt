@@ -38,11 +38,11 @@ asked-arm m before after x e same told = rw e (fits-already _ before after x sam
 module _ (m : Model) (told : Told) (c : Checked) (before : List ℕ) (tells : told_checked m c ≡ told) where
   pub check_refused : is_done c.answer ≡ false → Reviewed (fitted (length before) told) before before (record { answer = c.answer; count = 0 })
   unfolding told_checked
-  check-refused e = rw (← tells, e) (fits-already _ before before _ refl (record { answer = refl; count = refl; buffer = refl }))
+  check_refused e = rw (← tells, e) (fits-already _ before before _ refl (record { answer = refl; count = refl; buffer = refl }))
 
   pub check_short : is_done c.answer ≡ true → length before < 2 → Reviewed (fitted (length before) told) before before (record { answer = BufferShort; count = 0 })
   unfolding fitted told_checked
-  check-short e h = rw (← tells, e, lt-ltb (length before) 2 h, fitted) (record { answer = refl; count = refl; buffer = refl })
+  check_short e h = rw (← tells, e, lt-ltb (length before) 2 h, fitted) (record { answer = refl; count = refl; buffer = refl })
 
   pub check_done : is_done c.answer ≡ true → 2 ≤ length before → Reviewed (fitted (length before) told) before (set (set before 0 (bit c.yes)) 1 c.looked) (record { answer = c.answer; count = 2 })
   unfolding told_checked

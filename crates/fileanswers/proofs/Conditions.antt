@@ -14,8 +14,8 @@ use Rattle.roleset.specs.Roles.{has, subset, common, count, none}
 use Rattle.roleset.proofs.BoundedLaws.{clash, never, not_yes, yes-not, and_left, and_right, and_both, or_cases, or_left, or_right, some-elim, some-intro}
 use Rattle.roleset.proofs.Laws.{has-none, member-small, subset-true, subset-false}
 use Rattle.hierarchy.specs.Walks.{circular}
-use Rattle.hierarchy.proofs.CircleLaws.{circular-sound, circular-complete}
-use Rattle.hierarchy.proofs.WalkLaws.{reach-small}
+use Rattle.hierarchy.proofs.CircleLaws.{circular_sound, circular_complete}
+use Rattle.hierarchy.proofs.WalkLaws.{reach_small}
 use Rattle.model.specs.Model.{Model, RoleSet, Session}
 use Rattle.model.specs.Words.{authorised, counted, breaks, breaks_some, static_broken, dynamic_broken}
 use Rattle.model.specs.commands.Sets.{sets_of, bad_cardinality}
@@ -27,7 +27,7 @@ use Rattle.demands.specs.Authorised.{InOrBelow, Authorised, Effective}
 use Rattle.sound.proofs.Counted.{counted-small}
 use Rattle.demands.specs.Broken.{StaticBroken, DynamicBroken}
 use Rattle.demands.specs.Many.{AsMany}
-use Rattle.demands.proofs.Broken.{broken-exact}
+use Rattle.demands.proofs.Broken.{broken_exact}
 use Rattle.demands.proofs.Counts.{many-in}
 use Rattle.policyform.proofs.Lines.{formed-lines}
 use Rattle.fileanswers.specs.Loading.{Circle, BadCardinality, NotAuthorised, Asked}
@@ -37,28 +37,28 @@ module _ (m : Model) (f : Formed m) where
   -- ---- 6
 
   pub circle_says : (circular m.juniors ≡ true) ↔ Circle m
-  circle_says = ((λ e. let q = circular-sound m.juniors e in record { role = q.0; itself = q.1 }), (λ x. circular-complete m.juniors (formed-lines m f) x.role x.itself))
+  circle_says = ((λ e. let q = circular_sound m.juniors e in record { role = q.0; itself = q.1 }), (λ x. circular_complete m.juniors (formed-lines m f) x.role x.itself))
 
   -- ---- 7
 
   set_form : (kind : Kind) (n : ℕ) → SetForm m n (sets_of kind m n)
-  set-form Static n = f.ssd n
-  set-form Dynamic n = f.dsd n
+  set_form Static n = f.ssd n
+  set_form Dynamic n = f.dsd n
 
   bad_found : (kind : Kind) → bad_set (sets_of kind m) ≡ true → BadCardinality m
   unfolding bad_set
-  bad-found kind e = record { kind = kind; name = q.0; there = and_left _ _ q.2; bad = go (or_cases _ _ (and_right (sets_of kind m q.0).there _ q.2)) }
+  bad_found kind e = record { kind = kind; name = q.0; there = and_left _ _ q.2; bad = go (or_cases _ _ (and_right (sets_of kind m q.0).there _ q.2)) }
     where
       q : (n : ℕ) × (n < 16) × (((sets_of kind m n).there && bad_cardinality (sets_of kind m n).card (sets_of kind m n).roles) ≡ true)
       q = some-elim 16 (λ n. (sets_of kind m n).there && bad_cardinality (sets_of kind m n).card (sets_of kind m n).roles) e
 
       go : (ltb (sets_of kind m q.0).card 2 ≡ true) ⊎ (ltb (count (sets_of kind m q.0).roles) (sets_of kind m q.0).card ≡ true) → ((sets_of kind m q.0).card < 2) ⊎ (AsMany (sets_of kind m q.0).card (λ r. has (sets_of kind m q.0).roles r ≡ true) → ⊥)
       go (inl h) = inl (ltb-true (sets_of kind m q.0).card 2 h)
-      go (inr h) = inr (λ a. let few = ltb-true (count (sets_of kind m q.0).roles) (sets_of kind m q.0).card h in omega (arith, (many-in (sets_of kind m q.0).card (sets_of kind m q.0).roles (set-form kind q.0).members.small).1 a))
+      go (inr h) = inr (λ a. let few = ltb-true (count (sets_of kind m q.0).roles) (sets_of kind m q.0).card h in omega (arith, (many-in (sets_of kind m q.0).card (sets_of kind m q.0).roles (set_form kind q.0).members.small).1 a))
 
   found_bad : (kind : Kind) (n : ℕ) → (sets_of kind m n).there ≡ true → ((sets_of kind m n).card < 2) ⊎ (AsMany (sets_of kind m n).card (λ r. has (sets_of kind m n).roles r ≡ true) → ⊥) → bad_set (sets_of kind m) ≡ true
   unfolding bad_set
-  found-bad kind n there bad = some-intro 16 (λ n. (sets_of kind m n).there && bad_cardinality (sets_of kind m n).card (sets_of kind m n).roles) n ((set-form kind n).named there) (and_both (sets_of kind m n).there _ there (go (sets_of kind m n) (set-form kind n).members.small bad))
+  found_bad kind n there bad = some-intro 16 (λ n. (sets_of kind m n).there && bad_cardinality (sets_of kind m n).card (sets_of kind m n).roles) n ((set_form kind n).named there) (and_both (sets_of kind m n).there _ there (go (sets_of kind m n) (set_form kind n).members.small bad))
     where
       go : (set : RoleSet) → set.roles < 2 ^ 64 → (set.card < 2) ⊎ (AsMany set.card (λ r. has set.roles r ≡ true) → ⊥) → bad_cardinality set.card set.roles ≡ true
       go set small (inl h) = or_left (ltb set.card 2) _ (lt-ltb set.card 2 h)
@@ -69,11 +69,11 @@ module _ (m : Model) (f : Formed m) where
           decide (no enough) = absurd (h ((many-in set.card set.roles small).0 (omega arith)))
 
   pub cardinality_says : ((bad_set m.ssd || bad_set m.dsd) ≡ true) ↔ BadCardinality m
-  cardinality_says = ((λ e. to (or_cases (bad_set m.ssd) (bad_set m.dsd) e)), (λ x. back x.kind (found-bad x.kind x.name x.there x.bad)))
+  cardinality_says = ((λ e. to (or_cases (bad_set m.ssd) (bad_set m.dsd) e)), (λ x. back x.kind (found_bad x.kind x.name x.there x.bad)))
     where
       to : (bad_set m.ssd ≡ true) ⊎ (bad_set m.dsd ≡ true) → BadCardinality m
-      to (inl e) = bad-found Static e
-      to (inr e) = bad-found Dynamic e
+      to (inl e) = bad_found Static e
+      to (inr e) = bad_found Dynamic e
 
       back : (kind : Kind) → bad_set (sets_of kind m) ≡ true → (bad_set m.ssd || bad_set m.dsd) ≡ true
       back Static e = or_left (bad_set m.ssd) (bad_set m.dsd) e
@@ -90,7 +90,7 @@ module _ (m : Model) (f : Formed m) where
   -- ---- 9
 
   live_active : (s r : ℕ) → has (m.sessions s).active r ≡ true → (m.sessions s).live ≡ true
-  live-active s r h = go (m.sessions s).live refl
+  live_active s r h = go (m.sessions s).live refl
     where
       go : (b : Bool) → (m.sessions s).live ≡ b → (m.sessions s).live ≡ true
       go true e = e
@@ -111,7 +111,7 @@ module _ (m : Model) (f : Formed m) where
           let q = some-elim 64 test e in
           let u = (m.sessions q.0).owner in
           let k = subset-false (m.sessions q.0).active (authorised m u) (yes-not _ q.2) in
-          record { session = q.0; role = k.0; live = live-active q.0 k.0 k.2; active = k.2; not_authorised = λ a. clash (has (authorised m u) k.0) ((exact u k.0).1 a) k.3 }
+          record { session = q.0; role = k.0; live = live_active q.0 k.0 k.2; active = k.2; not_authorised = λ a. clash (has (authorised m u) k.0) ((exact u k.0).1 a) k.3 }
 
       back : NotAuthorised m → unauthorised m ≡ true
       back x =
@@ -121,7 +121,7 @@ module _ (m : Model) (f : Formed m) where
   -- ---- 10
 
   nobody_beyond : (u r : ℕ) → 256 ≤ u → Authorised m u r → ⊥
-  nobody-beyond u r l a = go a.through
+  nobody_beyond u r l a = go a.through
     where
       go : InOrBelow m (m.assigned u) r → ⊥
       go (inl h) = let small = f.users u (f.assignees u r h) in omega arith
@@ -129,16 +129,16 @@ module _ (m : Model) (f : Formed m) where
 
   pub static_says : (BadCardinality m → ⊥) → (some 256 (static_broken m) ≡ true) ↔ StaticBroken m
   unfolding static_broken
-  static-says fine = broken-exact 256 m.ssd (authorised m) (Authorised m) (λ u. reach-small m.juniors (m.assigned u)) (authorised-formed m f) nobody-beyond (λ name. (f.ssd name).named) (at_least fine Static)
+  static_says fine = broken_exact 256 m.ssd (authorised m) (Authorised m) (λ u. reach_small m.juniors (m.assigned u)) (authorised-formed m f) nobody_beyond (λ name. (f.ssd name).named) (at_least fine Static)
 
   -- ---- 11
 
   -- no session past 63 has an effective role
   effective_live : (s r : ℕ) → 64 ≤ s → Effective m s r → ⊥
-  effective-live s r l e = go e.through
+  effective_live s r l e = go e.through
     where
       active : (a : ℕ) → has (m.sessions s).active a ≡ true → ⊥
-      active a h = let open-one = (f.sessions s).numbered (live-active s a h) in omega arith
+      active a h = let open-one = (f.sessions s).numbered (live_active s a h) in omega arith
 
       go : InOrBelow m (m.sessions s).active r → ⊥
       go (inl h) = active r h
@@ -146,7 +146,7 @@ module _ (m : Model) (f : Formed m) where
 
   pub dynamic_says : (BadCardinality m → ⊥) → (some 64 (dynamic_broken m) ≡ true) ↔ DynamicBroken m
   unfolding dynamic_broken
-  dynamic-says fine = broken-exact 64 m.dsd (counted m) (Effective m) (counted-small m) (effective-formed m f) effective-live (λ name. (f.dsd name).named) (at_least fine Dynamic)
+  dynamic_says fine = broken_exact 64 m.dsd (counted m) (Effective m) (counted-small m) (effective-formed m f) effective_live (λ name. (f.dsd name).named) (at_least fine Dynamic)
 
   abbrev pub asked : Asked m
-  asked = record { circle = circular m.juniors; circle_says = circle-says; cardinality = bad_set m.ssd || bad_set m.dsd; cardinality_says = cardinality-says; owner = unauthorised m; owner_says = owner-says; static = some 256 (static_broken m); static_says = static-says; dynamic = some 64 (dynamic_broken m); dynamic_says = dynamic-says }
+  asked = record { circle = circular m.juniors; circle_says = circle-says; cardinality = bad_set m.ssd || bad_set m.dsd; cardinality_says = cardinality-says; owner = unauthorised m; owner_says = owner-says; static = some 256 (static_broken m); static_says = static_says; dynamic = some 64 (dynamic_broken m); dynamic_says = dynamic_says }

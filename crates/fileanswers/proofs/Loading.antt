@@ -14,7 +14,7 @@ use Rattle.policyread.proofs.Whole.{file-one}
 use Rattle.filebytes.specs.Sections.{Sections, bytes_of, OfTheForm}
 use Rattle.filebytes.specs.Meaning.{Says}
 use Rattle.filebytes.specs.FileForm.{AsThePaperSays}
-use Rattle.filebytes.proofs.Listed.{form-sixteen}
+use Rattle.filebytes.proofs.Listed.{form_sixteen}
 use Rattle.filebytes.proofs.FileForm.{paper-form}
 use Rattle.demands.proofs.Exact.{exact}
 use Rattle.demands.specs.Demand2.{Exactly}
@@ -35,7 +35,7 @@ answers before m bytes told x (inr y) = record { asked = asked m x.formed; exact
 listed : (before : Model) (f : Sections) (told : Told) → OfTheForm f → Loads before (bytes_of f) told → (m : Model) × (Says f m) × Answered before m told
 listed before f told form l =
     let q = paper-form.form_file (bytes_of f) (record { sections = f; form = form; written = refl }) in
-    (q.0, paper-form.file_says q.0 f (form-sixteen f form) q.1, answers before q.0 (bytes_of f) told q.1 l)
+    (q.0, paper-form.file_says q.0 f (form_sixteen f form) q.1, answers before q.0 (bytes_of f) told q.1 l)
 
 -- ---- 14
 

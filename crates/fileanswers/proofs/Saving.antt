@@ -16,7 +16,7 @@ use Rattle.filebytes.specs.Sections.{Sections, bytes_of, OfTheForm}
 use Rattle.filebytes.specs.Meaning.{Says}
 use Rattle.filebytes.specs.FileForm.{AsThePaperSays}
 use Rattle.filebytes.proofs.FileForm.{paper-form}
-use Rattle.filebytes.proofs.Listed.{form-sixteen}
+use Rattle.filebytes.proofs.Listed.{form_sixteen}
 use Rattle.demands.proofs.Kept.{reachable-sound}
 use Rattle.fileanswers.specs.Saving.{Saving, SavesAsThePaperSays}
 
@@ -28,7 +28,7 @@ module _ (m : Model) (s : Sound m) where
   paper = paper-form.file_form m (encode m) file
 
   says : Says paper.sections m
-  says = paper-form.file_says m paper.sections (form-sixteen paper.sections paper.form) (subst (FileOf m) (sym paper.written) file)
+  says = paper-form.file_says m paper.sections (form_sixteen paper.sections paper.form) (subst (FileOf m) (sym paper.written) file)
 
   -- every file of the form that says the policy is as long as the one that is written
   as_long : (f : Sections) → OfTheForm f → Says f m → length (encode m) ≡ length (bytes_of f)

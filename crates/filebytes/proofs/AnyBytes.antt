@@ -6,7 +6,7 @@ use Prim.Native.Nat.{ℕ, zero, suc, ◌+◌, ◌*◌, ◌/◌, ◌%◌, ◌<◌
 use native.Mathlib.Omega.{arith}
 use lib.ListN.{length}
 use Rattle.filebytes.specs.Sections.{SetEntry, SessionEntry, number, entries, listing, pair, grant, set, session, bytes_of, Every, Writable, Fits, Sixteen}
-use Rattle.filebytes.specs.FileForm.{AnyBytes, in-full, cut_short, with-more}
+use Rattle.filebytes.specs.FileForm.{AnyBytes, in_full, cut_short, with_more}
 
 abbrev Bytes : List ℕ → Type 0
 Bytes l = Every (λ b. b < 256) l
@@ -126,6 +126,6 @@ pub any-bytes : (bytes : List ℕ) → Every (λ b. b < 256) bytes → AnyBytes 
 any-bytes bytes r = go (file-reader.read bytes r)
   where
     go : Reading Sixteen bytes_of bytes → AnyBytes bytes
-    go (whole f six [] p e) = in-full f six (sym (append-nil (bytes_of f)) ∙ sym e)
-    go (whole f six (next ∷ rest) p e) = with-more f six next rest (sym e)
+    go (whole f six [] p e) = in_full f six (sym (append-nil (bytes_of f)) ∙ sym e)
+    go (whole f six (next ∷ rest) p e) = with_more f six next rest (sym e)
     go (early f six next more e) = cut_short f six next more e

@@ -69,30 +69,30 @@ both_by : (a b : Bool) (P Q : Type 0) → (a ≡ true → P) → (b ≡ true →
 both_by a b P Q x y e = (x (and_left a b e), y (and_right a b e))
 
 module _ (f : Sections) where
-  abbrev roleListIs : List ℕ → Bool
-  roleListIs l = is_good 64 (λ r. is_listed r f.roles) ltb l
+  abbrev role_list_is : List ℕ → Bool
+  role_list_is l = is_good 64 (λ r. is_listed r f.roles) ltb l
 
-  role_list_by : (l : List ℕ) → roleListIs l ≡ true → RoleList f l
-  role-list-by l e = good-by 64 (λ r. is_listed r f.roles) ltb (λ r. Listed r f.roles) ◌<◌ (λ r. listed_by r f.roles) ltb-true l e
+  role_list_by : (l : List ℕ) → role_list_is l ≡ true → RoleList f l
+  role_list_by l e = good-by 64 (λ r. is_listed r f.roles) ltb (λ r. Listed r f.roles) ◌<◌ (λ r. listed_by r f.roles) ltb-true l e
 
-  abbrev setIs : SetEntry → Bool
-  setIs e = ltb e.name 16 && (ltb e.cardinality 65536 && roleListIs e.members)
+  abbrev set_is : SetEntry → Bool
+  set_is e = ltb e.name 16 && (ltb e.cardinality 65536 && role_list_is e.members)
 
-  set_by : (e : SetEntry) → setIs e ≡ true → FineSet f e
-  set-by e h =
-      let rest = and_right (ltb e.name 16) (ltb e.cardinality 65536 && roleListIs e.members) h in
-      record { name = ltb-true e.name 16 (and_left (ltb e.name 16) (ltb e.cardinality 65536 && roleListIs e.members) h); cardinality = ltb-true e.cardinality 65536 (and_left (ltb e.cardinality 65536) (roleListIs e.members) rest); members = role-list-by e.members (and_right (ltb e.cardinality 65536) (roleListIs e.members) rest) }
+  set_by : (e : SetEntry) → set_is e ≡ true → FineSet f e
+  set_by e h =
+      let rest = and_right (ltb e.name 16) (ltb e.cardinality 65536 && role_list_is e.members) h in
+      record { name = ltb-true e.name 16 (and_left (ltb e.name 16) (ltb e.cardinality 65536 && role_list_is e.members) h); cardinality = ltb-true e.cardinality 65536 (and_left (ltb e.cardinality 65536) (role_list_is e.members) rest); members = role_list_by e.members (and_right (ltb e.cardinality 65536) (role_list_is e.members) rest) }
 
-  abbrev sessionIs : SessionEntry → Bool
-  sessionIs e = ltb e.number 64 && (is_listed e.owner f.users && roleListIs e.active)
+  abbrev session_is : SessionEntry → Bool
+  session_is e = ltb e.number 64 && (is_listed e.owner f.users && role_list_is e.active)
 
-  session_by : (e : SessionEntry) → sessionIs e ≡ true → FineSession f e
-  session-by e h =
-      let rest = and_right (ltb e.number 64) (is_listed e.owner f.users && roleListIs e.active) h in
-      record { number = ltb-true e.number 64 (and_left (ltb e.number 64) (is_listed e.owner f.users && roleListIs e.active) h); owner = listed_by e.owner f.users (and_left (is_listed e.owner f.users) (roleListIs e.active) rest); active = role-list-by e.active (and_right (is_listed e.owner f.users) (roleListIs e.active) rest) }
+  session_by : (e : SessionEntry) → session_is e ≡ true → FineSession f e
+  session_by e h =
+      let rest = and_right (ltb e.number 64) (is_listed e.owner f.users && role_list_is e.active) h in
+      record { number = ltb-true e.number 64 (and_left (ltb e.number 64) (is_listed e.owner f.users && role_list_is e.active) h); owner = listed_by e.owner f.users (and_left (is_listed e.owner f.users) (role_list_is e.active) rest); active = role_list_by e.active (and_right (is_listed e.owner f.users) (role_list_is e.active) rest) }
 
   grant_fine : (g : ℕ × ℕ × ℕ) → (is_listed g.0 f.roles && (ltb g.1 16 && ltb g.2 256)) ≡ true → (Listed g.0 f.roles) × (g.1 < 16) × (g.2 < 256)
-  grant-fine g h =
+  grant_fine g h =
       let rest = and_right (is_listed g.0 f.roles) (ltb g.1 16 && ltb g.2 256) h in
       (listed_by g.0 f.roles (and_left (is_listed g.0 f.roles) (ltb g.1 16 && ltb g.2 256) h), ltb-true g.1 16 (and_left (ltb g.1 16) (ltb g.2 256) rest), ltb-true g.2 256 (and_right (ltb g.1 16) (ltb g.2 256) rest))
 
@@ -103,19 +103,19 @@ module _ (f : Sections) where
     pub lines : is_good 512 (λ l. is_listed l.0 f.roles && is_listed l.1 f.roles) pair_is f.lines ≡ true
     pub assignments : is_good 2048 (λ a. is_listed a.0 f.users && is_listed a.1 f.roles) pair_is f.assignments ≡ true
     pub grants : is_good 2048 (λ g. is_listed g.0 f.roles && (ltb g.1 16 && ltb g.2 256)) grant_is f.grants ≡ true
-    pub ssd : is_good 16 setIs (λ a b. ltb a.name b.name) f.ssd ≡ true
-    pub dsd : is_good 16 setIs (λ a b. ltb a.name b.name) f.dsd ≡ true
-    pub sessions : is_good 64 sessionIs (λ a b. ltb a.number b.number) f.sessions ≡ true
+    pub ssd : is_good 16 set_is (λ a b. ltb a.name b.name) f.ssd ≡ true
+    pub dsd : is_good 16 set_is (λ a b. ltb a.name b.name) f.dsd ≡ true
+    pub sessions : is_good 64 session_is (λ a b. ltb a.number b.number) f.sessions ≡ true
 
   pub tested_form : Tested → OfTheForm f
-  tested-form t =
+  tested_form t =
       record {
         users = good-by 256 (λ u. ltb u 256) ltb (λ u. u < 256) ◌<◌ (λ u. ltb-true u 256) ltb-true f.users t.users;
         roles = good-by 64 (λ r. ltb r 64) ltb (λ r. r < 64) ◌<◌ (λ r. ltb-true r 64) ltb-true f.roles t.roles;
         lines = good-by 512 (λ l. is_listed l.0 f.roles && is_listed l.1 f.roles) pair_is _ pair_before (λ l. both_by _ _ _ _ (listed_by l.0 f.roles) (listed_by l.1 f.roles)) pair-by f.lines t.lines;
         assignments = good-by 2048 (λ a. is_listed a.0 f.users && is_listed a.1 f.roles) pair_is _ pair_before (λ a. both_by _ _ _ _ (listed_by a.0 f.users) (listed_by a.1 f.roles)) pair-by f.assignments t.assignments;
-        grants = good-by 2048 (λ g. is_listed g.0 f.roles && (ltb g.1 16 && ltb g.2 256)) grant_is _ grant_before grant-fine grant-by f.grants t.grants;
-        ssd = good-by 16 setIs (λ a b. ltb a.name b.name) (FineSet f) (λ a b. a.name < b.name) set-by (λ a b. ltb-true a.name b.name) f.ssd t.ssd;
-        dsd = good-by 16 setIs (λ a b. ltb a.name b.name) (FineSet f) (λ a b. a.name < b.name) set-by (λ a b. ltb-true a.name b.name) f.dsd t.dsd;
-        sessions = good-by 64 sessionIs (λ a b. ltb a.number b.number) (FineSession f) (λ a b. a.number < b.number) session-by (λ a b. ltb-true a.number b.number) f.sessions t.sessions;
+        grants = good-by 2048 (λ g. is_listed g.0 f.roles && (ltb g.1 16 && ltb g.2 256)) grant_is _ grant_before grant_fine grant-by f.grants t.grants;
+        ssd = good-by 16 set_is (λ a b. ltb a.name b.name) (FineSet f) (λ a b. a.name < b.name) set_by (λ a b. ltb-true a.name b.name) f.ssd t.ssd;
+        dsd = good-by 16 set_is (λ a b. ltb a.name b.name) (FineSet f) (λ a b. a.name < b.name) set_by (λ a b. ltb-true a.name b.name) f.dsd t.dsd;
+        sessions = good-by 64 session_is (λ a b. ltb a.number b.number) (FineSession f) (λ a b. a.number < b.number) session_by (λ a b. ltb-true a.number b.number) f.sessions t.sessions;
       }

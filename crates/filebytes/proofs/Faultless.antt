@@ -12,7 +12,7 @@ use lib.ListN.{length}
 use borrow.Author.Tests.{eqb-true, eq-eqb}
 use Rattle.roleset.proofs.BoundedLaws.{clash}
 use Rattle.filebytes.specs.Sections.{SetEntry, Sections, Ascending, Good, Listed, pair_before, grant_before, RoleList, FineSet, FineSession, OfTheForm, Sixteen}
-use Rattle.filebytes.specs.Faults.{Disordered, ListFault, SetFault, Fault, too_long, not-ascending, not_listed, name-beyond, in_members, number-beyond, owner-unlisted, in-active}
+use Rattle.filebytes.specs.Faults.{Disordered, ListFault, SetFault, Fault, too_long, not_ascending, not_listed, name_beyond, in_members, number_beyond, owner_unlisted, in_active}
 use Rattle.filebytes.specs.Faults as faults
 use Rattle.filebytes.proofs.Lists.{every-intro, every-elim, every-weaker, any, any-in, in-any}
 
@@ -70,42 +70,42 @@ grant-on a b c (inr p) (inr q) = inr (p.0 ∙ q.0, pair-on (a.1, a.2) (b.1, b.2)
 module _ {A : Type 0} (Before : A → A → Type 0) (dec : (a b : A) → Dec (Before a b)) (on : (a b c : A) → Before a b → Before b c → Before a c) where
   -- Where each entry comes before the next one it comes before all that follow.
   next_ascending : (l : List A) → ((front : List A) (a b : A) (rest : List A) → l ≡ front ++ (a ∷ b ∷ rest) → Before a b) → Ascending Before l
-  next-ascending [] h = tt
-  next-ascending (a ∷ []) h = (tt, tt)
-  next-ascending (a ∷ b ∷ rest) h =
-      let later = next-ascending (b ∷ rest) (λ front x y r e. h (a ∷ front) x y r (ap (λ (l : List A). a ∷ l) e)) in
+  next_ascending [] h = tt
+  next_ascending (a ∷ []) h = (tt, tt)
+  next_ascending (a ∷ b ∷ rest) h =
+      let later = next_ascending (b ∷ rest) (λ front x y r e. h (a ∷ front) x y r (ap (λ (l : List A). a ∷ l) e)) in
       let here = h [] a b rest refl in
       ((here, every-weaker (Before b) (Before a) (λ c. on a b c here) rest later.0), later)
 
   good_unless : (limit : ℕ) (Fine : A → Type 0) (l : List A) → (limit < length l → ⊥) → ((a : A) → Memᴰ a l → Fine a) → (Disordered Before l → ⊥) → Good limit Fine Before l
-  good-unless limit Fine l few fine ordered =
+  good_unless limit Fine l few fine ordered =
       record {
         count = omega (arith, holds (dec_lt (length l) (limit + 1)) (λ h. few (omega arith)));
         each = every-intro Fine l fine;
-        order = next-ascending l (λ front a b rest e. holds (dec a b) (λ h. ordered (record { front = front; one = a; next = b; rest = rest; stand = e; wrong = h })));
+        order = next_ascending l (λ front a b rest e. holds (dec a b) (λ h. ordered (record { front = front; one = a; next = b; rest = rest; stand = e; wrong = h })));
       }
 
 -- ---- section by section
 
 module _ (f : Sections) (six : Sixteen f) (none : Fault f → ⊥) where
   a_list : (l : List ℕ) → (ListFault f l → ⊥) → RoleList f l
-  a-list l h = good-unless ◌<◌ dec_lt less-on 64 (λ r. Listed r f.roles) l (λ x. h (too_long x)) (λ r i. holds (dec-listed r f.roles) (λ x. h (not_listed r i x))) (λ d. h (not-ascending d))
+  a_list l h = good_unless ◌<◌ dec_lt less-on 64 (λ r. Listed r f.roles) l (λ x. h (too_long x)) (λ r i. holds (dec-listed r f.roles) (λ x. h (not_listed r i x))) (λ d. h (not_ascending d))
 
   below : (n k : ℕ) → (n < k → ⊥) → k < n + 1
   below n k h = holds (dec_lt k (n + 1)) (λ x. h (omega arith))
 
   sets_good : (l : List SetEntry) → (16 < length l → ⊥) → (Disordered (λ a b. a.name < b.name) l → ⊥) → ((e : SetEntry) → Memᴰ e l → SetFault f e → ⊥) → ((e : SetEntry) → Memᴰ e l → e.cardinality < 65536) → Good 16 (FineSet f) (λ a b. a.name < b.name) l
-  sets-good l few ordered h small = good-unless (λ a b. a.name < b.name) (λ a b. dec_lt a.name b.name) (λ a b c. less-on a.name b.name c.name) 16 (FineSet f) l few (λ e i. record { name = below 15 e.name (λ x. h e i (name-beyond x)); cardinality = small e i; members = a-list e.members (λ x. h e i (in_members x)) }) ordered
+  sets_good l few ordered h small = good_unless (λ a b. a.name < b.name) (λ a b. dec_lt a.name b.name) (λ a b c. less-on a.name b.name c.name) 16 (FineSet f) l few (λ e i. record { name = below 15 e.name (λ x. h e i (name_beyond x)); cardinality = small e i; members = a_list e.members (λ x. h e i (in_members x)) }) ordered
 
   pub faultless_form : OfTheForm f
   faultless_form =
       record {
-        users = good-unless ◌<◌ dec_lt less-on 256 (λ u. u < 256) f.users (λ x. none (faults.many_users x)) (λ u i. below 255 u (λ x. none (faults.user_beyond u i x))) (λ d. none (faults.users_order d));
-        roles = good-unless ◌<◌ dec_lt less-on 64 (λ r. r < 64) f.roles (λ x. none (faults.many_roles x)) (λ r i. below 63 r (λ x. none (faults.role_beyond r i x))) (λ d. none (faults.roles_order d));
-        lines = good-unless pair_before dec-pair pair-on 512 _ f.lines (λ x. none (faults.many_lines x)) (λ l i. (holds (dec-listed l.0 f.roles) (λ x. none (faults.senior_unlisted l i x)), holds (dec-listed l.1 f.roles) (λ x. none (faults.junior_unlisted l i x)))) (λ d. none (faults.lines_order d));
-        assignments = good-unless pair_before dec-pair pair-on 2048 _ f.assignments (λ x. none (faults.many_assignments x)) (λ a i. (holds (dec-listed a.0 f.users) (λ x. none (faults.user_unlisted a i x)), holds (dec-listed a.1 f.roles) (λ x. none (faults.role_unlisted a i x)))) (λ d. none (faults.assignments_order d));
-        grants = good-unless grant_before dec-grant grant-on 2048 _ f.grants (λ x. none (faults.many_grants x)) (λ g i. (holds (dec-listed g.0 f.roles) (λ x. none (faults.holder_unlisted g i x)), below 15 g.1 (λ x. none (faults.operation_beyond g i x)), below 255 g.2 (λ x. none (faults.object_beyond g i x)))) (λ d. none (faults.grants_order d));
-        ssd = sets-good f.ssd (λ x. none (faults.many_ssd x)) (λ d. none (faults.ssd_order d)) (λ e i x. none (faults.in_ssd e i x)) (λ e i. (every-elim _ f.ssd six.ssd.1 e i).1);
-        dsd = sets-good f.dsd (λ x. none (faults.many_dsd x)) (λ d. none (faults.dsd_order d)) (λ e i x. none (faults.in_dsd e i x)) (λ e i. (every-elim _ f.dsd six.dsd.1 e i).1);
-        sessions = good-unless (λ a b. a.number < b.number) (λ a b. dec_lt a.number b.number) (λ a b c. less-on a.number b.number c.number) 64 (FineSession f) f.sessions (λ x. none (faults.many_sessions x)) (λ e i. record { number = below 63 e.number (λ x. none (faults.in_sessions e i (number-beyond x))); owner = holds (dec-listed e.owner f.users) (λ x. none (faults.in_sessions e i (owner-unlisted x))); active = a-list e.active (λ x. none (faults.in_sessions e i (in-active x))) }) (λ d. none (faults.sessions_order d));
+        users = good_unless ◌<◌ dec_lt less-on 256 (λ u. u < 256) f.users (λ x. none (faults.many_users x)) (λ u i. below 255 u (λ x. none (faults.user_beyond u i x))) (λ d. none (faults.users_order d));
+        roles = good_unless ◌<◌ dec_lt less-on 64 (λ r. r < 64) f.roles (λ x. none (faults.many_roles x)) (λ r i. below 63 r (λ x. none (faults.role_beyond r i x))) (λ d. none (faults.roles_order d));
+        lines = good_unless pair_before dec-pair pair-on 512 _ f.lines (λ x. none (faults.many_lines x)) (λ l i. (holds (dec-listed l.0 f.roles) (λ x. none (faults.senior_unlisted l i x)), holds (dec-listed l.1 f.roles) (λ x. none (faults.junior_unlisted l i x)))) (λ d. none (faults.lines_order d));
+        assignments = good_unless pair_before dec-pair pair-on 2048 _ f.assignments (λ x. none (faults.many_assignments x)) (λ a i. (holds (dec-listed a.0 f.users) (λ x. none (faults.user_unlisted a i x)), holds (dec-listed a.1 f.roles) (λ x. none (faults.role_unlisted a i x)))) (λ d. none (faults.assignments_order d));
+        grants = good_unless grant_before dec-grant grant-on 2048 _ f.grants (λ x. none (faults.many_grants x)) (λ g i. (holds (dec-listed g.0 f.roles) (λ x. none (faults.holder_unlisted g i x)), below 15 g.1 (λ x. none (faults.operation_beyond g i x)), below 255 g.2 (λ x. none (faults.object_beyond g i x)))) (λ d. none (faults.grants_order d));
+        ssd = sets_good f.ssd (λ x. none (faults.many_ssd x)) (λ d. none (faults.ssd_order d)) (λ e i x. none (faults.in_ssd e i x)) (λ e i. (every-elim _ f.ssd six.ssd.1 e i).1);
+        dsd = sets_good f.dsd (λ x. none (faults.many_dsd x)) (λ d. none (faults.dsd_order d)) (λ e i x. none (faults.in_dsd e i x)) (λ e i. (every-elim _ f.dsd six.dsd.1 e i).1);
+        sessions = good_unless (λ a b. a.number < b.number) (λ a b. dec_lt a.number b.number) (λ a b c. less-on a.number b.number c.number) 64 (FineSession f) f.sessions (λ x. none (faults.many_sessions x)) (λ e i. record { number = below 63 e.number (λ x. none (faults.in_sessions e i (number_beyond x))); owner = holds (dec-listed e.owner f.users) (λ x. none (faults.in_sessions e i (owner_unlisted x))); active = a_list e.active (λ x. none (faults.in_sessions e i (in_active x))) }) (λ d. none (faults.sessions_order d));
       }

@@ -111,28 +111,28 @@ grant-up k j l = go (dec_lt (k / 4096) (j / 4096)) (dec_lt (k % 4096 / 256) (j %
 
 module _ (m : Model) (f : Formed m) where
   a_user : (u : ℕ) → m.users u ≡ true → Listed u (sections_of m).users
-  a-user u e = in_members 256 m.users u (f.users u e) e
+  a_user u e = in_members 256 m.users u (f.users u e) e
 
   a_role : (r : ℕ) → has m.roles r ≡ true → Listed r (sections_of m).roles
-  a-role r e = in_members 64 (has m.roles) r (member-small m.roles r f.roles e) e
+  a_role r e = in_members 64 (has m.roles) r (member-small m.roles r f.roles e) e
 
   role_list : (s : ℕ) → Existing m s → RoleList (sections_of m) (members 64 (has s))
-  role-list s x = good-numbers 64 (λ r. Listed r (sections_of m).roles) 64 (has s) (members-most 64 (has s)) (λ r l e. a-role r (x.exist r e))
+  role_list s x = good-numbers 64 (λ r. Listed r (sections_of m).roles) 64 (has s) (members-most 64 (has s)) (λ r l e. a_role r (x.exist r e))
 
   sets_form : (sets : ℕ → RoleSet) → ((n : ℕ) → SetForm m n (sets n)) → Good 16 (FineSet (sections_of m)) (λ a b. a.name < b.name) (map (set_entry_of sets) (members 16 (λ n. (sets n).there)))
-  sets-form sets x = good-members 16 (FineSet (sections_of m)) (λ a b. a.name < b.name) (set_entry_of sets) 16 (λ n. (sets n).there) (members-most 16 (λ n. (sets n).there)) (λ n l e. record { name = l; cardinality = (x n).small; members = role-list (sets n).roles (x n).members }) (λ k j l. l)
+  sets_form sets x = good-members 16 (FineSet (sections_of m)) (λ a b. a.name < b.name) (set_entry_of sets) 16 (λ n. (sets n).there) (members-most 16 (λ n. (sets n).there)) (λ n l e. record { name = l; cardinality = (x n).small; members = role_list (sets n).roles (x n).members }) (λ k j l. l)
 
   pub sections_form : OfTheForm (sections_of m)
   sections_form =
       record {
         users = good-numbers 256 (λ u. u < 256) 256 m.users (members-most 256 m.users) (λ k l e. l);
         roles = good-numbers 64 (λ r. r < 64) 64 (has m.roles) (members-most 64 (has m.roles)) (λ k l e. l);
-        lines = good-members _ _ pair_before pair_of 4096 (pair_in m.juniors) (omega (arith, few-lines m f.limits)) (λ k l e. (a-role (k / 64) (f.seniors (k / 64) (k % 64) e), a-role (k % 64) ((f.juniors (k / 64)).exist (k % 64) e))) pair-up;
-        assignments = good-members _ _ pair_before pair_of 16384 (pair_in m.assigned) (omega (arith, few-assigned m f.limits)) (λ k l e. (a-user (k / 64) (f.assignees (k / 64) (k % 64) e), a-role (k % 64) ((f.assigned (k / 64)).exist (k % 64) e))) pair-up;
-        grants = good-members _ _ grant_before grant_of 262144 (grant_in m.holders) (omega (arith, few-grants m f.limits)) (λ k l e. (a-role (k / 4096) ((f.holders (k % 4096)).exist (k / 4096) e), omega arith, omega arith)) grant-up;
-        ssd = sets-form m.ssd f.ssd;
-        dsd = sets-form m.dsd f.dsd;
-        sessions = good-members 64 (FineSession (sections_of m)) (λ a b. a.number < b.number) (session_entry_of m.sessions) 64 (λ s. (m.sessions s).live) (members-most 64 (λ s. (m.sessions s).live)) (λ s l e. record { number = l; owner = a-user (m.sessions s).owner ((f.sessions s).owned e); active = role-list (m.sessions s).active (f.sessions s).active }) (λ k j l. l);
+        lines = good-members _ _ pair_before pair_of 4096 (pair_in m.juniors) (omega (arith, few-lines m f.limits)) (λ k l e. (a_role (k / 64) (f.seniors (k / 64) (k % 64) e), a_role (k % 64) ((f.juniors (k / 64)).exist (k % 64) e))) pair-up;
+        assignments = good-members _ _ pair_before pair_of 16384 (pair_in m.assigned) (omega (arith, few-assigned m f.limits)) (λ k l e. (a_user (k / 64) (f.assignees (k / 64) (k % 64) e), a_role (k % 64) ((f.assigned (k / 64)).exist (k % 64) e))) pair-up;
+        grants = good-members _ _ grant_before grant_of 262144 (grant_in m.holders) (omega (arith, few-grants m f.limits)) (λ k l e. (a_role (k / 4096) ((f.holders (k % 4096)).exist (k / 4096) e), omega arith, omega arith)) grant-up;
+        ssd = sets_form m.ssd f.ssd;
+        dsd = sets_form m.dsd f.dsd;
+        sessions = good-members 64 (FineSession (sections_of m)) (λ a b. a.number < b.number) (session_entry_of m.sessions) 64 (λ s. (m.sessions s).live) (members-most 64 (λ s. (m.sessions s).live)) (λ s l e. record { number = l; owner = a_user (m.sessions s).owner ((f.sessions s).owned e); active = role_list (m.sessions s).active (f.sessions s).active }) (λ k j l. l);
       }
 
 -- ---- they say the policy
@@ -169,10 +169,10 @@ pairs-say size table small i r = ((λ e. pair-in size table (i, r) (small i r e)
 
 module _ (m : Model) (f : Formed m) where
   roles_say : (s : ℕ) → s < 2 ^ 64 → (r : ℕ) → (has s r ≡ true) ↔ Listed r (members 64 (has s))
-  roles-say s small r = ((λ e. in_members 64 (has s) r (member-small s r small e) e), (λ l. (members-in 64 (has s) r l).1))
+  roles_say s small r = ((λ e. in_members 64 (has s) r (member-small s r small e) e), (λ l. (members-in 64 (has s) r l).1))
 
   grants_say : (r op obj : ℕ) → op < 16 → obj < 256 → (has (m.holders (op * 256 + obj)) r ≡ true) ↔ Memᴰ (r, op, obj) (sections_of m).grants
-  grants-say r op obj lo hi = ((λ e. grant-in m.holders (r, op, obj) (member-small (m.holders (op * 256 + obj)) r (f.holders (op * 256 + obj)).small e) lo hi e), back)
+  grants_say r op obj lo hi = ((λ e. grant-in m.holders (r, op, obj) (member-small (m.holders (op * 256 + obj)) r (f.holders (op * 256 + obj)).small e) lo hi e), back)
     where
       back : Memᴰ (r, op, obj) (sections_of m).grants → has (m.holders (op * 256 + obj)) r ≡ true
       back x =
@@ -182,52 +182,52 @@ module _ (m : Model) (f : Formed m) where
           ap₂ (λ (a b : ℕ). has (m.holders a) b) same (ap (λ (p : ℕ × ℕ × ℕ). p.0) q.2) ∙ (members-in 262144 (grant_in m.holders) k q.1).1
 
   sets_say : (sets : ℕ → RoleSet) → ((n : ℕ) → SetForm m n (sets n)) → (e : SetEntry) → Memᴰ e (map (set_entry_of sets) (members 16 (λ n. (sets n).there))) → SetAs sets e
-  sets-say sets x e i =
+  sets_say sets x e i =
       let q = map-in (set_entry_of sets) (members 16 (λ n. (sets n).there)) e i in
-      subst (SetAs sets) (sym q.2) (record { there = (members-in 16 (λ n. (sets n).there) q.0 q.1).1; cardinality = refl; members = roles-say (sets q.0).roles (x q.0).members.small })
+      subst (SetAs sets) (sym q.2) (record { there = (members-in 16 (λ n. (sets n).there) q.0 q.1).1; cardinality = refl; members = roles_say (sets q.0).roles (x q.0).members.small })
 
   sets_only : (sets : ℕ → RoleSet) → ((n : ℕ) → SetForm m n (sets n)) → (n : ℕ) → (sets n).there ≡ true → SetNamed n (map (set_entry_of sets) (members 16 (λ n. (sets n).there)))
-  sets-only sets x n e = (set_entry_of sets n, in_map (set_entry_of sets) n (members 16 (λ n. (sets n).there)) (in_members 16 (λ n. (sets n).there) n ((x n).named e) e), refl)
+  sets_only sets x n e = (set_entry_of sets n, in_map (set_entry_of sets) n (members 16 (λ n. (sets n).there)) (in_members 16 (λ n. (sets n).there) n ((x n).named e) e), refl)
 
   sessions_say : (e : SessionEntry) → Memᴰ e (sections_of m).sessions → SessionAs m.sessions e
-  sessions-say e i =
+  sessions_say e i =
       let q = map-in (session_entry_of m.sessions) (members 64 (λ s. (m.sessions s).live)) e i in
-      subst (SessionAs m.sessions) (sym q.2) (record { live = (members-in 64 (λ s. (m.sessions s).live) q.0 q.1).1; owner = refl; active = roles-say (m.sessions q.0).active (f.sessions q.0).active.small })
+      subst (SessionAs m.sessions) (sym q.2) (record { live = (members-in 64 (λ s. (m.sessions s).live) q.0 q.1).1; owner = refl; active = roles_say (m.sessions q.0).active (f.sessions q.0).active.small })
 
   sessions_only : (n : ℕ) → (m.sessions n).live ≡ true → SessionNumbered n (sections_of m).sessions
-  sessions-only n e = (session_entry_of m.sessions n, in_map (session_entry_of m.sessions) n (members 64 (λ s. (m.sessions s).live)) (in_members 64 (λ s. (m.sessions s).live) n ((f.sessions n).numbered e) e), refl)
+  sessions_only n e = (session_entry_of m.sessions n, in_map (session_entry_of m.sessions) n (members 64 (λ s. (m.sessions s).live)) (in_members 64 (λ s. (m.sessions s).live) n ((f.sessions n).numbered e) e), refl)
 
   pub sections_say : Says (sections_of m) m
   sections_say =
       record {
-        users = λ u. (a-user m f u, λ l. (members-in 256 m.users u l).1);
-        roles = roles-say m.roles f.roles;
+        users = λ u. (a_user m f u, λ l. (members-in 256 m.users u l).1);
+        roles = roles_say m.roles f.roles;
         lines = pairs-say 64 m.juniors (λ s j e. (member-small m.roles s f.roles (f.seniors s j e), member-small (m.juniors s) j (f.juniors s).small e));
         assignments = pairs-say 256 m.assigned (λ u r e. (f.users u (f.assignees u r e), member-small (m.assigned u) r (f.assigned u).small e));
-        grants = grants-say;
+        grants = grants_say;
         permissions = f.permissions;
-        ssd = sets-say m.ssd f.ssd;
-        ssd_only = sets-only m.ssd f.ssd;
-        dsd = sets-say m.dsd f.dsd;
-        dsd_only = sets-only m.dsd f.dsd;
-        sessions = sessions-say;
-        sessions_only = sessions-only;
+        ssd = sets_say m.ssd f.ssd;
+        ssd_only = sets_only m.ssd f.ssd;
+        dsd = sets_say m.dsd f.dsd;
+        dsd_only = sets_only m.dsd f.dsd;
+        sessions = sessions_say;
+        sessions_only = sessions_only;
       }
 
 -- ---- and they can be written
 
 module _ (f : Sections) (x : OfTheForm f) where
   a_role_fits : (r : ℕ) → Listed r f.roles → Fits r
-  a-role-fits r l = omega (arith, every-elim (λ k. k < 64) f.roles x.roles.each r l)
+  a_role_fits r l = omega (arith, every-elim (λ k. k < 64) f.roles x.roles.each r l)
 
   a_user_fits : (u : ℕ) → Listed u f.users → Fits u
-  a-user-fits u l = omega (arith, every-elim (λ k. k < 256) f.users x.users.each u l)
+  a_user_fits u l = omega (arith, every-elim (λ k. k < 256) f.users x.users.each u l)
 
   list_fits : (l : List ℕ) → RoleList f l → Writable Fits l
-  list-fits l g = (omega (arith, g.count), every-weaker (λ r. Listed r f.roles) Fits a-role-fits l g.each)
+  list_fits l g = (omega (arith, g.count), every-weaker (λ r. Listed r f.roles) Fits a_role_fits l g.each)
 
   sets_fit : (l : List SetEntry) → Good 16 (FineSet f) (λ a b. a.name < b.name) l → Writable (λ e. Fits e.name × Fits e.cardinality × Writable Fits e.members) l
-  sets-fit l g = (omega (arith, g.count), every-weaker (FineSet f) _ (λ e y. (omega (arith, y.name), y.cardinality, list-fits e.members y.members)) l g.each)
+  sets_fit l g = (omega (arith, g.count), every-weaker (FineSet f) _ (λ e y. (omega (arith, y.name), y.cardinality, list_fits e.members y.members)) l g.each)
 
   -- What is of the form has sixteen-bit numbers only.
   pub form_sixteen : Sixteen f
@@ -235,10 +235,10 @@ module _ (f : Sections) (x : OfTheForm f) where
       record {
         users = (omega (arith, x.users.count), every-weaker (λ u. u < 256) Fits (λ u l. omega arith) f.users x.users.each);
         roles = (omega (arith, x.roles.count), every-weaker (λ u. u < 64) Fits (λ u l. omega arith) f.roles x.roles.each);
-        lines = (omega (arith, x.lines.count), every-weaker _ _ (λ l y. (a-role-fits l.0 y.0, a-role-fits l.1 y.1)) f.lines x.lines.each);
-        assignments = (omega (arith, x.assignments.count), every-weaker _ _ (λ l y. (a-user-fits l.0 y.0, a-role-fits l.1 y.1)) f.assignments x.assignments.each);
-        grants = (omega (arith, x.grants.count), every-weaker _ _ (λ l y. (a-role-fits l.0 y.0, omega (arith, y.1), omega (arith, y.2))) f.grants x.grants.each);
-        ssd = sets-fit f.ssd x.ssd;
-        dsd = sets-fit f.dsd x.dsd;
-        sessions = (omega (arith, x.sessions.count), every-weaker (FineSession f) _ (λ e y. (omega (arith, y.number), a-user-fits e.owner y.owner, list-fits e.active y.active)) f.sessions x.sessions.each);
+        lines = (omega (arith, x.lines.count), every-weaker _ _ (λ l y. (a_role_fits l.0 y.0, a_role_fits l.1 y.1)) f.lines x.lines.each);
+        assignments = (omega (arith, x.assignments.count), every-weaker _ _ (λ l y. (a_user_fits l.0 y.0, a_role_fits l.1 y.1)) f.assignments x.assignments.each);
+        grants = (omega (arith, x.grants.count), every-weaker _ _ (λ l y. (a_role_fits l.0 y.0, omega (arith, y.1), omega (arith, y.2))) f.grants x.grants.each);
+        ssd = sets_fit f.ssd x.ssd;
+        dsd = sets_fit f.dsd x.dsd;
+        sessions = (omega (arith, x.sessions.count), every-weaker (FineSession f) _ (λ e y. (omega (arith, y.number), a_user_fits e.owner y.owner, list_fits e.active y.active)) f.sessions x.sessions.each);
       }

@@ -119,10 +119,10 @@ module _ {A : Type 0} (Before : A → A → Type 0) (never_both : (a b : A) → 
       go (inr i) = i
 
   pub same_list : (l k : List A) → Ascending Before l → Ascending Before k → ((a : A) → Memᴰ a l → Memᴰ a k) → ((a : A) → Memᴰ a k → Memᴰ a l) → l ≡ k
-  same-list [] [] p q to back = refl
-  same-list [] (b ∷ k) p q to back = absurd (Memᴰ.not-nil (back b (Memᴰ.head refl)))
-  same-list (a ∷ l) [] p q to back = absurd (Memᴰ.not-nil (to a (Memᴰ.head refl)))
-  same-list (a ∷ l) (b ∷ k) p q to back = ap₂ ◌∷◌ same (same-list l k p.1 q.1 (λ x. not_first a b x l k p.0 same to) (λ x. not_first b a x k l q.0 (sym same) back))
+  same_list [] [] p q to back = refl
+  same_list [] (b ∷ k) p q to back = absurd (Memᴰ.not-nil (back b (Memᴰ.head refl)))
+  same_list (a ∷ l) [] p q to back = absurd (Memᴰ.not-nil (to a (Memᴰ.head refl)))
+  same_list (a ∷ l) (b ∷ k) p q to back = ap₂ ◌∷◌ same (same_list l k p.1 q.1 (λ x. not_first a b x l k p.0 same to) (λ x. not_first b a x k l q.0 (sym same) back))
     where
       which : (a ≡ b) ⊎ Memᴰ a k → (b ≡ a) ⊎ Memᴰ b l → a ≡ b
       which (inl e) y = e
@@ -156,7 +156,7 @@ in-any test (b ∷ l) a (Memᴰ.tail m) h = or_right (test b) (any test l) (in-a
 
 -- An ascending list is this one, where each of its entries is that of a number that passes, and it has the entry of each such number.
 pub listed_same : {A : Type 0} (Before : A → A → Type 0) → ((a b : A) → Before a b → Before b a → ⊥) → (key : A → ℕ) (entry : ℕ → A) (n : ℕ) (test : ℕ → Bool) → ((k j : ℕ) → k < j → Before (entry k) (entry j)) → (l : List A) → Ascending Before l → ((a : A) → Memᴰ a l → (key a < n) × (test (key a) ≡ true) × (entry (key a) ≡ a)) → ((k : ℕ) → k < n → test k ≡ true → Memᴰ (entry k) l) → map entry (members n test) ≡ l
-listed_same {A} Before never_both key entry n test up l p own has-each = same-list Before never_both (map entry (members n test)) l (ascending-map ◌<◌ Before entry up (members n test) (ascending-members n test)) p to back
+listed_same {A} Before never_both key entry n test up l p own has-each = same_list Before never_both (map entry (members n test)) l (ascending-map ◌<◌ Before entry up (members n test) (ascending-members n test)) p to back
   where
     to : (a : A) → Memᴰ a (map entry (members n test)) → Memᴰ a l
     to a m = let q = map-in entry (members n test) a m in let i = members-in n test q.0 q.1 in Memᴰ.cast q.2 (has-each q.0 i.0 i.1)

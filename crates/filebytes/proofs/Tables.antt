@@ -17,7 +17,7 @@ use Rattle.filebytes.specs.Sections.{SetEntry, SessionEntry, Sections, bytes_of,
 use Rattle.filebytes.proofs.Decided.{all, all-every}
 use Rattle.filebytes.proofs.Lists.{every-elim, ascending-members, ascending-map, fills}
 use Rattle.filebytes.proofs.Listed.{pair_of, grant_of, set_entry_of, session_entry_of, sections_of, sections-bytes, pair-up, grant-up, pair-in, grant-in}
-use Rattle.filebytes.proofs.Same.{role-small, user-small, pair-never, grant-never}
+use Rattle.filebytes.proofs.Same.{role_small, user_small, pair-never, grant-never}
 
 pub record Agrees (m : Model) (f : Sections) : Type 0 where
   pub users : members 256 m.users ≡ f.users
@@ -49,9 +49,9 @@ grants-fill holders l p small there count = fills grant_before grant-never l (ma
 pub agrees-file : (m : Model) (f : Sections) → Formed m → OfTheForm f → Agrees m f → encode m ≡ bytes_of f
 unfolding assignments grants lines_standing
 agrees-file m f x form a =
-    let e3 = pairs-fill 64 m.juniors f.lines form.lines.order (λ p i. let y = every-elim _ f.lines form.lines.each p i in (role-small f form p.0 y.0, role-small f form p.1 y.1)) a.lines (sym x.counted.lined ∙ a.line_count) in
-    let e4 = pairs-fill 256 m.assigned f.assignments form.assignments.order (λ p i. let y = every-elim _ f.assignments form.assignments.each p i in (user-small f form p.0 y.0, role-small f form p.1 y.1)) a.assignments (sym x.counted.assigned ∙ a.assignment_count) in
-    let e5 = grants-fill m.holders f.grants form.grants.order (λ g i. let y = every-elim _ f.grants form.grants.each g i in (role-small f form g.0 y.0, y.1, y.2)) a.grants (sym x.counted.granted ∙ a.grant_count) in
+    let e3 = pairs-fill 64 m.juniors f.lines form.lines.order (λ p i. let y = every-elim _ f.lines form.lines.each p i in (role_small f form p.0 y.0, role_small f form p.1 y.1)) a.lines (sym x.counted.lined ∙ a.line_count) in
+    let e4 = pairs-fill 256 m.assigned f.assignments form.assignments.order (λ p i. let y = every-elim _ f.assignments form.assignments.each p i in (user_small f form p.0 y.0, role_small f form p.1 y.1)) a.assignments (sym x.counted.assigned ∙ a.assignment_count) in
+    let e5 = grants-fill m.holders f.grants form.grants.order (λ g i. let y = every-elim _ f.grants form.grants.each g i in (role_small f form g.0 y.0, y.1, y.2)) a.grants (sym x.counted.granted ∙ a.grant_count) in
     let same : sections_of m ≡ f = λ j. record { users = a.users j; roles = a.roles j; lines = e3 j; assignments = e4 j; grants = e5 j; ssd = a.ssd j; dsd = a.dsd j; sessions = a.sessions j } in
     sym (sections-bytes m) ∙ ap bytes_of same
 

@@ -15,7 +15,7 @@ use Rattle.demands.specs.Reachable.{Reachable, after}
 use Rattle.demands.proofs.Kept.{reachable-sound}
 use Rattle.benchsheet.specs.Lines.{Line, command, question, afterwards}
 use Rattle.filebytes.specs.Sections.{Sections, bytes_of}
-use Rattle.filebytes.proofs.Decided.{Tested, tested-form}
+use Rattle.filebytes.proofs.Decided.{Tested, tested_form}
 use Rattle.filebytes.proofs.Tables.{seen, told, seen-agrees, agrees-file}
 use Rattle.filetables.specs.PolicyBytes.{FileIs}
 
@@ -42,4 +42,4 @@ file-is m s bytes e = record { saved = saved; short = short; loaded = λ before 
 
 -- a policy of which was seen what the sections tell
 pub file-seen : (m : Model) → Reachable m → (f : Sections) → Tested f → seen m f ≡ told f → (bytes : List ℕ) → bytes_of f ≡ bytes → FileIs m bytes
-file-seen m p f t e bytes w = let s = reachable-sound p in file-is m s bytes (agrees-file m f (sound-formed m s) (tested-form f t) (seen-agrees m f e) ∙ w)
+file-seen m p f t e bytes w = let s = reachable-sound p in file-is m s bytes (agrees-file m f (sound-formed m s) (tested_form f t) (seen-agrees m f e) ∙ w)

@@ -16,7 +16,7 @@ use Rattle.hierarchy.specs.Lines.Chain.{alone, down}
 use Rattle.hierarchy.specs.Walks.{circular, TellsCircle}
 use Rattle.hierarchy.proofs.InheritsLaws.{trans, ends-small}
 use Rattle.hierarchy.proofs.Ways.{but, but-less, but-other}
-use Rattle.hierarchy.proofs.ChainLaws.{Run, stay, go_on, longer-run, run-longer, chain_run}
+use Rattle.hierarchy.proofs.ChainLaws.{Run, stay, go_on, longer_run, run_longer, chain_run}
 
 module _ (lines : ℕ → ℕ) where
   -- a chain of n roles, all of them 0 to 63 and passing the test
@@ -25,8 +25,8 @@ module _ (lines : ℕ → ℕ) where
     from : {n s j : ℕ} → s < 64 → pass s ≡ true → line lines s j ≡ true → Among pass n j → Among pass (suc n) s
 
   run_among : {n s : ℕ} → s < 64 → Run lines n s → Among (λ k. true) n s
-  run-among l stay = end l refl
-  run-among l (go_on p lk c) = from l refl p (run-among lk c)
+  run_among l stay = end l refl
+  run_among l (go_on p lk c) = from l refl p (run_among lk c)
 
   -- a chain below r comes back to r, or none of its roles is r
   narrow : (pass : ℕ → Bool) (r : ℕ) {n s : ℕ} → Inherits lines r s → Among pass n s → Inherits lines r r ⊎ Among (but pass r) n s
@@ -50,41 +50,41 @@ module _ (lines : ℕ → ℕ) where
 
   -- A run of more roles than there are comes back to one of them,
   pub run_circle : (n : ℕ) {s : ℕ} → 64 ≤ n → s < 64 → Run lines (suc n) s → (r : ℕ) × Inherits lines r r
-  run-circle n h l c = pigeonhole n (λ k. true) (omega (arith, tally-le 64 (λ k. true))) (run-among l c)
+  run_circle n h l c = pigeonhole n (λ k. true) (omega (arith, tally-le 64 (λ k. true))) (run_among l c)
 
   -- and so does a chain over lines between roles 0 to 63.
   pub chain_circle : Small lines → (n : ℕ) {s : ℕ} → 64 < n → Chain lines n s → (r : ℕ) × Inherits lines r r
-  chain-circle small n h alone = absurd (omega arith)
-  chain-circle small n {s} h (down {n = k} {j = j} p c) = run-circle k (omega arith) (small.within s j p).0 (chain_run lines small (down p c))
+  chain_circle small n h alone = absurd (omega arith)
+  chain_circle small n {s} h (down {n = k} {j = j} p c) = run_circle k (omega arith) (small.within s j p).0 (chain_run lines small (down p c))
 
   -- Where a role inherits itself, chains of any length start at every role that inherits it.
   pub circle_chain : {s r : ℕ} (n : ℕ) → Inherits lines s r → Inherits lines r r → Chain lines (suc n) s
-  circle-chain zero i c = alone
-  circle-chain (suc n) (one p) c = down p (circle-chain n c c)
-  circle-chain (suc n) (more p i) c = down p (circle-chain n i c)
+  circle_chain zero i c = alone
+  circle_chain (suc n) (one p) c = down p (circle_chain n c c)
+  circle_chain (suc n) (more p i) c = down p (circle_chain n i c)
 
   -- `circular` says yes only where some role inherits itself,
   pub circular_sound : circular lines ≡ true → (r : ℕ) × Inherits lines r r
   unfolding circular
-  circular-sound h =
-      let f = longer-run lines _ _ h in
-      run-circle _ (omega arith) f.small f.run
+  circular_sound h =
+      let f = longer_run lines _ _ h in
+      run_circle _ (omega arith) f.small f.run
 
   -- and wherever one does,
   pub circular_complete : Small lines → (r : ℕ) → Inherits lines r r → circular lines ≡ true
   unfolding circular
-  circular-complete small r c =
+  circular_complete small r c =
       let l = (ends-small small c).0 in
-      run-longer lines 64 (those (λ k. true)) r l (has-those (λ k. true) r l) (chain_run lines small (circle-chain 64 c c))
+      run_longer lines 64 (those (λ k. true)) r l (has-those (λ k. true) r l) (chain_run lines small (circle_chain 64 c c))
 
   -- so it says no exactly where none does.
   pub circular_acyclic : Small lines → circular lines ≡ false → Acyclic lines
-  circular-acyclic small e = record { never = λ r c. clash (circular lines) (circular-complete small r c) e }
+  circular_acyclic small e = record { never = λ r c. clash (circular lines) (circular_complete small r c) e }
 
   -- Where none does, it says no.
   pub acyclic_circular : Acyclic lines → circular lines ≡ false
-  acyclic-circular a = never (circular lines) (λ h. let c = circular-sound h in a.never c.0 c.1)
+  acyclic_circular a = never (circular lines) (λ h. let c = circular_sound h in a.never c.0 c.1)
 
   -- So it is what is to be handed back.
   pub tells_circle : (told : Bool) → told ≡ circular lines → TellsCircle lines told
-  tells-circle told e = record { is = e; exactly = λ small. (λ h. circular-sound (rw e at h), λ c. e ∙ circular-complete small c.0 c.1) }
+  tells_circle told e = record { is = e; exactly = λ small. (λ h. circular_sound (rw e at h), λ c. e ∙ circular_complete small c.0 c.1) }

@@ -12,48 +12,48 @@ use Rattle.roleset.proofs.BoundedLaws.{clash, and_left, and_both, or_left, or_ri
 use Rattle.roleset.proofs.Laws.{those-small, has-none, has-union, has-without, union-small, ext}
 use Rattle.hierarchy.specs.Lines.{line}
 use Rattle.hierarchy.specs.Walks.{juniors_of, walk, longer_chain}
-use Rattle.hierarchy.proofs.WalkLaws.{junior-of, of-junior, walk-on, walk-small}
-use Rattle.hierarchy.proofs.ChainLaws.{longer-on}
+use Rattle.hierarchy.proofs.WalkLaws.{junior_of, of_junior, walk_on, walk_small}
+use Rattle.hierarchy.proofs.ChainLaws.{longer_on}
 
 module _ (lines : ℕ → ℕ) where
   pub juniors_small : (front : ℕ) → juniors_of lines front < 2 ^ 64
   unfolding juniors_of
-  juniors-small front = those-small (λ j. some 64 (λ s. has front s && line lines s j))
+  juniors_small front = those-small (λ j. some 64 (λ s. has front s && line lines s j))
 
   module _ (rest s : ℕ) (l : s < 64) (h : has rest s ≡ true) where
     -- the juniors of a front are those of one of its roles and those of the others
     juniors_split : (k : ℕ) → k < 64 → has (juniors_of lines rest) k ≡ (has (lines s) k || has (juniors_of lines (without rest s)) k)
-    juniors-split k lk = agree (has (juniors_of lines rest) k) (has (lines s) k || has (juniors_of lines (without rest s)) k) (λ p. to (of-junior lines rest k p).1) (λ p. back (or_cases (has (lines s) k) (has (juniors_of lines (without rest s)) k) p))
+    juniors_split k lk = agree (has (juniors_of lines rest) k) (has (lines s) k || has (juniors_of lines (without rest s)) k) (λ p. to (of_junior lines rest k p).1) (λ p. back (or_cases (has (lines s) k) (has (juniors_of lines (without rest s)) k) p))
       where
         to : (t : ℕ) × (t < 64) × (has rest t ≡ true) × (line lines t k ≡ true) → (has (lines s) k || has (juniors_of lines (without rest s)) k) ≡ true
         to m = go (eqb m.0 s) refl
           where
             go : (b : Bool) → eqb m.0 s ≡ b → (has (lines s) k || has (juniors_of lines (without rest s)) k) ≡ true
             go true e = or_left (has (lines s) k) (has (juniors_of lines (without rest s)) k) (subst (λ (x : ℕ). has (lines x) k ≡ true) (eqb-true m.0 s e) m.3)
-            go false e = or_right (has (lines s) k) (has (juniors_of lines (without rest s)) k) (junior-of lines (without rest s) m.0 k m.1 lk (has-without rest s m.0 m.1 ∙ and_both (has rest m.0) (not (eqb m.0 s)) m.2 (not_yes (eqb m.0 s) e)) m.3)
+            go false e = or_right (has (lines s) k) (has (juniors_of lines (without rest s)) k) (junior_of lines (without rest s) m.0 k m.1 lk (has-without rest s m.0 m.1 ∙ and_both (has rest m.0) (not (eqb m.0 s)) m.2 (not_yes (eqb m.0 s) e)) m.3)
 
         back : (has (lines s) k ≡ true) ⊎ (has (juniors_of lines (without rest s)) k ≡ true) → has (juniors_of lines rest) k ≡ true
-        back (inl p) = junior-of lines rest s k l lk h p
+        back (inl p) = junior_of lines rest s k l lk h p
         back (inr p) =
-            let m = (of-junior lines (without rest s) k p).1 in
-            junior-of lines rest m.0 k m.1 lk (and_left (has rest m.0) (not (eqb m.0 s)) (sym (has-without rest s m.0 m.1) ∙ m.2)) m.3
+            let m = (of_junior lines (without rest s) k p).1 in
+            junior_of lines rest m.0 k m.1 lk (and_left (has rest m.0) (not (eqb m.0 s)) (sym (has-without rest s m.0 m.1) ∙ m.2)) m.3
 
     -- What is met so far joined to what is still to come stays the same when one role's juniors are met and the role is dropped.
     pub juniors_step : (met : ℕ) → union (union met (lines s)) (juniors_of lines (without rest s)) ≡ union met (juniors_of lines rest)
-    juniors-step met = ext (union (union met (lines s)) others) (union met (juniors_of lines rest)) (union-small (union met (lines s)) others) (union-small met (juniors_of lines rest)) (λ k lk. rw (has-union (union met (lines s)) others k lk, has-union met (lines s) k lk, has-union met (juniors_of lines rest) k lk, juniors-split k lk) (or_assoc (has met k) (has (lines s) k) (has others k)))
+    juniors_step met = ext (union (union met (lines s)) others) (union met (juniors_of lines rest)) (union-small (union met (lines s)) others) (union-small met (juniors_of lines rest)) (λ k lk. rw (has-union (union met (lines s)) others k lk, has-union met (lines s) k lk, has-union met (juniors_of lines rest) k lk, juniors_split k lk) (or_assoc (has met k) (has (lines s) k) (has others k)))
       where
         others : ℕ
         others = juniors_of lines (without rest s)
 
   -- Of no role there are no juniors.
   pub juniors_none : (k : ℕ) → has (juniors_of lines 0) k ≡ false
-  juniors-none k = never (has (juniors_of lines 0) k) (λ p. let m = (of-junior lines 0 k p).1 in clash (has 0 m.0) m.2 (has-none m.0))
+  juniors_none k = never (has (juniors_of lines 0) k) (λ p. let m = (of_junior lines 0 k p).1 in clash (has 0 m.0) m.2 (has-none m.0))
 
   pub juniors_begin : (front : ℕ) → union 0 (juniors_of lines front) ≡ juniors_of lines front
-  juniors-begin front = ext (union 0 (juniors_of lines front)) (juniors_of lines front) (union-small 0 (juniors_of lines front)) (juniors-small front) (λ k lk. rw (has-union 0 (juniors_of lines front) k lk, has-none k))
+  juniors_begin front = ext (union 0 (juniors_of lines front)) (juniors_of lines front) (union-small 0 (juniors_of lines front)) (juniors_small front) (λ k lk. rw (has-union 0 (juniors_of lines front) k lk, has-none k))
 
   pub juniors_end : (met : ℕ) → met < 2 ^ 64 → union met (juniors_of lines 0) ≡ met
-  juniors-end met l = ext (union met (juniors_of lines 0)) met (union-small met (juniors_of lines 0)) l (λ k lk. rw (has-union met (juniors_of lines 0) k lk, juniors-none k) (or-false (has met k)))
+  juniors_end met l = ext (union met (juniors_of lines 0)) met (union-small met (juniors_of lines 0)) l (λ k lk. rw (has-union met (juniors_of lines 0) k lk, juniors_none k) (or-false (has met k)))
 
 -- no roles joined to what is met change nothing
 pub union-none : (met : ℕ) → met < 2 ^ 64 → union met 0 ≡ met
@@ -67,15 +67,15 @@ pub walk_step : (lines : ℕ → ℕ) (allowed front next met more last : ℕ) �
 walk_step lines zero front next met more last n e p s q = absurd (n refl)
 walk_step lines (suc m) front next met more last n e p s q =
     let same : suc m - 1 ≡ m = omega arith in
-    q ∙ rw (s, p, same, walk-on lines m front e) (union_assoc met front (walk lines m (juniors_of lines front)))
+    q ∙ rw (s, p, same, walk_on lines m front e) (union_assoc met front (walk lines m (juniors_of lines front)))
 
 -- what a walk from a front adds to no roles is the walk
 pub walk-begun : (lines : ℕ → ℕ) (n front : ℕ) → union 0 (walk lines n front) ≡ walk lines n front
-walk-begun lines n front = ext (union 0 (walk lines n front)) (walk lines n front) (union-small 0 (walk lines n front)) (walk-small lines n front) (λ k lk. rw (has-union 0 (walk lines n front) k lk, has-none k))
+walk-begun lines n front = ext (union 0 (walk lines n front)) (walk lines n front) (union-small 0 (walk lines n front)) (walk_small lines n front) (λ k lk. rw (has-union 0 (walk lines n front) k lk, has-none k))
 
 -- a longer chain starts in a front that is not empty where one starts at its juniors, with one role fewer allowed
 pub longer-step : (lines : ℕ → ℕ) (allowed front next : ℕ) (found : Bool) → (allowed ≡ 0 → ⊥) → is_empty front ≡ false → next ≡ juniors_of lines front → found ≡ longer_chain lines (allowed - 1) next → found ≡ longer_chain lines allowed front
 longer-step lines zero front next found n e p q = absurd (n refl)
 longer-step lines (suc m) front next found n e p q =
     let same : suc m - 1 ≡ m = omega arith in
-    q ∙ rw (p, same, longer-on lines m front e)
+    q ∙ rw (p, same, longer_on lines m front e)

@@ -51,12 +51,12 @@ remove-acyclic f h = record { never = λ r p. h.never r (inherits-grows f p) }
 module _ {lines lines' : ℕ → ℕ} {s j : ℕ} (added : (a b : ℕ) → line lines' a b ≡ true → (line lines a b ≡ true) ⊎ ((a ≡ s) × (b ≡ j))) where
   -- With the line (s, j) added, a role inherits what it did before; or it is s or above s, and inherits j or what j does.
   pub added_inherits : {a b : ℕ} → Inherits lines' a b → Inherits lines a b ⊎ (AtOrAbove lines a s × AtOrAbove lines j b)
-  added-inherits {a} {b} (one l) = first (added a b l)
+  added_inherits {a} {b} (one l) = first (added a b l)
     where
       first : (line lines a b ≡ true) ⊎ ((a ≡ s) × (b ≡ j)) → Inherits lines a b ⊎ (AtOrAbove lines a s × AtOrAbove lines j b)
       first (inl old) = inl (one old)
       first (inr new) = inr (inl new.0, inl (sym new.1))
-  added-inherits {a} {b} (more {k = k} l p) = first (added a k l) (added-inherits p)
+  added_inherits {a} {b} (more {k = k} l p) = first (added a k l) (added_inherits p)
     where
       first : (line lines a k ≡ true) ⊎ ((a ≡ s) × (k ≡ j)) → Inherits lines k b ⊎ (AtOrAbove lines k s × AtOrAbove lines j b) → Inherits lines a b ⊎ (AtOrAbove lines a s × AtOrAbove lines j b)
       first (inl old) (inl q) = inl (more old q)
@@ -66,7 +66,7 @@ module _ {lines lines' : ℕ → ℕ} {s j : ℕ} (added : (a b : ℕ) → line 
 
   -- A line added between two roles, of which the junior neither is nor inherits the senior, makes no circle.
   pub add_acyclic : (AtOrAbove lines j s → ⊥) → Acyclic lines → Acyclic lines'
-  add-acyclic not-above h = record { never = λ r p. go r (added-inherits p) }
+  add_acyclic not-above h = record { never = λ r p. go r (added_inherits p) }
     where
       go : (r : ℕ) → Inherits lines r r ⊎ (AtOrAbove lines r s × AtOrAbove lines j r) → ⊥
       go r (inl q) = h.never r q

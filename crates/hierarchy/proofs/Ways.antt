@@ -54,12 +54,12 @@ module _ (lines : ℕ → ℕ) where
 
   -- a is not on the way, or the way goes on from there
   last_at : (pass : ℕ → Bool) (r a : ℕ) {s : ℕ} → Way pass r s → Way (but pass a) r s ⊎ Onward pass r a
-  last-at pass r a {s} (there l p e) = go (eqb s a) refl
+  last_at pass r a {s} (there l p e) = go (eqb s a) refl
     where
       go : (b : Bool) → eqb s a ≡ b → Way (but pass a) r s ⊎ Onward pass r a
       go true h = inr (inl (sym (eqb-true s a h) ∙ e))
       go false h = inl (there l (but-other pass a s p h) e)
-  last-at pass r a {s} (along {k = k} l p q w) = go (eqb s a) refl (last-at pass r a w)
+  last_at pass r a {s} (along {k = k} l p q w) = go (eqb s a) refl (last_at pass r a w)
     where
       go : (b : Bool) → eqb s a ≡ b → Way (but pass a) r k ⊎ Onward pass r a → Way (but pass a) r s ⊎ Onward pass r a
       go b h (inr on) = inr on
@@ -72,7 +72,7 @@ module _ (lines : ℕ → ℕ) where
       let b = begins w in
       absurd (omega (arith, tally-some 64 pass (some-intro 64 pass s b.0 b.1)))
   shortened (suc n) pass h (there l p e) = here e
-  shortened (suc n) pass {s} {r} h (along {k = k} l p q w) = go (last-at pass r s w) (λ j v. shortened n (but pass s) (omega (arith, but-less pass s l p)) v)
+  shortened (suc n) pass {s} {r} h (along {k = k} l p q w) = go (last_at pass r s w) (λ j v. shortened n (but pass s) (omega (arith, but-less pass s l p)) v)
     where
       go : Way (but pass s) r k ⊎ Onward pass r s → ((j : ℕ) → Way (but pass s) r j → Met n j r) → Met (suc n) s r
       go (inl v) rest = next q (begins v).0 (rest k v)
@@ -87,4 +87,4 @@ module _ (lines : ℕ → ℕ) where
 
     -- What a role is or inherits is met by fewer than 64 lines.
     pub met_in_64 : {s r : ℕ} → s < 64 → AtOrAbove lines s r → Met 64 s r
-    met-in-64 l a = shortened 64 (λ k. true) (tally-le 64 (λ k. true)) (way l a)
+    met_in_64 l a = shortened 64 (λ k. true) (tally-le 64 (λ k. true)) (way l a)

@@ -30,21 +30,21 @@ module _ (l : List ℕ) (i : ℕ) (h : i < length l) where
   -- Any other: ascending if it was so far and the rest is, above it.
   pub turn_high : (a : Bool) (bound : ℕ) → bound ≤ get_or l i 0 → (a && rising bound (drop i l)) ≡ (a && rising (get_or l i 0 + 1) (drop (i + 1) l))
   unfolding rising
-  turn-high a bound p = rw (next l i h, le-leb bound (get_or l i 0) p, add-one (get_or l i 0))
+  turn_high a bound p = rw (next l i h, le-leb bound (get_or l i 0) p, add-one (get_or l i 0))
 
   -- A number beyond the range, and one within it.
   pub turn_beyond : (b : Bool) (n : ℕ) → n ≤ get_or l i 0 → (b || some_from n (drop i l)) ≡ true
   unfolding some_from
-  turn-beyond b n p = rw (next l i h, le-leb n (get_or l i 0) p) (or_right b true refl)
+  turn_beyond b n p = rw (next l i h, le-leb n (get_or l i 0) p) (or_right b true refl)
 
   pub turn_within : (b : Bool) (n : ℕ) → get_or l i 0 < n → (b || some_from n (drop i l)) ≡ (b || some_from n (drop (i + 1) l))
   unfolding some_from
-  turn-within b n p = rw (next l i h, lt-leb n (get_or l i 0) p)
+  turn_within b n p = rw (next l i h, lt-leb n (get_or l i 0) p)
 
   -- The number joins the set.
   pub turn_joins : (s : ℕ) → joining (with s (get_or l i 0)) (drop (i + 1) l) ≡ joining s (drop i l)
   unfolding joining listed
-  turn-joins s = rw (next l i h) (those-ext _ _ (λ k p. ap (λ (b : Bool). b || listed (drop (i + 1) l) k) (has-with s (get_or l i 0) k p) ∙ shift (has s k) (eqb k (get_or l i 0)) (listed (drop (i + 1) l) k)))
+  turn_joins s = rw (next l i h) (those-ext _ _ (λ k p. ap (λ (b : Bool). b || listed (drop (i + 1) l) k) (has-with s (get_or l i 0) k p) ∙ shift (has s k) (eqb k (get_or l i 0)) (listed (drop (i + 1) l) k)))
     where
       shift : (x y z : Bool) → ((x || y) || z) ≡ (x || (y || z))
       shift true y z = refl
@@ -59,12 +59,12 @@ joining-start l = those-ext _ _ (λ k p. rw (has-none k))
 module _ (l : List ℕ) (i : ℕ) (h : length l ≤ i) where
   pub end_rising : (a : Bool) (bound : ℕ) → (a && rising bound (drop i l)) ≡ a
   unfolding rising
-  end-rising a bound = rw (drop_of_length-le l h) (and-true a)
+  end_rising a bound = rw (drop_of_length-le l h) (and-true a)
 
   pub end_beyond : (b : Bool) (n : ℕ) → (b || some_from n (drop i l)) ≡ b
   unfolding some_from
-  end-beyond b n = rw (drop_of_length-le l h) (or-false b)
+  end_beyond b n = rw (drop_of_length-le l h) (or-false b)
 
   pub end_joins : (s : ℕ) → s < 2 ^ 64 → joining s (drop i l) ≡ s
   unfolding joining listed
-  end-joins s p = rw (drop_of_length-le l h) (those-ext _ _ (λ k q. or-false (has s k)) ∙ those-has s p)
+  end_joins s p = rw (drop_of_length-le l h) (those-ext _ _ (λ k q. or-false (has s k)) ∙ those-has s p)

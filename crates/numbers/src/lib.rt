@@ -1,5 +1,6 @@
 // Numbers that cannot be mistaken for each other, and the answer sheet.
 #![tactic(auto)]
+
 ghost use Rattle.std.specs.Prelude.{◌≡◌, eqb, leb};
 ghost use Rattle.numbers.specs.Answers.{number_of, answer_of};
 ghost use Rattle.numbers.specs.Ranges.{users, roles, sessions, sets, activation_beyond};

@@ -44,11 +44,11 @@ module _ {P : ℕ → Type 0} {n : ℕ} where
   passed_none = record { few = omega arith; each = λ j h. absurd (omega arith) }
 
   pub passed_more : {k : ℕ} → k < n → Passed P n k → P k → Passed P n (k + 1)
-  passed-more h t p = record { few = omega arith; each = below_more _ _ t.each p }
+  passed_more h t p = record { few = omega arith; each = below_more _ _ t.each p }
 
   -- at the end it holds everywhere, since it holds past the end
   pub passed_all : {k : ℕ} → n ≤ k → Passed P n k → ((j : ℕ) → n ≤ j → P j) → Tells true ((j : ℕ) → P j)
-  passed-all {k} h t past = record { holds = λ e j. go j (dec_lt j k); says = λ p. refl }
+  passed_all {k} h t past = record { holds = λ e j. go j (dec_lt j k); says = λ p. refl }
     where
       go : (j : ℕ) → Dec (j < k) → P j
       go j (yes q) = t.each j q
@@ -70,10 +70,10 @@ module _ {f : ℕ → Bool} {n : ℕ} where
   unmet_start = record { few = omega arith; none = some-start f }
 
   pub unmet_more : {k : ℕ} {b : Bool} → k < n → b ≡ f k → b ≡ false → Unmet f n k → Unmet f n (k + 1)
-  unmet-more {k} h e left u = record { few = omega arith; none = some_more k f u.none (sym e ∙ left) }
+  unmet_more {k} h e left u = record { few = omega arith; none = some_more k f u.none (sym e ∙ left) }
 
   pub unmet_end : {k : ℕ} → n ≤ k → Unmet f n k → false ≡ some n f
-  unmet-end {k} h u = let whole : k ≡ n = omega (arith, u.few) in sym (rw whole at u.none)
+  unmet_end {k} h u = let whole : k ≡ n = omega (arith, u.few) in sym (rw whole at u.none)
 
 -- a place that passes it
 pub met : (f : ℕ → Bool) {n k : ℕ} {b : Bool} → k < n → b ≡ f k → b ≡ true → true ≡ some n f

@@ -21,26 +21,26 @@ use Rattle.policycheck.specs.Tests.{Ranged}
 module _ (l : List ℕ) where
   pub no_user : (u : ℕ) → 256 ≤ u → (view l).users u ≡ false
   unfolding view
-  no-user u h = ap (λ (w : ℕ). has w (u % 64)) (part_none l users_at 4 _ (omega arith)) ∙ has-none (u % 64)
+  no_user u h = ap (λ (w : ℕ). has w (u % 64)) (part_none l users_at 4 _ (omega arith)) ∙ has-none (u % 64)
 
   pub no_juniors : (s : ℕ) → 64 ≤ s → (view l).juniors s ≡ 0
   unfolding view
-  no-juniors s h = part_none l juniors_at 64 s h
+  no_juniors s h = part_none l juniors_at 64 s h
 
   pub no_assigned : (u : ℕ) → 256 ≤ u → (view l).assigned u ≡ 0
   unfolding view
-  no-assigned u h = part_none l assigned_at 256 u h
+  no_assigned u h = part_none l assigned_at 256 u h
 
   no_holders : (p : ℕ) → 4096 ≤ p → (view l).holders p ≡ 0
   unfolding view
-  no-holders p h = part_none l holders_at 4096 p h
+  no_holders p h = part_none l holders_at 4096 p h
 
   pub no_set : (kind : Kind) (n : ℕ) → 16 ≤ n → sets_of kind (view l) n ≡ absent_set
-  no-set kind n h = sym (set_at kind l n) ∙ ap₂ set_of (part_none l (sets_at kind) 16 n h) (part_none l (sets_at kind + 16) 16 n h)
+  no_set kind n h = sym (set_at kind l n) ∙ ap₂ set_of (part_none l (sets_at kind) 16 n h) (part_none l (sets_at kind + 16) 16 n h)
 
   pub no_session : (s : ℕ) → 64 ≤ s → (view l).sessions s ≡ closed_session
   unfolding view
-  no-session s h = ap₂ session_of (part_none l owners_at 64 s h) (part_none l active_at 64 s h)
+  no_session s h = ap₂ session_of (part_none l owners_at 64 s h) (part_none l active_at 64 s h)
 
   -- a place where a test is passed is below n, where no place from n on passes it
   below : (n k : ℕ) (b : Bool) → (n ≤ k → b ≡ false) → b ≡ true → k < n
@@ -52,9 +52,9 @@ module _ (l : List ℕ) where
 
   pub ranged : Ranged (view l)
   ranged = record {
-    users = λ u. below 256 u ((view l).users u) (no-user u);
-    permissions = λ p r. below 4096 p (has ((view l).holders p) r) (λ h. ap (λ (s : ℕ). has s r) (no-holders p h) ∙ has-none r);
-    ssd = λ n. below 16 n ((view l).ssd n).there (λ h. ap (λ (s : RoleSet). s.there) (no-set Static n h));
-    dsd = λ n. below 16 n ((view l).dsd n).there (λ h. ap (λ (s : RoleSet). s.there) (no-set Dynamic n h));
-    sessions = λ n. below 64 n ((view l).sessions n).live (λ h. ap (λ (s : Session). s.live) (no-session n h));
+    users = λ u. below 256 u ((view l).users u) (no_user u);
+    permissions = λ p r. below 4096 p (has ((view l).holders p) r) (λ h. ap (λ (s : ℕ). has s r) (no_holders p h) ∙ has-none r);
+    ssd = λ n. below 16 n ((view l).ssd n).there (λ h. ap (λ (s : RoleSet). s.there) (no_set Static n h));
+    dsd = λ n. below 16 n ((view l).dsd n).there (λ h. ap (λ (s : RoleSet). s.there) (no_set Dynamic n h));
+    sessions = λ n. below 64 n ((view l).sessions n).live (λ h. ap (λ (s : Session). s.live) (no_session n h));
   }

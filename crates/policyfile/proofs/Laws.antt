@@ -24,7 +24,7 @@ use Rattle.policyform.specs.Rules.{rules_broken}
 use Rattle.policyform.specs.Promises.{Saves, SaveDone, Loads}
 use Rattle.policyform.proofs.Size.{encode-size}
 use Rattle.policyread.proofs.Whole.{file-one}
-use Rattle.policyfile.proofs.Sounding.{sound-formed, formed-sound, sound-clear}
+use Rattle.policyfile.proofs.Sounding.{sound-formed, formed_sound, sound-clear}
 
 -- ---- each promise determines what is told
 
@@ -72,7 +72,7 @@ load-after-save before m t s l = load-file before m t (sound-formed m s) l ∙ s
 -- What a load that was done hands back: a sound model, and the bytes are its file.
 pub loaded : (before : Model) (bytes : List ℕ) (t : Told) → Loads before bytes t → t.answer ≡ 0 → (Sound t.after) × (encode t.after ≡ bytes)
 loaded before bytes t (inl x) e = absurd (let z : ◌≡◌ {A = ℕ} 14 0 = sym (ap (λ (y : Told). y.answer) x.tells) ∙ e in omega arith)
-loaded before bytes t (inr x) e = subst (λ (m : Model). (Sound m) × (encode m ≡ bytes)) (sym same) (formed-sound x.model x.file.formed zero, x.file.written)
+loaded before bytes t (inr x) e = subst (λ (m : Model). (Sound m) × (encode m ≡ bytes)) (sym same) (formed_sound x.model x.file.formed zero, x.file.written)
   where
     zero : verdict (rules_broken x.model) ≡ 0
     zero = sym (settle-answer (rules_broken x.model) before [] x.model) ∙ sym (ap (λ (y : Told). y.answer) x.tells) ∙ e
@@ -94,7 +94,7 @@ load-refused before bytes t (inr x) h = ap (λ (y : Told). y.after) x.tells ∙ 
 -- A load keeps a sound model sound, whatever the bytes.
 pub load-sound : (before : Model) (bytes : List ℕ) (t : Told) → Sound before → Loads before bytes t → Sound t.after
 load-sound before bytes t s (inl x) = subst (λ (y : Told). Sound y.after) (sym x.tells) s
-load-sound before bytes t s (inr x) = subst (λ (y : Told). Sound y.after) (sym x.tells) (settle-kept Sound (rules_broken x.model) before [] x.model s (formed-sound x.model x.file.formed))
+load-sound before bytes t s (inr x) = subst (λ (y : Told). Sound y.after) (sym x.tells) (settle-kept Sound (rules_broken x.model) before [] x.model s (formed_sound x.model x.file.formed))
 
 -- ---- P12
 

@@ -9,14 +9,14 @@ use borrow.Author.Tests.{ltb-false, le-ltb}
 use Rattle.roleset.specs.Roles.{has, subset, count}
 use Rattle.roleset.proofs.BoundedLaws.{clash, never, and_both, or-clear, some-false, some-none}
 use Rattle.roleset.proofs.Laws.{count-le, has-none, member-small, subset-true, subset-intro}
-use Rattle.hierarchy.proofs.CircleLaws.{circular-acyclic, acyclic-circular}
+use Rattle.hierarchy.proofs.CircleLaws.{circular_acyclic, acyclic_circular}
 use Rattle.model.specs.Model.{Model, RoleSet, Session}
 use Rattle.model.specs.Sheet.{verdict}
 use Rattle.model.specs.Words.{authorised, static_broken, dynamic_broken}
 use Rattle.model.specs.Sound.{SetShape, Shape, Sound}
 use Rattle.model.specs.commands.Sets.{bad_cardinality}
 use Rattle.sound.proofs.Sheet.{AllClear, clear-done, done-clear}
-use Rattle.sound.proofs.Carried.{lines-small, no-session-beyond}
+use Rattle.sound.proofs.Carried.{lines_small, no_session_beyond}
 use Rattle.sound.proofs.Counted.{dynamic-beyond}
 use Rattle.sound.proofs.Inheriting.{static-beyond}
 use Rattle.policyform.specs.Form.{SetForm, Formed}
@@ -79,7 +79,7 @@ module _ (m : Model) (f : Formed m) (e : verdict (rules_broken m) ≡ 0) where
     where
       go : Dec (s < 64) → has (authorised m (m.sessions s).owner) r ≡ true
       go (yes l) = subset-true (m.sessions s).active (authorised m (m.sessions s).owner) (not-not _ (some-false 64 (λ k. not (subset (m.sessions k).active (authorised m (m.sessions k).owner))) clear.1.1.0 s l)) r (member-small (m.sessions s).active r (f.sessions s).active.small h) h
-      go (no l) = clash (has (m.sessions s).active r) h (ap (λ (x : Session). has x.active r) (no-session-beyond m shape s (omega arith)) ∙ has-none r)
+      go (no l) = clash (has (m.sessions s).active r) h (ap (λ (x : Session). has x.active r) (no_session_beyond m shape s (omega arith)) ∙ has-none r)
 
   static : (u : ℕ) → static_broken m u ≡ false
   unfolding rules_broken static_broken
@@ -100,7 +100,7 @@ module _ (m : Model) (f : Formed m) (e : verdict (rules_broken m) ≡ 0) where
   -- A model that may stand in a file and breaks no rule is sound.
   pub formed_sound : Sound m
   unfolding rules_broken
-  formed_sound = record { shape = shape; limits = f.limits; counted = f.counted; rules = record { acyclic = circular-acyclic m.juniors (lines-small m shape) clear.0; active = active; static = static; dynamic = dynamic } }
+  formed_sound = record { shape = shape; limits = f.limits; counted = f.counted; rules = record { acyclic = circular_acyclic m.juniors (lines_small m shape) clear.0; active = active; static = static; dynamic = dynamic } }
 
 -- ---- sound, so no rule broken
 
@@ -109,7 +109,7 @@ unfolding rules_broken unauthorised
 sound-clear m s =
     let x = s.rules in
     clear-done (rules_broken m) (
-      acyclic-circular m.juniors x.acyclic,
+      acyclic_circular m.juniors x.acyclic,
       (
         rw (good-sets m m.ssd s.shape.ssd) (good-sets m m.dsd s.shape.dsd),
         (

@@ -19,12 +19,12 @@ use Rattle.state.specs.Stores.{in_range}
 use Rattle.state.proofs.Stored.{in-range}
 use Rattle.text.specs.Bytes.{two, section}
 use Rattle.text.specs.Places.{word_at, read_section}
-use Rattle.text.proofs.Reading.{Stands, stands-left, stands-right, word_back, each_member, section-back}
+use Rattle.text.proofs.Reading.{Stands, stands-left, stands-right, word_back, each_member, section_back}
 use Rattle.policyform.specs.Encode.{role_list, pair_entry, pair_in, grant_entry, grant_in, users_part, lines_part, assigned_part, grants_part, sets_part, sessions_part}
 use Rattle.policyread.specs.declared.Pairs.{Pairs}
 use Rattle.policyread.specs.declared.Pairs.TheVariants.{Lines, Assignments}
 use Rattle.policyread.specs.Steps.{user_added, pair_added, grant_added, read_user, read_role, read_roles, read_pair, read_grant, read_entry, read_set, read_session}
-use Rattle.policyread.proofs.Folds.{roles-back, records-back, Numbered, grid-back}
+use Rattle.policyread.proofs.Folds.{roles-back, records_back, Numbered, grid_back}
 
 -- ---- one table of the model, and the model with another one in its place
 
@@ -42,9 +42,9 @@ fold-part {B} {get} {into} part f m t (k ∷ ks) =
 module _ (bytes : List ℕ) where
   pub users_read : (m : Model) (f : ℕ → Bool) → ((k : ℕ) → f k ≡ true → k < 256) → (at : ℕ) (rest : List ℕ) → Stands bytes at (users_part f) rest → read_section bytes 256 (read_user bytes) at (with_users m (λ u. false)) ≡ (at + length (users_part f), with_users m f)
   unfolding read_user
-  users-read m f small at rest s =
-      section-back bytes two (λ (x : Model) (k : ℕ). with_users x (put x.users k (f k))) (read_user bytes) (λ k. (k < 256) × (f k ≡ true)) one 256 (omega arith) (members 256 f) (members-most 256 f) (each_member 256 f) at (with_users m (λ u. false)) rest s
-      ∙ ap (λ (x : Model). (at + length (users_part f), x)) (fold-part part (λ (t : ℕ → Bool) (k : ℕ). put t k (f k)) m (λ u. false) (members 256 f) ∙ ap (with_users m) (records-back false f f 256 (λ k x. x) small))
+  users_read m f small at rest s =
+      section_back bytes two (λ (x : Model) (k : ℕ). with_users x (put x.users k (f k))) (read_user bytes) (λ k. (k < 256) × (f k ≡ true)) one 256 (omega arith) (members 256 f) (members-most 256 f) (each_member 256 f) at (with_users m (λ u. false)) rest s
+      ∙ ap (λ (x : Model). (at + length (users_part f), x)) (fold-part part (λ (t : ℕ → Bool) (k : ℕ). put t k (f k)) m (λ u. false) (members 256 f) ∙ ap (with_users m) (records_back false f f 256 (λ k x. x) small))
     where
       part : Part (λ x. x.users) with_users
       part = record { got = λ m t. refl; over = λ m t u. refl }
@@ -56,8 +56,8 @@ module _ (bytes : List ℕ) where
 
   pub roles_read : (r at : ℕ) (rest : List ℕ) → r < 2 ^ 64 → Stands bytes at (role_list r) rest → read_roles bytes at ≡ (at + length (role_list r), r)
   unfolding read_roles read_role
-  roles-read r at rest h s =
-      section-back bytes two with (read_role bytes) (λ k. (k < 64) × (has r k ≡ true)) one 64 (omega arith) (members 64 (has r)) (members-most 64 (has r)) (each_member 64 (has r)) at 0 rest s
+  roles_read r at rest h s =
+      section_back bytes two with (read_role bytes) (λ k. (k < 64) × (has r k ≡ true)) one 64 (omega arith) (members 64 (has r)) (members-most 64 (has r)) (each_member 64 (has r)) at 0 rest s
       ∙ ap (λ (x : ℕ). (at + length (role_list r), x)) (roles-back r h)
     where
       one : (k at : ℕ) (a : ℕ) (rest : List ℕ) → (k < 64) × (has r k ≡ true) → Stands bytes at (two k) rest → read_role bytes (at, a) ≡ (at + length (two k), with a k)
@@ -70,9 +70,9 @@ module _ (bytes : List ℕ) where
     added m i r = in_range size i m (into m (put (get m) i (with (get m i) r)))
 
     marks_read : (entry : ℕ → List ℕ) (step : ℕ × Model → ℕ × Model) → ((k at : ℕ) (a : Model) (rest : List ℕ) → k < all → Stands bytes at (entry k) rest → step (at, a) ≡ (at + length (entry k), added a (row k) (col k))) → (limit : ℕ) → limit < 65536 → (table : ℕ → ℕ) → ((i : ℕ) → table i < 2 ^ 64) → ((i : ℕ) → size ≤ i → table i ≡ 0) → length (members all (λ k. has (table (row k)) (col k))) ≤ limit → (m : Model) (at : ℕ) (rest : List ℕ) → Stands bytes at (section entry (members all (λ k. has (table (row k)) (col k)))) rest → read_section bytes limit step at (into m (λ i. 0)) ≡ (at + length (section entry (members all (λ k. has (table (row k)) (col k)))), into m table)
-    marks-read entry step one limit low table small none few m at rest s =
-        section-back bytes entry (λ (x : Model) (k : ℕ). into x (marking (get x) k)) step (λ k. (k < all) × (has (table (row k)) (col k) ≡ true)) (λ k at a rest p s. one k at a rest p.0 s ∙ ap (λ (x : Model). (at + length (entry k), x)) (in-range size (row k) a _ (fit.inside k p.0))) limit low (members all (λ k. has (table (row k)) (col k))) few (each_member all (λ k. has (table (row k)) (col k))) at (into m (λ i. 0)) rest s
-        ∙ ap (λ (x : Model). (at + length (section entry (members all (λ k. has (table (row k)) (col k)))), x)) (fold-part part marking m (λ i. 0) (members all (λ k. has (table (row k)) (col k))) ∙ ap (into m) (grid-back size all row col num fit table small none))
+    marks_read entry step one limit low table small none few m at rest s =
+        section_back bytes entry (λ (x : Model) (k : ℕ). into x (marking (get x) k)) step (λ k. (k < all) × (has (table (row k)) (col k) ≡ true)) (λ k at a rest p s. one k at a rest p.0 s ∙ ap (λ (x : Model). (at + length (entry k), x)) (in-range size (row k) a _ (fit.inside k p.0))) limit low (members all (λ k. has (table (row k)) (col k))) few (each_member all (λ k. has (table (row k)) (col k))) at (into m (λ i. 0)) rest s
+        ∙ ap (λ (x : Model). (at + length (section entry (members all (λ k. has (table (row k)) (col k)))), x)) (fold-part part marking m (λ i. 0) (members all (λ k. has (table (row k)) (col k))) ∙ ap (into m) (grid_back size all row col num fit table small none))
       where
         marking : (ℕ → ℕ) → ℕ → ℕ → ℕ
         marking t k = put t (row k) (with (t (row k)) (col k))
@@ -80,7 +80,7 @@ module _ (bytes : List ℕ) where
   -- the lines and the assignments
   pairs_read : (pairs : Pairs) (get : Model → ℕ → ℕ) (into : Model → (ℕ → ℕ) → Model) → Part get into → (size : ℕ) → ((m : Model) (i r : ℕ) → pair_added pairs m i r ≡ in_range size i m (into m (put (get m) i (with (get m i) r)))) → (limit : ℕ) → size ≤ 256 → limit < 65536 → (table : ℕ → ℕ) → ((i : ℕ) → table i < 2 ^ 64) → ((i : ℕ) → size ≤ i → table i ≡ 0) → length (members (64 * size) (pair_in table)) ≤ limit → (m : Model) (at : ℕ) (rest : List ℕ) → Stands bytes at (section pair_entry (members (64 * size) (pair_in table))) rest → read_section bytes limit (read_pair pairs bytes) at (into m (λ i. 0)) ≡ (at + length (section pair_entry (members (64 * size) (pair_in table))), into m table)
   unfolding read_pair
-  pairs-read pairs get into part size stored limit few low = marks-read get into part size (64 * size) (λ k. k / 64) (λ k. k % 64) (λ i r. 64 * i + r) fit pair_entry (read_pair pairs bytes) one limit low
+  pairs_read pairs get into part size stored limit few low = marks_read get into part size (64 * size) (λ k. k / 64) (λ k. k % 64) (λ i r. 64 * i + r) fit pair_entry (read_pair pairs bytes) one limit low
     where
       fit : Numbered size (64 * size) (λ k. k / 64) (λ k. k % 64) (λ i r. 64 * i + r)
       fit = record { within = λ i r h p. omega arith; place = λ i r h p. omega arith; role = λ i r h p. omega arith; number = λ k. omega arith; inside = λ k h. omega arith }
@@ -91,14 +91,14 @@ module _ (bytes : List ℕ) where
           ∙ ap (λ (x : Model). (at + 4, x)) (stored a (k / 64) (k % 64))
 
   pub lines_read : (table : ℕ → ℕ) → ((i : ℕ) → table i < 2 ^ 64) → ((i : ℕ) → 64 ≤ i → table i ≡ 0) → length (members 4096 (pair_in table)) ≤ 512 → (m : Model) (at : ℕ) (rest : List ℕ) → Stands bytes at (lines_part table) rest → read_section bytes 512 (read_pair Lines bytes) at (with_lines m (λ i. 0) 0) ≡ (at + length (lines_part table), with_lines m table 0)
-  lines_read = pairs-read Lines (λ m. m.juniors) (λ m t. with_lines m t 0) (record { got = λ m t. refl; over = λ m t u. refl }) 64 (λ m i r. refl) 512 (omega arith) (omega arith)
+  lines_read = pairs_read Lines (λ m. m.juniors) (λ m t. with_lines m t 0) (record { got = λ m t. refl; over = λ m t u. refl }) 64 (λ m i r. refl) 512 (omega arith) (omega arith)
 
   pub assignments_read : (table : ℕ → ℕ) → ((i : ℕ) → table i < 2 ^ 64) → ((i : ℕ) → 256 ≤ i → table i ≡ 0) → length (members 16384 (pair_in table)) ≤ 2048 → (m : Model) (at : ℕ) (rest : List ℕ) → Stands bytes at (assigned_part table) rest → read_section bytes 2048 (read_pair Assignments bytes) at (with_assignments m (λ i. 0) 0) ≡ (at + length (assigned_part table), with_assignments m table 0)
-  assignments_read = pairs-read Assignments (λ m. m.assigned) (λ m t. with_assignments m t 0) (record { got = λ m t. refl; over = λ m t u. refl }) 256 (λ m i r. refl) 2048 (omega arith) (omega arith)
+  assignments_read = pairs_read Assignments (λ m. m.assigned) (λ m t. with_assignments m t 0) (record { got = λ m t. refl; over = λ m t u. refl }) 256 (λ m i r. refl) 2048 (omega arith) (omega arith)
 
   pub grants_read : (table : ℕ → ℕ) → ((i : ℕ) → table i < 2 ^ 64) → ((i : ℕ) → 4096 ≤ i → table i ≡ 0) → length (members 262144 (grant_in table)) ≤ 2048 → (m : Model) (at : ℕ) (rest : List ℕ) → Stands bytes at (grants_part table) rest → read_section bytes 2048 (read_grant bytes) at (with_grants m (λ i. 0) 0) ≡ (at + length (grants_part table), with_grants m table 0)
   unfolding read_grant
-  grants_read = marks-read (λ m. m.holders) (λ m t. with_grants m t 0) (record { got = λ m t. refl; over = λ m t u. refl }) 4096 262144 (λ k. k % 4096) (λ k. k / 4096) (λ i r. 4096 * r + i) fit grant_entry (read_grant bytes) one 2048 (omega arith)
+  grants_read = marks_read (λ m. m.holders) (λ m t. with_grants m t 0) (record { got = λ m t. refl; over = λ m t u. refl }) 4096 262144 (λ k. k % 4096) (λ k. k / 4096) (λ i r. 4096 * r + i) fit grant_entry (read_grant bytes) one 2048 (omega arith)
     where
       fit : Numbered 4096 262144 (λ k. k % 4096) (λ k. k / 4096) (λ i r. 4096 * r + i)
       fit = record { within = λ i r h p. omega arith; place = λ i r h p. omega arith; role = λ i r h p. omega arith; number = λ k. omega arith; inside = λ k h. omega arith }
@@ -122,7 +122,7 @@ module _ (bytes : List ℕ) where
         word_back x h (stands-left (two x) (two y ++ role_list r) s),
         (
           word_back y k (stands-left (two y) (role_list r) second),
-          ap (read_roles bytes) four ∙ roles-read r (at + 2 + 2) rest l (stands-right (two y) (role_list r) second) ∙ ap (λ (n : ℕ). (n, r)) size,
+          ap (read_roles bytes) four ∙ roles_read r (at + 2 + 2) rest l (stands-right (two y) (role_list r) second) ∙ ap (λ (n : ℕ). (n, r)) size,
         ),
       )
 
@@ -134,9 +134,9 @@ module _ (bytes : List ℕ) where
 
     records_read : (there : ℕ → Bool) (second roles : ℕ → ℕ) (table : ℕ → B) → ((k : ℕ) → there k ≡ true → make (second k) (roles k) ≡ table k) → ((k : ℕ) → there k ≡ false → table k ≡ d) → ((k : ℕ) → there k ≡ true → k < size) → ((k : ℕ) → second k < 65536) → ((k : ℕ) → roles k < 2 ^ 64) → (m : Model) (at : ℕ) (rest : List ℕ) → Stands bytes at (section (λ k. two k ++ (two (second k) ++ role_list (roles k))) (members size there)) rest → read_section bytes size (read_entry placed bytes) at (into m (λ k. d)) ≡ (at + length (section (λ k. two k ++ (two (second k) ++ role_list (roles k))) (members size there)), into m table)
     unfolding read_entry
-    records-read there second roles table made absent named small fine m at rest s =
-        section-back bytes entry (λ (x : Model) (k : ℕ). into x (put (get x) k (table k))) (read_entry placed bytes) (λ k. (k < size) × (there k ≡ true)) one size low (members size there) (members-most size there) (each_member size there) at (into m (λ k. d)) rest s
-        ∙ ap (λ (x : Model). (at + length (section entry (members size there)), x)) (fold-part part (λ (t : ℕ → B) (k : ℕ). put t k (table k)) m (λ k. d) (members size there) ∙ ap (into m) (records-back d table there size absent named))
+    records_read there second roles table made absent named small fine m at rest s =
+        section_back bytes entry (λ (x : Model) (k : ℕ). into x (put (get x) k (table k))) (read_entry placed bytes) (λ k. (k < size) × (there k ≡ true)) one size low (members size there) (members-most size there) (each_member size there) at (into m (λ k. d)) rest s
+        ∙ ap (λ (x : Model). (at + length (section entry (members size there)), x)) (fold-part part (λ (t : ℕ → B) (k : ℕ). put t k (table k)) m (λ k. d) (members size there) ∙ ap (into m) (records_back d table there size absent named))
       where
         entry : ℕ → List ℕ
         entry k = two k ++ (two (second k) ++ role_list (roles k))
@@ -149,11 +149,11 @@ module _ (bytes : List ℕ) where
             ∙ ap (λ (x : Model). (at + length (entry k), x)) (in-range size k a _ p.0 ∙ ap (λ (v : B). into a (put (get a) k v)) (made k p.1))
 
   sets_part : (kind : Kind) → Part (sets_of kind) (with_sets kind)
-  sets-part Static = record { got = λ m t. refl; over = λ m t u. refl }
-  sets-part Dynamic = record { got = λ m t. refl; over = λ m t u. refl }
+  sets_part Static = record { got = λ m t. refl; over = λ m t u. refl }
+  sets_part Dynamic = record { got = λ m t. refl; over = λ m t u. refl }
 
   pub sets_read : (kind : Kind) (sets : ℕ → RoleSet) → ((n : ℕ) → (sets n).there ≡ false → sets n ≡ absent_set) → ((n : ℕ) → (sets n).there ≡ true → n < 16) → ((n : ℕ) → (sets n).card < 65536) → ((n : ℕ) → (sets n).roles < 2 ^ 64) → (m : Model) (at : ℕ) (rest : List ℕ) → Stands bytes at (sets_part sets) rest → read_section bytes 16 (read_set kind bytes) at (with_sets kind m (λ n. absent_set)) ≡ (at + length (sets_part sets), with_sets kind m sets)
-  sets-read kind sets absent named card roles = records-read (sets_of kind) (with_sets kind) (sets-part kind) absent_set a_set 16 (omega arith) (λ n. (sets n).there) (λ n. (sets n).card) (λ n. (sets n).roles) sets (λ n e. ap (λ (b : Bool). record { there = b; card = (sets n).card; roles = (sets n).roles }) (sym e)) absent named card roles
+  sets_read kind sets absent named card roles = records_read (sets_of kind) (with_sets kind) (sets_part kind) absent_set a_set 16 (omega arith) (λ n. (sets n).there) (λ n. (sets n).card) (λ n. (sets n).roles) sets (λ n e. ap (λ (b : Bool). record { there = b; card = (sets n).card; roles = (sets n).roles }) (sym e)) absent named card roles
 
   pub sessions_read : (sessions : ℕ → Session) → ((n : ℕ) → (sessions n).live ≡ false → sessions n ≡ closed_session) → ((n : ℕ) → (sessions n).live ≡ true → n < 64) → ((n : ℕ) → (sessions n).owner < 65536) → ((n : ℕ) → (sessions n).active < 2 ^ 64) → (m : Model) (at : ℕ) (rest : List ℕ) → Stands bytes at (sessions_part sessions) rest → read_section bytes 64 (read_session bytes) at (with_sessions m (λ n. closed_session)) ≡ (at + length (sessions_part sessions), with_sessions m sessions)
-  sessions-read sessions closed numbered owner active = records-read (λ m. m.sessions) with_sessions (record { got = λ m t. refl; over = λ m t u. refl }) closed_session open_for 64 (omega arith) (λ n. (sessions n).live) (λ n. (sessions n).owner) (λ n. (sessions n).active) sessions (λ n e. ap (λ (b : Bool). record { live = b; owner = (sessions n).owner; active = (sessions n).active }) (sym e)) closed numbered owner active
+  sessions_read sessions closed numbered owner active = records_read (λ m. m.sessions) with_sessions (record { got = λ m t. refl; over = λ m t u. refl }) closed_session open_for 64 (omega arith) (λ n. (sessions n).live) (λ n. (sessions n).owner) (λ n. (sessions n).active) sessions (λ n e. ap (λ (b : Bool). record { live = b; owner = (sessions n).owner; active = (sessions n).active }) (sym e)) closed numbered owner active

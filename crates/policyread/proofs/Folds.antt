@@ -20,8 +20,8 @@ use Rattle.model.proofs.Puts.{put_same, put_other}
 module _ {A : Type 0} (act : A → ℕ → A) (test : ℕ → Bool) (P : ℕ → A → Type 0) (taken : (n : ℕ) (a : A) → test n ≡ true → P n a → P (n + 1) (act a n)) (left : (n : ℕ) (a : A) → test n ≡ false → P n a → P (n + 1) a) where
   pub fold_members : (n : ℕ) (a : A) → P 0 a → P n (foldl act a (members n test))
   unfolding members
-  fold-members zero a p = p
-  fold-members (suc n) a p = rw (foldl-append act a (members n test) (only_if (test n) n), ← add-one n) (go (test n) refl (fold-members n a p))
+  fold_members zero a p = p
+  fold_members (suc n) a p = rw (foldl-append act a (members n test) (only_if (test n) n), ← add-one n) (go (test n) refl (fold_members n a p))
     where
       go : (b : Bool) → test n ≡ b → P n (foldl act a (members n test)) → P (n + 1) (foldl act (foldl act a (members n test)) (only_if b n))
       go true e q = taken n (foldl act a (members n test)) e q
@@ -38,14 +38,14 @@ module _ {A : Type 0} (d : A) (g : ℕ → A) (test : ℕ → Bool) (size : ℕ)
     pub left : (k : ℕ) → n ≤ k → t k ≡ d
 
   placed_taken : (n : ℕ) (t : ℕ → A) → test n ≡ true → Placed n t → Placed (n + 1) (placing t n)
-  placed-taken n t e p = record { done = λ k h. go k (last-or-below k n (omega arith)); left = λ k h. put_other t n (g n) k (λ q. omega arith) ∙ p.left k (omega arith) }
+  placed_taken n t e p = record { done = λ k h. go k (last-or-below k n (omega arith)); left = λ k h. put_other t n (g n) k (λ q. omega arith) ∙ p.left k (omega arith) }
     where
       go : (k : ℕ) → (k ≡ n) ⊎ (k < n) → put t n (g n) k ≡ g k
       go k (inl q) = rw q (put_same t n (g n))
       go k (inr q) = put_other t n (g n) k (λ r. omega arith) ∙ p.done k q
 
   placed_left : (n : ℕ) (t : ℕ → A) → test n ≡ false → Placed n t → Placed (n + 1) t
-  placed-left n t e p = record { done = λ k h. go k (last-or-below k n (omega arith)); left = λ k h. p.left k (omega arith) }
+  placed_left n t e p = record { done = λ k h. go k (last-or-below k n (omega arith)); left = λ k h. p.left k (omega arith) }
     where
       go : (k : ℕ) → (k ≡ n) ⊎ (k < n) → t k ≡ g k
       go k (inl q) = rw q (p.left n (omega arith) ∙ sym (absent n e))
@@ -55,7 +55,7 @@ module _ {A : Type 0} (d : A) (g : ℕ → A) (test : ℕ → Bool) (size : ℕ)
   records_back = fun_ext (λ k. go k (dec_lt k size))
     where
       all : Placed size (foldl placing (λ k. d) (members size test))
-      all = fold-members placing test Placed placed-taken placed-left size (λ k. d) (record { done = λ k h. absurd (omega arith); left = λ k h. refl })
+      all = fold_members placing test Placed placed_taken placed_left size (λ k. d) (record { done = λ k h. absurd (omega arith); left = λ k h. refl })
 
       outside : (k : ℕ) → size ≤ k → (b : Bool) → test k ≡ b → test k ≡ false
       outside k h true e = let s = small k e in absurd (omega arith)
@@ -99,7 +99,7 @@ or_yes false = refl
 
 pub roles-back : (r : ℕ) → r < 2 ^ 64 → foldl with 0 (members 64 (has r)) ≡ r
 roles-back r h =
-    let x = fold-members with (has r) (Gathered r) taken left 64 0 start in
+    let x = fold_members with (has r) (Gathered r) taken left 64 0 start in
     ext (foldl with 0 (members 64 (has r))) r x.small h (λ k l. x.each k l ∙ rw (lt-ltb k 64 l))
   where
     start : Gathered r 0 0
@@ -145,7 +145,7 @@ module _ (size all : ℕ) (row col : ℕ → ℕ) (num : ℕ → ℕ → ℕ) (f
   other n i r h l x e = x (ap row (sym e) ∙ fit.place i r h l) (ap col (sym e) ∙ fit.role i r h l)
 
   marked_taken : (n : ℕ) (t : ℕ → ℕ) → has (table (row n)) (col n) ≡ true → Marked n t → Marked (n + 1) (marking t n)
-  marked-taken n t e m = record { past = λ i h. put_other t (row n) new i (λ e. omega (arith, inside)) ∙ m.past i h; fine = λ i h. fine i h (eqb i (row n)) refl; each = λ i r h l. each i r h l (eqb i (row n)) refl }
+  marked_taken n t e m = record { past = λ i h. put_other t (row n) new i (λ e. omega (arith, inside)) ∙ m.past i h; fine = λ i h. fine i h (eqb i (row n)) refl; each = λ i r h l. each i r h l (eqb i (row n)) refl }
     where
       within : Dec (row n < size) → row n < size
       within (yes p) = p
@@ -170,7 +170,7 @@ module _ (size all : ℕ) (row col : ℕ → ℕ) (num : ℕ → ℕ → ℕ) (f
       each i r h l false q = rw (put_other t (row n) new i (eqb-false i (row n) q)) (m.each i r h l ∙ sym (below_next (num i r) n (has (table i) r) (other n i r h l (λ a b. eqb-false i (row n) q (sym a)))))
 
   marked_left : (n : ℕ) (t : ℕ → ℕ) → has (table (row n)) (col n) ≡ false → Marked n t → Marked (n + 1) t
-  marked-left n t e m = record { past = m.past; fine = m.fine; each = λ i r h l. m.each i r h l ∙ sym (go i r h l (eqb (num i r) n) refl) }
+  marked_left n t e m = record { past = m.past; fine = m.fine; each = λ i r h l. m.each i r h l ∙ sym (go i r h l (eqb (num i r) n) refl) }
     where
       go : (i r : ℕ) → i < size → r < 64 → (b : Bool) → eqb (num i r) n ≡ b → (ltb (num i r) (n + 1) && has (table i) r) ≡ (ltb (num i r) n && has (table i) r)
       go i r h l true q =
@@ -182,7 +182,7 @@ module _ (size all : ℕ) (row col : ℕ → ℕ) (num : ℕ → ℕ → ℕ) (f
   grid_back = fun_ext (λ i. go i (dec_lt i size))
     where
       done : Marked all (foldl marking (λ i. 0) (members all (λ k. has (table (row k)) (col k))))
-      done = fold-members marking (λ k. has (table (row k)) (col k)) Marked marked-taken marked-left all (λ i. 0)
+      done = fold_members marking (λ k. has (table (row k)) (col k)) Marked marked_taken marked_left all (λ i. 0)
           (record { past = λ i h. refl; fine = λ i h. omega arith; each = λ i r h p. rw (le-ltb (num i r) 0 (omega arith)) (has-none r) })
 
       go : (i : ℕ) → Dec (i < size) → foldl marking (λ i. 0) (members all (λ k. has (table (row k)) (col k))) i ≡ table i

@@ -54,19 +54,19 @@ module _ {A : Type 0} {step : ℕ × A → ℕ × A} {whole : ℕ × A} {wide mo
 module _ (bytes : List ℕ) (at : ℕ) where
   pub user_was : (m after : Model) (u : ℕ) → u ≡ word_at bytes at → after ≡ user_added m u → read_user bytes (at, m) ≡ (at + 2, after)
   unfolding read_user
-  user-was m after u p q = sym (rw (q, p))
+  user_was m after u p q = sym (rw (q, p))
 
   pub role_was : (s r after : ℕ) → r ≡ word_at bytes at → after ≡ with s r → read_role bytes (at, s) ≡ (at + 2, after)
   unfolding read_role
-  role-was s r after p q = sym (rw (q, p))
+  role_was s r after p q = sym (rw (q, p))
 
   pub pair_was : (pairs : Pairs) (m after : Model) (i r : ℕ) → i ≡ word_at bytes at → r ≡ word_at bytes (at + 2) → after ≡ pair_added pairs m i r → read_pair pairs bytes (at, m) ≡ (at + 4, after)
   unfolding read_pair
-  pair-was pairs m after i r p q e = sym (rw (e, p, q))
+  pair_was pairs m after i r p q e = sym (rw (e, p, q))
 
   pub grant_was : (m after : Model) (r op obj : ℕ) → r ≡ word_at bytes at → op ≡ word_at bytes (at + 2) → obj ≡ word_at bytes (at + 4) → after ≡ grant_added m (permission op obj) r → read_grant bytes (at, m) ≡ (at + 6, after)
   unfolding read_grant
-  grant-was m after r op obj p q t e = sym (rw (e, p, q, t))
+  grant_was m after r op obj p q t e = sym (rw (e, p, q, t))
 
 pub entry-was : {bytes : List ℕ} {at i x next roles : ℕ} (add : Model → ℕ → ℕ → ℕ → Model) (m after : Model) → GotEntry bytes at i x next roles → after ≡ add m i x roles → read_entry add bytes (at, m) ≡ (next, after)
 unfolding read_entry

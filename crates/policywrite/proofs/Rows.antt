@@ -63,10 +63,10 @@ module _ {put : ℕ → List ℕ} {table : ℕ → ℕ} {all : ℕ} where
 
   -- how much room was taken, where each entry takes the same
   pub rows_size : (w : ℕ) → ((m : ℕ) → length (put m) ≡ w) → {a b : List ℕ} {at i k : ℕ} → Rows put table all a b at i k → i ≡ at + 2 + w * length (members (64 * k) (pair_in table))
-  rows-size w h {k = k} u = omega (arith, u.written.next, flat-length put w h (members (64 * k) (pair_in table)))
+  rows_size w h {k = k} u = omega (arith, u.written.next, flat-length put w h (members (64 * k) (pair_in table)))
 
   pub rows_room : (w : ℕ) → ((m : ℕ) → length (put m) ≡ w) → {a b : List ℕ} {at i k : ℕ} → Rows put table all a b at i k → i ≤ at + 2 + w * (64 * all)
-  rows-room w h {k = k} u = omega (arith, rows-size w h u, mul-le-mul_left w (let m : length (members (64 * k) (pair_in table)) ≤ 64 * all = omega (arith, members-most (64 * k) (pair_in table), u.within) in m))
+  rows_room w h {k = k} u = omega (arith, rows_size w h u, mul-le-mul_left w (let m : length (members (64 * k) (pair_in table)) ≤ 64 * all = omega (arith, members-most (64 * k) (pair_in table), u.within) in m))
 
   -- all are written, and then their count in front
   pub rows_end : {a b d : List ℕ} {at i k n j : ℕ} → all ≤ k → n ≡ length (members (64 * k) (pair_in table)) → Rows put table all a b at i k → Wrote b d at j (two n) → Wrote a d at i (section put (members (64 * all) (pair_in table)))

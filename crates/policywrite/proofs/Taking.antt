@@ -50,11 +50,11 @@ pub record Through (put : ℕ → List ℕ) (set rest : ℕ) (before after : Lis
 
 module _ {put : ℕ → List ℕ} {set : ℕ} where
   pub through_start : {l : List ℕ} {at : ℕ} → set < 2 ^ 64 → Through put set set l l at at
-  through-start {l} {at} h = record { k = 0; within = omega arith; fits = h; written = rw (members-start (has set), flat-none put) (wrote_none l at); passed = λ j l. absurd (omega arith); ahead = λ j l. refl }
+  through_start {l} {at} h = record { k = 0; within = omega arith; fits = h; written = rw (members-start (has set), flat-none put) (wrote_none l at); passed = λ j l. absurd (omega arith); ahead = λ j l. refl }
 
   -- the lowest that is left is written, and dropped
   pub through_taken : {a b d : List ℕ} {at i j rest next r : ℕ} → Least rest r → Made next (without rest r) (λ m. has rest m && not (eqb m r)) → Through put set rest a b at i → Wrote b d i j (put r) → Through put set next a d at j
-  through-taken {a} {b} {d} {at} {i} {j} {rest} {next} {r} t new u x = record { k = r + 1; within = omega (arith, t.taken.small); fits = rw new.is (without-small rest r); written = rw (members-taken r (has set) here, flat_append put (members r (has set)) (r ∷ []), flat-one put r, members-skip u.k r (has set) far gap) (wrote-more u.written x); passed = passed; ahead = λ m h. new.each m ∙ rw (ne_eqb m r (λ e. omega arith)) (and-true (has rest m)) ∙ u.ahead m (omega (arith, far)) }
+  through_taken {a} {b} {d} {at} {i} {j} {rest} {next} {r} t new u x = record { k = r + 1; within = omega (arith, t.taken.small); fits = rw new.is (without-small rest r); written = rw (members-taken r (has set) here, flat_append put (members r (has set)) (r ∷ []), flat-one put r, members-skip u.k r (has set) far gap) (wrote-more u.written x); passed = passed; ahead = λ m h. new.each m ∙ rw (ne_eqb m r (λ e. omega arith)) (and-true (has rest m)) ∙ u.ahead m (omega (arith, far)) }
     where
       far : u.k ≤ r
       far = go (dec_lt r u.k)
@@ -78,8 +78,8 @@ module _ {put : ℕ → List ℕ} {set : ℕ} where
 
   -- none is left
   pub through_end : {a b : List ℕ} {at i rest : ℕ} → rest ≡ 0 → Through put set rest a b at i → Wrote a b at i (flat put (members 64 (has set)))
-  through-end {rest = rest} e u = rw (members-skip u.k 64 (has set) u.within (λ j h l. sym (u.ahead j h) ∙ ap (λ (s : ℕ). has s j) e ∙ has-none j)) u.written
+  through_end {rest = rest} e u = rw (members-skip u.k 64 (has set) u.within (λ j h l. sym (u.ahead j h) ∙ ap (λ (s : ℕ). has s j) e ∙ has-none j)) u.written
 
   -- how much room was taken, where each entry takes the same
   pub through_room : (w : ℕ) → ((k : ℕ) → length (put k) ≡ w) → {a b : List ℕ} {at i rest : ℕ} → Through put set rest a b at i → i ≤ at + w * 64
-  through-room w h u = omega (arith, u.written.next, flat-length put w h (members u.k (has set)), mul-le-mul_left w (let m : length (members u.k (has set)) ≤ 64 = omega (arith, members-most u.k (has set), u.within) in m))
+  through_room w h u = omega (arith, u.written.next, flat-length put w h (members u.k (has set)), mul-le-mul_left w (let m : length (members u.k (has set)) ≤ 64 = omega (arith, members-most u.k (has set), u.within) in m))

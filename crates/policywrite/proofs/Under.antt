@@ -27,11 +27,11 @@ pub record Under (put : ℕ → List ℕ) (test : ℕ → Bool) (wide all : ℕ)
 module _ {put : ℕ → List ℕ} {test : ℕ → Bool} {wide all : ℕ} where
   -- none was asked
   pub under_start : {l : List ℕ} {at : ℕ} → Under put test wide all l l at (at + 2) 0 0
-  under-start {l} {at} = record { within = omega arith; few = omega arith; room = omega arith; counted = sym (ap length (members-start test)); written = rw (members-start test, flat-none put) (wrote_none l (at + 2)) }
+  under_start {l} {at} = record { within = omega arith; few = omega arith; room = omega arith; counted = sym (ap length (members-start test)); written = rw (members-start test, flat-none put) (wrote_none l (at + 2)) }
 
   -- the next one passes, and its entry is written
   pub under_taken : {a b d : List ℕ} {at i j n k : ℕ} → k < all → test k ≡ true → j ≤ i + wide → Under put test wide all a b at i n k → Wrote b d i j (put k) → Under put test wide all a d at j (n + 1) (k + 1)
-  under-taken {k = k} h t w u x = record { within = omega arith; few = omega (arith, u.few); room = omega (arith, u.room, mul-suc wide k, ap (λ (m : ℕ). wide * m) (add-one k)); counted = rw (members-taken k test t) (omega (arith, u.counted, length-append (members k test) (k ∷ []))); written = rw (members-taken k test t, flat_append put (members k test) (k ∷ []), flat-one put k) (wrote-more u.written x) }
+  under_taken {k = k} h t w u x = record { within = omega arith; few = omega (arith, u.few); room = omega (arith, u.room, mul-suc wide k, ap (λ (m : ℕ). wide * m) (add-one k)); counted = rw (members-taken k test t) (omega (arith, u.counted, length-append (members k test) (k ∷ []))); written = rw (members-taken k test t, flat_append put (members k test) (k ∷ []), flat-one put k) (wrote-more u.written x) }
 
   -- it does not
   pub under_left : {a b : List ℕ} {at i n k : ℕ} → k < all → test k ≡ false → Under put test wide all a b at i n k → Under put test wide all a b at i n (k + 1)
@@ -39,8 +39,8 @@ module _ {put : ℕ → List ℕ} {test : ℕ → Bool} {wide all : ℕ} where
 
   -- all were asked, and the count is written in front
   pub under_end : {a b d : List ℕ} {at i n k j most : ℕ} → all ≤ k → 2 + wide * all ≤ most → Under put test wide all a b at i n k → Wrote b d at j (two n) → Part a d at i most (section put (members all test))
-  under-end {k = k} h m u x = let last : k ≡ all = omega (arith, u.within) in record { wrote = rw last at (section-counted put (members k test) u.counted u.written x); room = omega (arith, rw last at u.room) }
+  under_end {k = k} h m u x = let last : k ≡ all = omega (arith, u.within) in record { wrote = rw last at (section-counted put (members k test) u.counted u.written x); room = omega (arith, rw last at u.room) }
 
   -- the buffer is as long as it was
   pub under_length : {a b d : List ℕ} {at i n k j : ℕ} → Under put test wide all a b at i n k → Wrote b d at j (two n) → length d ≡ length a
-  under-length u x = wrote-length x ∙ wrote-length u.written
+  under_length u x = wrote-length x ∙ wrote-length u.written

@@ -14,7 +14,7 @@ use Rattle.script.specs.Script.{run_from, after_script}
 use Rattle.program.specs.Printing.{Prints, at_start}
 use Rattle.program.specs.declared.Run.{Run}
 use Rattle.program.specs.declared.Printed.{Printed}
-use Rattle.program.proofs.Whole.{left, last, calls_left, Few, Goes, calls-on, goes_on, left-all, left-none, last-all, last_none, starts-few}
+use Rattle.program.proofs.Whole.{left, last, calls_left, Few, Goes, calls-on, goes_on, left_all, left-none, last_all, last_none, starts_few}
 
 -- Of what the script prints from the policy m on, so many bytes were handed out, and the rest is left; the calls that are left will leave what the
 -- script leaves of m.
@@ -28,9 +28,9 @@ pub record Handing (m : Model) (script l : List ℕ) (r : Run) (count : ℕ) : T
 pub hands-all : (m : Model) (script l : List ℕ) (r : Run) → view l ≡ m → r ≡ at_start → Handing m script l r 0
 hands-all m script l r v b =
     record {
-      few = starts-few script l r b;
-      rest = rw (← v) (sym (left-all script l r b));
-      leaves = rw (← v) (last-all script l r b);
+      few = starts_few script l r b;
+      rest = rw (← v) (sym (left_all script l r b));
+      leaves = rw (← v) (last_all script l r b);
       within = omega arith;
       small = omega (arith, calls-on script r (ap (λ (q : Run). q.over) b), ap (λ (q : Run). q.progress.at) b);
     }

@@ -19,18 +19,18 @@ use Rattle.script.specs.Script.{answer_text, total_text, run_from, run_script, a
 use Rattle.script.specs.LineAnswers.{Turns, told_at}
 use Rattle.script.specs.declared.Progress.{Progress}
 use Rattle.script.specs.declared.Turned.{Turned}
-use Rattle.script.proofs.Turning.{to_print, to_leave, turn-prints, turn-counts, turn-leaves, answer-short, obey-few, at-end, after-end, from-policy, too-long-from, leaves_lines, leaves-it}
-use Rattle.program.specs.Printing.{Stage, stage_of, over, total, tooLong, line, Piece, piece, Puts, Prints, at_start, Begins, Runs, ends, goes}
+use Rattle.script.proofs.Turning.{to_print, to_leave, turn_prints, turn_counts, turn_leaves, answer-short, obey-few, at-end, after-end, from-policy, too-long-from, leaves_lines, leaves-it}
+use Rattle.program.specs.Printing.{Stage, stage_of, over, total, too_long, line, Piece, piece, Puts, Prints, at_start, Begins, Runs, ends, goes}
 use Rattle.program.specs.declared.Run.{Run}
 use Rattle.program.specs.declared.Printed.{Printed}
-use Rattle.program.proofs.Stages.{at-over, at-total, at-too-long, at-line}
+use Rattle.program.proofs.Stages.{at-over, at_total, at_too_long, at_line}
 
 -- ---- what is still to be handed out
 
 left_at : Stage → List ℕ → List ℕ → Progress → List ℕ
 left_at over script l p = []
 left_at total script l p = total_text p.tally.done p.tally.others
-left_at tooLong script l p = answer_text 14 [] ++ total_text (counted p.tally false).done (counted p.tally false).others
+left_at too_long script l p = answer_text 14 [] ++ total_text (counted p.tally false).done (counted p.tally false).others
 left_at line script l p = to_print script l p
 
 pub left : List ℕ → List ℕ → Run → List ℕ
@@ -40,7 +40,7 @@ left script l r = left_at (stage_of script r) script l r.progress
 last_at : Stage → List ℕ → List ℕ → Progress → Model
 last_at over script l p = view l
 last_at total script l p = view l
-last_at tooLong script l p = view l
+last_at too_long script l p = view l
 last_at line script l p = to_leave script l p
 
 pub last : List ℕ → List ℕ → Run → Model
@@ -82,16 +82,16 @@ unfolding left_at
 left-lines script l r e k = go (dec_lt r.progress.at (length script))
   where
     go : Dec (r.progress.at < length script) → left script l r ≡ to_print script l r.progress
-    go (yes h) = left-at script l r (at-line script r e h k)
-    go (no h) = let n : length script ≤ r.progress.at = omega arith in left-at script l r (at-total script r e n) ∙ sym (at-end script (view l) r.progress.tally.done r.progress.tally.others r.progress.at n)
+    go (yes h) = left-at script l r (at_line script r e h k)
+    go (no h) = let n : length script ≤ r.progress.at = omega arith in left-at script l r (at_total script r e n) ∙ sym (at-end script (view l) r.progress.tally.done r.progress.tally.others r.progress.at n)
 
 last-lines : (script l : List ℕ) (r : Run) → r.over ≡ false → length script ≤ 32768 → last script l r ≡ to_leave script l r.progress
 unfolding last_at
 last-lines script l r e k = go (dec_lt r.progress.at (length script))
   where
     go : Dec (r.progress.at < length script) → last script l r ≡ to_leave script l r.progress
-    go (yes h) = last-at script l r (at-line script r e h k)
-    go (no h) = let n : length script ≤ r.progress.at = omega arith in last-at script l r (at-total script r e n) ∙ sym (after-end script (view l) r.progress.at n)
+    go (yes h) = last-at script l r (at_line script r e h k)
+    go (no h) = let n : length script ≤ r.progress.at = omega arith in last-at script l r (at_total script r e n) ∙ sym (after-end script (view l) r.progress.at n)
 
 calls-over : (script : List ℕ) (r : Run) → r.over ≡ true → calls_left script r ≡ 0
 unfolding calls_left
@@ -106,26 +106,26 @@ module _ (script l : List ℕ) (r : Run) (before after : List ℕ) (x : Printed)
   told s = piece s script l r.progress
 
   puts_at : {s : Stage} → stage_of script r ≡ s → Puts (told s) before after x
-  puts-at is = rw is at t.puts
+  puts_at is = rw is at t.puts
 
   state_at : {s : Stage} → stage_of script r ≡ s → view next ≡ (told s).after
-  state-at is = rw is at t.state
+  state_at is = rw is at t.state
 
   -- the piece stands at the front of the buffer
   stands : {s : Stage} → stage_of script r ≡ s → length (told s).text ≤ 24582 → (take x.len after ≡ (told s).text) × (x.len ≤ 24582)
-  stands is h = (put_front (puts-at is).text (omega arith), omega (arith, (puts-at is).text.ends))
+  stands is h = (put_front (puts_at is).text (omega arith), omega (arith, (puts_at is).text.ends))
 
   -- the total is the last piece
   goes_total : length script ≤ r.progress.at → Goes script l r after x next
   unfolding left_at last_at
-  goes-total h =
-      let is = at-total script r e h in
+  goes_total h =
+      let is = at_total script r e h in
       let p = stands is (omega (arith, total-short r.progress.tally.done r.progress.tally.others)) in
-      let n = (puts-at is).run in
+      let n = (puts_at is).run in
       let o : x.run.over ≡ true = ap (λ (q : Run). q.over) n in
       record {
         joins = rw (p.0, left-at script next x.run (at-over script x.run o), left-at script l r is) (append-nil _);
-        leaves = last-at script next x.run (at-over script x.run o) ∙ state-at is ∙ sym (last-at script l r is);
+        leaves = last-at script next x.run (at-over script x.run o) ∙ state_at is ∙ sym (last-at script l r is);
         few = rw n few;
         short = p.1;
         fewer = omega (arith, calls-over script x.run o, calls-on script r e);
@@ -134,15 +134,15 @@ module _ (script l : List ℕ) (r : Run) (before after : List ℕ) (x : Printed)
   -- after the answer to a script that is too long comes the total
   goes_too_long : r.progress.at < length script → 32768 < length script → Goes script l r after x next
   unfolding left_at last_at counted one_more
-  goes-too-long h k =
-      let is = at-too-long script r e h k in
+  goes_too_long h k =
+      let is = at_too_long script r e h k in
       let p = stands is (omega (arith, answer-short 14 [] (omega arith))) in
-      let n = (puts-at is).run in
+      let n = (puts_at is).run in
       let o : x.run.over ≡ false = ap (λ (q : Run). q.over) n in
       let a : x.run.progress.at ≡ length script = ap (λ (q : Run). q.progress.at) n in
       record {
-        joins = rw (p.0, left-at script next x.run (at-total script x.run o (omega arith)), left-at script l r is, n);
-        leaves = last-at script next x.run (at-total script x.run o (omega arith)) ∙ state-at is ∙ sym (last-at script l r is);
+        joins = rw (p.0, left-at script next x.run (at_total script x.run o (omega arith)), left-at script l r is, n);
+        leaves = last-at script next x.run (at_total script x.run o (omega arith)) ∙ state_at is ∙ sym (last-at script l r is);
         few = rw n (omega arith);
         short = p.1;
         fewer = omega (arith, calls-on script x.run o, calls-on script r e);
@@ -151,18 +151,18 @@ module _ (script l : List ℕ) (r : Run) (before after : List ℕ) (x : Printed)
   -- after a line's answer comes what the lines after it print
   goes_line : r.progress.at < length script → length script ≤ 32768 → Goes script l r after x next
   unfolding left_at
-  goes-line h k =
-      let is = at-line script r e h k in
+  goes_line h k =
+      let is = at_line script r e h k in
       let p = stands is (answer-short (told_at script l r.progress).answer (told_at script l r.progress).results (obey-few (view l) (part_at line_feed script r.progress.at))) in
-      let n = (puts-at is).run in
+      let n = (puts_at is).run in
       let o : x.run.over ≡ false = ap (λ (q : Run). q.over) n in
       let a : x.run.progress.at ≡ place_past line_feed script r.progress.at = ap (λ (q : Run). q.progress.at) n in
       let turned : Turned = record { len = x.len; next = x.run.progress } in
-      let turns : Turns script l r.progress before after turned next = record { text = (puts-at is).text; place = a; tally = ap (λ (q : Run). q.progress.tally) n; state = state-at is } in
+      let turns : Turns script l r.progress before after turned next = record { text = (puts_at is).text; place = a; tally = ap (λ (q : Run). q.progress.tally) n; state = state_at is } in
       record {
-        joins = rw (left-lines script next x.run o k, left-lines script l r e k) (turn-prints script l r.progress before after turned next turns h room k few);
-        leaves = last-lines script next x.run o k ∙ turn-leaves script l r.progress before after turned next turns h room k few ∙ sym (last-lines script l r e k);
-        few = turn-counts script l r.progress before after turned next turns h room k few;
+        joins = rw (left-lines script next x.run o k, left-lines script l r e k) (turn_prints script l r.progress before after turned next turns h room k few);
+        leaves = last-lines script next x.run o k ∙ turn_leaves script l r.progress before after turned next turns h room k few ∙ sym (last-lines script l r e k);
+        few = turn_counts script l r.progress before after turned next turns h room k few;
         short = p.1;
         fewer = omega (arith, calls-on script x.run o, calls-on script r e, past_more line_feed script r.progress.at h);
       }
@@ -171,9 +171,9 @@ module _ (script l : List ℕ) (r : Run) (before after : List ℕ) (x : Printed)
   goes_on = go (dec_lt r.progress.at (length script)) (dec_lt 32768 (length script))
     where
       go : Dec (r.progress.at < length script) → Dec (32768 < length script) → Goes script l r after x next
-      go (no h) long = goes-total (omega arith)
-      go (yes h) (yes k) = goes-too-long h k
-      go (yes h) (no k) = goes-line h (omega arith)
+      go (no h) long = goes_total (omega arith)
+      go (yes h) (yes k) = goes_too_long h k
+      go (yes h) (no k) = goes_line h (omega arith)
 
 -- ---- all calls
 
@@ -196,7 +196,7 @@ module _ (script l : List ℕ) (r : Run) (b : r ≡ at_start) where
   left_all = go (dec_lt 32768 (length script))
     where
       go : Dec (32768 < length script) → left script l r ≡ run_from (view l) script
-      go (yes h) = left-at script l r (at-too-long script r fresh.0 (omega (arith, fresh.1)) h) ∙ rw b (sym (too-long-from (view l) script h))
+      go (yes h) = left-at script l r (at_too_long script r fresh.0 (omega (arith, fresh.1)) h) ∙ rw b (sym (too-long-from (view l) script h))
       go (no h) = left-lines script l r fresh.0 (omega arith) ∙ rw b (sym (from-policy (view l) script (omega arith)))
 
   pub last_all : last script l r ≡ after_script (view l) script
@@ -204,7 +204,7 @@ module _ (script l : List ℕ) (r : Run) (b : r ≡ at_start) where
   last_all = go (dec_lt 32768 (length script))
     where
       go : Dec (32768 < length script) → last script l r ≡ after_script (view l) script
-      go (yes h) = last-at script l r (at-too-long script r fresh.0 (omega (arith, fresh.1)) h) ∙ sym (leaves-it (view l) script h)
+      go (yes h) = last-at script l r (at_too_long script r fresh.0 (omega (arith, fresh.1)) h) ∙ sym (leaves-it (view l) script h)
       go (no h) = last-lines script l r fresh.0 (omega arith) ∙ rw b (sym (leaves_lines (view l) script (omega arith)))
 
   pub starts_few : Few r

@@ -31,7 +31,7 @@ pub data Stage : Type 0 where
 abbrev pub stage_by : Bool → Bool → Bool → Stage
 stage_by true left long = over
 stage_by false false long = total
-stage_by false true true = tooLong
+stage_by false true true = too_long
 stage_by false true false = line
 
 unfoldable pub stage_of : List ℕ → Run → Stage
@@ -46,7 +46,7 @@ pub record Piece : Type 0 where
 abbrev pub piece : Stage → List ℕ → List ℕ → Progress → Piece
 piece over script l p = record { text = []; run = record { progress = p; over = true }; after = view l }
 piece total script l p = record { text = total_text p.tally.done p.tally.others; run = record { progress = p; over = true }; after = view l }
-piece tooLong script l p = record { text = answer_text 14 []; run = record { progress = record { at = length script; tally = counted p.tally false }; over = false }; after = view l }
+piece too_long script l p = record { text = answer_text 14 []; run = record { progress = record { at = length script; tally = counted p.tally false }; over = false }; after = view l }
 piece line script l p =
     record {
       text = answer_text (told_at script l p).answer (told_at script l p).results;
@@ -61,7 +61,7 @@ pub record Puts (told : Piece) (before after : List ℕ) (x : Printed) : Type 0 
 
 -- A script that is too long is answered so, whatever the state: it is one line more that was not answered 0, and the place is past it.
 abbrev pub Refuses : List ℕ → Progress → List ℕ → List ℕ → Printed → Type 0
-Refuses script p before after x = Puts (piece tooLong script [] p) before after x
+Refuses script p before after x = Puts (piece too_long script [] p) before after x
 
 -- One call: the piece that it hands to the output, and the state after it.
 pub record Prints (script l : List ℕ) (r : Run) (before after : List ℕ) (x : Printed) (next : List ℕ) : Type 0 where

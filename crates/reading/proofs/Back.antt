@@ -16,7 +16,7 @@ use Rattle.words.proofs.Laws.{and-true, same-equal, same_refl}
 use Rattle.words.proofs.Tables.{which-spelling, lengths, over-words}
 use Rattle.textlines.specs.Parts.{joined, parts_of, up_to, place_past}
 use Rattle.textlines.proofs.Laws.{after, at-stop, before-stop, cut, kept}
-use Rattle.reading.specs.Form.{render, Small, Written, line, noLine, word_in, numbers_in, shaped, again, parse}
+use Rattle.reading.specs.Form.{render, Small, Written, line, no_line, word_in, numbers_in, shaped, again, parse}
 
 -- ---- a text without spaces
 
@@ -125,7 +125,7 @@ module _ (k : ℕ) (ns : List ℕ) (h : k < word_count) where
 
   pub numbers_again : Small ns → numbers_in (render k ns) ≡ ns
   unfolding numbers_in
-  numbers-again s = ap (λ (l : List ℕ). map value (parts_of space l)) left ∙ numbers-back ns s
+  numbers_again s = ap (λ (l : List ℕ). map value (parts_of space l)) left ∙ numbers-back ns s
 
 -- ---- the two laws
 
@@ -142,7 +142,7 @@ written-parsed text k ns w =
     k_is = ap word_in (sym w.is) ∙ word_back k ns w.known
 
     ns_is : numbers_in text ≡ ns
-    ns_is = ap numbers_in (sym w.is) ∙ numbers-again k ns w.known w.small
+    ns_is = ap numbers_in (sym w.is) ∙ numbers_again k ns w.known w.small
 
     whole : again text k ns ≡ true
     whole = both (leb (length text) 512) _ (le-leb _ _ w.short) (both (shaped k (length ns)) _ (both (ltb k word_count) _ (lt-ltb _ _ w.known) w.fits) (rw w.is (same_refl text)))
@@ -169,7 +169,7 @@ once text e =
     let d = and-true (ltb (word_in text) word_count) _ b.0 in
     record { known = ltb-true _ _ d.0; fits = d.1; small = small-in text; short = leb-true _ _ a.0; is = same-equal _ _ b.1 }
 
-pub refused : (text : List ℕ) → again text (word_in text) (numbers_in text) ≡ false → parse text ≡ noLine
+pub refused : (text : List ℕ) → again text (word_in text) (numbers_in text) ≡ false → parse text ≡ no_line
 unfolding parse
 refused text e = rw (e, parse)
 
@@ -186,5 +186,5 @@ parsed-written text k ns e = go (again text (word_in text) (numbers_in text)) re
     go false p = let z : ◌≡◌ {A = ℕ} 0 1 = cc (refused text p) in absurd (omega arith)
 
 -- Where a text is read as no line, it is the rendering of none: the line answers 14.
-pub none_written : (text : List ℕ) → parse text ≡ noLine → (k : ℕ) (ns : List ℕ) → Written text k ns → ⊥
+pub none_written : (text : List ℕ) → parse text ≡ no_line → (k : ℕ) (ns : List ℕ) → Written text k ns → ⊥
 none_written text e k ns w = let z : ◌≡◌ {A = ℕ} 0 1 = cc (written-parsed text k ns w) in omega arith

@@ -16,7 +16,7 @@ use Rattle.words.specs.Bytes.{same}
 use Rattle.words.proofs.Laws.{same_length}
 use Rattle.textlines.specs.Parts.{parts_of, part_at, place_past}
 use Rattle.textlines.proofs.Laws.{parts_at, parts_none}
-use Rattle.reading.specs.Form.{render, word_in, numbers_in, shaped, parse, noLine}
+use Rattle.reading.specs.Form.{render, word_in, numbers_in, shaped, parse, no_line}
 use Rattle.reading.specs.Holding.{padded, full, blank, gathered}
 use Rattle.reading.specs.declared.Line.{Line}
 use Rattle.reading.proofs.Back.{refused}
@@ -84,17 +84,17 @@ gathers-over text numbers at count h p g =
 
 -- ---- what the tests of the reader say
 
-pub too_long : (text : List ℕ) → 512 < length text → parse text ≡ noLine
+pub too_long : (text : List ℕ) → 512 < length text → parse text ≡ no_line
 too_long text h = refused text (rw (lt-leb (length text) 512 h))
 
-pub misshapen : (text : List ℕ) → shaped (word_in text) (length (numbers_in text)) ≡ false → parse text ≡ noLine
+pub misshapen : (text : List ℕ) → shaped (word_in text) (length (numbers_in text)) ≡ false → parse text ≡ no_line
 misshapen text e = refused text (rw e (and-false (leb (length text) 512)))
 
-pub differs : (text : List ℕ) → same (render (word_in text) (numbers_in text)) text ≡ false → parse text ≡ noLine
+pub differs : (text : List ℕ) → same (render (word_in text) (numbers_in text)) text ≡ false → parse text ≡ no_line
 differs text e = refused text (rw (e, and-false (shaped (word_in text) (length (numbers_in text)))) (and-false (leb (length text) 512)))
 
 -- more than 256 numbers never fit a line of 512 bytes
-pub too_many : (text : List ℕ) → length text ≤ 512 → 256 < length (numbers_in text) → parse text ≡ noLine
+pub too_many : (text : List ℕ) → length text ≤ 512 → 256 < length (numbers_in text) → parse text ≡ no_line
 unfolding render
 too_many text h p = differs text (same_length _ text (λ e. omega (arith, length-append (spelling (word_in text)) (numbered (numbers_in text)), numbered-long (numbers_in text))))
 

@@ -44,4 +44,4 @@ abbrev pub again : List ℕ → ℕ → List ℕ → Bool
 again text k ns = leb (length text) longest_line && (shaped k (length ns) && same (render k ns) text)
 
 unfoldable pub parse : List ℕ → Parsed
-parse text = elim (again text (word_in text) (numbers_in text)) [ true ↦ line (word_in text) (numbers_in text) | false ↦ noLine ]
+parse text = elim (again text (word_in text) (numbers_in text)) [ true ↦ line (word_in text) (numbers_in text) | false ↦ no_line ]

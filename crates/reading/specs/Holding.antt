@@ -1,6 +1,6 @@
 -- A line as the code holds it: its numbers in the front of an array, zeros after them; where a text is no line, all is zero. Assumes nothing.
 use Rattle.std.specs.Prelude.{Bool, true, false, List, ◌++◌, ℕ, ◌-◌, leb, length, replicate}
-use Rattle.reading.specs.Form.{Parsed, line, noLine, word_in, numbers_in}
+use Rattle.reading.specs.Form.{Parsed, line, no_line, word_in, numbers_in}
 use Rattle.reading.specs.declared.Line.{Line}
 
 unfoldable pub padded : List ℕ → List ℕ
@@ -14,7 +14,7 @@ blank = record { ok = false; word = 0; count = 0; numbers = replicate 256 0 }
 
 abbrev pub held : Parsed → Line
 held (line k ns) = full k ns
-held noLine = blank
+held no_line = blank
 
 -- what a reader gathers, where there is room for the numbers
 abbrev pub gathered : List ℕ → Line

@@ -48,16 +48,16 @@ module _ (file : List ℕ) (t : Told) (l : Loads empty file t) (line after : Lis
   long = omega (arith, p.ends, line-short t.answer)
 
   pub line_next : NextFor file 0 (take len after)
-  line-next told x = rw (one told x, stands) (sym (line_first t.answer file))
+  line_next told x = rw (one told x, stands) (sym (line_first t.answer file))
 
   pub line_all : eqb t.answer 0 ≡ false → AllFor file len
-  line-all e told x = long ∙ sym (ap length (ap (λ (n : ℕ). reloaded n file) (one told x) ∙ without-file t.answer file e))
+  line_all e told x = long ∙ sym (ap length (ap (λ (n : ℕ). reloaded n file) (one told x) ∙ without-file t.answer file e))
 
   pub file_next : t.answer ≡ 0 → (bytes : List ℕ) → bytes ≡ file → NextFor file len bytes
-  file-next e bytes is told x = rw (one told x, with-file t.answer file e, is, drop_at (answer_line t.answer) file len (sym long)) (sym (take-length file))
+  file_next e bytes is told x = rw (one told x, with-file t.answer file e, is, drop_at (answer_line t.answer) file len (sym long)) (sym (take-length file))
 
   pub file_all : t.answer ≡ 0 → (size : ℕ) → size ≡ length file → AllFor file (len + size)
-  file-all e size is told x = omega (arith, long, is, length-append (answer_line t.answer) file, ap length (ap (λ (n : ℕ). reloaded n file) (one told x) ∙ with-file t.answer file e))
+  file_all e size is told x = omega (arith, long, is, length-append (answer_line t.answer) file, ap length (ap (λ (n : ℕ). reloaded n file) (one told x) ∙ with-file t.answer file e))
 
 -- What was loaded is saved as the file again.
 pub record Again (file after : List ℕ) (n : ℕ) : Type 0 where

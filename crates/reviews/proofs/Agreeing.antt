@@ -13,7 +13,7 @@ use Rattle.roleset.proofs.Laws.{has-common, member-small, is_empty_false}
 use Rattle.hierarchy.specs.Lines.{Small, AtOrAbove}
 use Rattle.hierarchy.specs.Walks.{at_or_above}
 use Rattle.hierarchy.proofs.InheritsLaws.{ends-small}
-use Rattle.hierarchy.proofs.AboveLaws.{above-sound, reach-above}
+use Rattle.hierarchy.proofs.AboveLaws.{above_sound, reach_above}
 use Rattle.model.specs.Model.{Model}
 use Rattle.model.specs.Lists.{listed}
 use Rattle.model.specs.Sound.{Sound, Shape}
@@ -51,7 +51,7 @@ lines-small m shape = record { within = λ s j h. (member-small m.roles s shape.
 module _ (m : Model) (sound : Sound m) where
   -- no user but 0 to 255 is authorised for anything
   beyond_users : (r u : ℕ) → 256 ≤ u → authorised_by m r u ≡ false
-  beyond-users r u h = never (authorised_by m r u) (λ e. out (is_empty_false (common (m.assigned u) above) (yes-not (is_empty (common (m.assigned u) above)) e)))
+  beyond_users r u h = never (authorised_by m r u) (λ e. out (is_empty_false (common (m.assigned u) above) (yes-not (is_empty (common (m.assigned u) above)) e)))
     where
       above : ℕ
       above = at_or_above m.juniors r
@@ -65,7 +65,7 @@ module _ (m : Model) (sound : Sound m) where
   -- nor is anybody for a role but 0 to 63
   beyond_roles : (r u : ℕ) → 64 ≤ r → authorised_by m r u ≡ false
   unfolding at_or_above
-  beyond-roles r u h = never (authorised_by m r u) (λ e. out (is_empty_false (common (m.assigned u) above) (yes-not (is_empty (common (m.assigned u) above)) e)))
+  beyond_roles r u h = never (authorised_by m r u) (λ e. out (is_empty_false (common (m.assigned u) above) (yes-not (is_empty (common (m.assigned u) above)) e)))
     where
       above : ℕ
       above = at_or_above m.juniors r
@@ -78,24 +78,24 @@ module _ (m : Model) (sound : Sound m) where
       none_above k l (inr i) = let p : r < 64 = (ends-small small i).1 in omega arith
 
       out : (k : ℕ) × (k < 64) × (has (common (m.assigned u) above) k ≡ true) → ⊥
-      out (k, l, e) = none_above k l (above-sound m.juniors small r k (and_right (has (m.assigned u) k) (has above k) (sym (has-common (m.assigned u) above k l) ∙ e)))
+      out (k, l, e) = none_above k l (above_sound m.juniors small r k (and_right (has (m.assigned u) k) (has above k) (sym (has-common (m.assigned u) above k l) ∙ e)))
 
   -- `auth-users` lists a user for a role exactly if `auth-roles` lists the role for the user
   pub auth_agree : (u r : ℕ) → listed (auth_users m r) u ≡ listed (auth_roles m u) r
-  auth-agree u r = go (dec_lt u 256) (dec_lt r 64)
+  auth_agree u r = go (dec_lt u 256) (dec_lt r 64)
     where
       small : Small m.juniors
       small = lines-small m sound.shape
 
       -- one walk down and one walk up tell the same
       same : r < 64 → has (authorised m u) r ≡ authorised_by m r u
-      same l = reach-above m.juniors small (m.assigned u) r l
+      same l = reach_above m.juniors small (m.assigned u) r l
 
       right : r < 64 → listed (auth_roles m u) r ≡ authorised_by m r u
       right l = auth-roles-listed m u r ∙ within (has (authorised m u) r) r 64 l ∙ same l
 
       go : Dec (u < 256) → Dec (r < 64) → listed (auth_users m r) u ≡ listed (auth_roles m u) r
       go (yes p) (yes l) = auth-users-listed m r u ∙ within (authorised_by m r u) u 256 p ∙ sym (right l)
-      go (no p) (yes l) = auth-users-listed m r u ∙ rw (le-ltb u 256 (omega arith)) (sym (right l ∙ beyond-users r u (omega arith)))
-      go (yes p) (no l) = auth-users-listed m r u ∙ within (authorised_by m r u) u 256 p ∙ beyond-roles r u (omega arith) ∙ sym (auth-roles-listed m u r ∙ rw (le-ltb r 64 (omega arith)))
+      go (no p) (yes l) = auth-users-listed m r u ∙ rw (le-ltb u 256 (omega arith)) (sym (right l ∙ beyond_users r u (omega arith)))
+      go (yes p) (no l) = auth-users-listed m r u ∙ within (authorised_by m r u) u 256 p ∙ beyond_roles r u (omega arith) ∙ sym (auth-roles-listed m u r ∙ rw (le-ltb r 64 (omega arith)))
       go (no p) (no l) = auth-users-listed m r u ∙ rw (le-ltb u 256 (omega arith)) (sym (auth-roles-listed m u r ∙ rw (le-ltb r 64 (omega arith))))

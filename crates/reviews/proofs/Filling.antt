@@ -28,7 +28,7 @@ module _ {f : ℕ → ℕ} {n : ℕ} where
   fill_start h = record { few = omega arith; long = h; each = λ j l. absurd (omega arith) }
 
   pub fill_next : {k v : ℕ} {t : List ℕ} → k < n → v ≡ f k → Filled f n k t → Filled f n (k + 1) (set t k v)
-  fill-next {k} {v} {t} h e s = record { few = omega arith; long = length-set t k v ∙ s.long; each = λ j l. go j (last-or-below j k (omega arith)) }
+  fill_next {k} {v} {t} h e s = record { few = omega arith; long = length-set t k v ∙ s.long; each = λ j l. go j (last-or-below j k (omega arith)) }
     where
       go : (j : ℕ) → (j ≡ k) ⊎ (j < k) → table_of (set t k v) j ≡ f j
       go j (inl p) = rw p (get_or-set_same t k v 0 (omega (arith, s.long)) ∙ e)

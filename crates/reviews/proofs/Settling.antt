@@ -36,12 +36,12 @@ settled-refused rs m list e = rw (e, settle)
 
 module _ (beyond missing : Bool) (list before after : List ℕ) (x : Review) (answered : number_of x.answer ≡ verdict (refusals beyond missing (length before) (length list))) where
   pub lists_done : eqb (number_of x.answer) 0 ≡ true → x.count ≡ length list → after ≡ over list before → Lists beyond missing list before after x
-  lists-done e n b m =
+  lists_done e n b m =
       rw (settled-done (refusals beyond missing (length before) (length list)) m list (ap (λ (v : ℕ). eqb v 0) (sym answered) ∙ e))
       (record { answer = eqb-true (number_of x.answer) 0 e; count = n; buffer = b })
 
   pub lists_refused : eqb (number_of x.answer) 0 ≡ false → x.count ≡ 0 → after ≡ before → Lists beyond missing list before after x
-  lists-refused e n b m =
+  lists_refused e n b m =
       rw (settled-refused (refusals beyond missing (length before) (length list)) m list (ap (λ (v : ℕ). eqb v 0) (sym answered) ∙ e))
       (record { answer = answered; count = n; buffer = b })
 

@@ -28,8 +28,8 @@ walked juniors e f = ap (reach juniors) (sym e) ∙ sym f.is
 module _ (m : Model) {b b' mi mi' : Bool} {v w : ℕ} {before after : List ℕ} {x : Review} (e : b ≡ b') (f : mi ≡ mi') (g : v ≡ w) where
   -- a list by the roles that are reached
   pub told_walk : (list : ℕ → List ℕ) → Lists b' mi' (list w) before after x → Reviewed (review m (length before) b mi (list v)) before after x
-  told-walk list = told-review m e f (λ h. ap list g)
+  told_walk list = told-review m e f (λ h. ap list g)
 
   -- the permissions that these hold
   pub told_perms : {table : List ℕ} → Table 4096 m.holders table → Lists b' mi' (meeting w table) before after x → Reviewed (review m (length before) b mi (members 4096 (holds m v))) before after x
-  told-perms {table} t = told-review m e f (λ h. meeting-members w table 4096 _ t.long (λ k l. ap₂ (λ (w : ℕ) (h : ℕ → ℕ). meets w (h k)) g (sym t.each)))
+  told_perms {table} t = told-review m e f (λ h. meeting-members w table 4096 _ t.long (λ k l. ap₂ (λ (w : ℕ) (h : ℕ → ℕ). meets w (h k)) g (sym t.each)))

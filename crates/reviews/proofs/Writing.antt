@@ -59,19 +59,19 @@ module _ (f : ℕ → Bool) (before : List ℕ) where
 
   -- a place that fails the test
   pub written_stay : (k n : ℕ) (out : List ℕ) → f k ≡ false → Written f before k n out → Written f before (k + 1) n out
-  written-stay k n out e w = record { count = w.count ∙ sym (ap length (members-left k f e)); front = w.front ∙ sym (ap (λ (l : List ℕ). over l before) (members-left k f e)) }
+  written_stay k n out e w = record { count = w.count ∙ sym (ap length (members-left k f e)); front = w.front ∙ sym (ap (λ (l : List ℕ). over l before) (members-left k f e)) }
 
   pub written_few : (k n : ℕ) (out : List ℕ) → Written f before k n out → n ≤ k
-  written-few k n out w = omega (arith, w.count, members-most k f)
+  written_few k n out w = omega (arith, w.count, members-most k f)
 
   -- where the buffer has room for all members below a bound
   module _ (size : ℕ) (room : length (members size f) ≤ length before) where
     pub written_length : (k n : ℕ) (out : List ℕ) → k ≤ size → Written f before k n out → length out ≡ length before
-    written-length k n out h w = ap length w.front ∙ over-length (members k f) before (omega (arith, members-fewer size k f h))
+    written_length k n out h w = ap length w.front ∙ over-length (members k f) before (omega (arith, members-fewer size k f h))
 
     -- a place that passes the test has a place in the buffer
     pub written_fits : (k n : ℕ) (out : List ℕ) → k < size → f k ≡ true → Written f before k n out → n < length out
-    written-fits k n out h e w = omega (arith, w.count, member-fits size k f h e, written-length k n out (omega arith) w)
+    written_fits k n out h e w = omega (arith, w.count, member-fits size k f h e, written_length k n out (omega arith) w)
 
     -- and is written there
     pub written_next : (k n : ℕ) (out : List ℕ) → k < size → f k ≡ true → Written f before k n out → Written f before (k + 1) (n + 1) (set out n k)

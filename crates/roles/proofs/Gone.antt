@@ -13,7 +13,7 @@ use Rattle.state.specs.Stores.{with_active, Table}
 use Rattle.state.specs.View.{part, view}
 use Rattle.sweeps.specs.Sweeps.{ShedsAll, Strips}
 use Rattle.sweeps.proofs.Changing.{as-part, table-put, table-stripped, table-had}
-use Rattle.sweeps.proofs.Shedding.{sheds-same, shed-stored, view-past}
+use Rattle.sweeps.proofs.Shedding.{sheds-same, shed_stored, view-past}
 use Rattle.roles.specs.Leaving.{leaving}
 
 -- no more sets had the role than there are
@@ -36,8 +36,8 @@ module _ (l juniors assigned lines_left holds-left : List ℕ) (r above held : �
 
   pub role_gone : (between after : Model) (below : ℕ) → below ≡ count (get_or lines_left r 0) → between ≡ leaving (view l) r (part (set lines_left r 0) 0 64) (above + below) (part holds-left 0 256) held → after ≡ with_sessions between (with_active between.sessions (part kept 0 64)) → after ≡ shed (without_role (view l) r)
   unfolding without_role
-  role-gone between after below counted stored e =
-      shed-stored (without_role (view l) r) kept swept (view-past l) between after
+  role_gone between after below counted stored e =
+      shed_stored (without_role (view l) r) kept swept (view-past l) between after
       (stored ∙ ap₂ (λ (f : ℕ → ℕ) (n : ℕ). leaving (view l) r f n (part holds-left 0 256) held) (as-part (set lines_left r 0) lines_after) gone ∙ ap₂ (λ (f : ℕ → ℕ) (n : ℕ). leaving (view l) r (put (λ s. without ((view l).juniors s) r) r 0) (lines_with (view l) r) f n) (as-part holds-left holds_after) (table-had assigned holds-left r held holds no-user))
       e
     where

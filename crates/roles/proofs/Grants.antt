@@ -54,7 +54,7 @@ module _ (m : Model) (p r old : ℕ) (is : old ≡ m.holders p) where
 
   -- it does not: nothing is stored
   pub not_held : old < 2 ^ 64 → has old r ≡ false → m ≡ in_range 4096 p m (ungranted m p r)
-  not-held small absent =
+  not_held small absent =
       let none : has (m.holders p) r ≡ false = ap (λ (x : ℕ). has x r) (sym is) ∙ absent in
       let stays : without (m.holders p) r ≡ m.holders p = ap (λ (x : ℕ). without x r) (sym is) ∙ without-absent old r small absent ∙ is in
       sym (ap (in_range 4096 p m) (ap₂ (with_grants m) (ap (put m.holders p) stays ∙ put_back m.holders p) (ap (λ (b : Bool). m.grant_count - bit b) none ∙ omega arith)) ∙ unmoved 4096 p m)
@@ -74,30 +74,30 @@ module _ (n r : ℕ) (f : ℕ → ℕ) (k : ℕ) where
 
   same_past : n ≤ k → ungranted_to n r f k ≡ f k
   unfolding ungranted_to
-  same-past h = rw (ungranted_to, le-ltb k n h)
+  same_past h = rw (ungranted_to, le-ltb k n h)
 
 pub grants-start : (r : ℕ) (m : Model) → m ≡ so_far 0 r m
 unfolding tally
-grants-start r m = ap₂ (with_grants m) (fun_ext (λ k. sym (same-past 0 r m.holders k (omega arith)))) (omega arith)
+grants-start r m = ap₂ (with_grants m) (fun_ext (λ k. sym (same_past 0 r m.holders k (omega arith)))) (omega arith)
 
 module _ (n r : ℕ) (f : ℕ → ℕ) (k : ℕ) where
   step_at : put (ungranted_to n r f) n (without (ungranted_to n r f n) r) k ≡ ungranted_to (n + 1) r f k
   step_at = go (eqb k n) refl (ltb k n) refl
     where
       go : (b : Bool) → eqb k n ≡ b → (t : Bool) → ltb k n ≡ t → put (ungranted_to n r f) n (without (ungranted_to n r f n) r) k ≡ ungranted_to (n + 1) r f k
-      go true e t l = rw (eqb-true k n e) (put_same (ungranted_to n r f) n _ ∙ ap (λ (x : ℕ). without x r) (same-past n r f n (omega arith)) ∙ sym (done_below (n + 1) r f n (omega arith)))
+      go true e t l = rw (eqb-true k n e) (put_same (ungranted_to n r f) n _ ∙ ap (λ (x : ℕ). without x r) (same_past n r f n (omega arith)) ∙ sym (done_below (n + 1) r f n (omega arith)))
       go false e true l = put_other (ungranted_to n r f) n _ k (eqb-false k n e) ∙ done_below n r f k (ltb-true k n l) ∙ sym (done_below (n + 1) r f k (omega (arith, ltb-true k n l)))
       go false e false l =
           let other = eqb-false k n e in
           let past = ltb-false k n l in
-          put_other (ungranted_to n r f) n _ k other ∙ same-past n r f k past ∙ sym (same-past (n + 1) r f k (omega arith))
+          put_other (ungranted_to n r f) n _ k other ∙ same_past n r f k past ∙ sym (same_past (n + 1) r f k (omega arith))
 
 -- one permission more
 pub grants-more : (n r : ℕ) (m now after : Model) → n < 4096 → now ≡ so_far n r m → after ≡ in_range 4096 n now (ungranted now n r) → after ≡ so_far (n + 1) r m
 grants-more n r m now after h is e =
     e ∙ in-range 4096 n now _ h ∙ ap (λ (x : Model). ungranted x n r) is ∙
     ap₂ (with_grants m) (fun_ext (step-at n r m.holders))
-    (ap (λ (x : ℕ). m.grant_count - holding n m.holders r - bit (has x r)) (same-past n r m.holders n (omega arith)) ∙ omega (arith, tally-step n (λ k. has (m.holders k) r)))
+    (ap (λ (x : ℕ). m.grant_count - holding n m.holders r - bit (has x r)) (same_past n r m.holders n (omega arith)) ∙ omega (arith, tally-step n (λ k. has (m.holders k) r)))
 
 -- past the last permission there are no grants
 pub grants-end : (r : ℕ) (l : List ℕ) → so_far 4096 r (view l) ≡ all_ungranted (view l) r
@@ -108,4 +108,4 @@ grants-end r l = ap (λ (f : ℕ → ℕ). with_grants (view l) f ((view l).gran
     go k true e = done_below 4096 r (view l).holders k (ltb-true k 4096 e)
     go k false e =
         let past = part_none l 0 4096 k (ltb-false k 4096 e) in
-        same-past 4096 r (view l).holders k (ltb-false k 4096 e) ∙ past ∙ sym (without-none r) ∙ ap (λ (x : ℕ). without x r) (sym past)
+        same_past 4096 r (view l).holders k (ltb-false k 4096 e) ∙ past ∙ sym (without-none r) ∙ ap (λ (x : ℕ). without x r) (sym past)

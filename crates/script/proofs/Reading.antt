@@ -12,7 +12,7 @@ use Rattle.decimal.specs.Decimal.{numbered}
 use Rattle.decimal.proofs.Laws.{numbered-long}
 use Rattle.words.specs.ScriptWords.{word_count, word_of, spelling}
 use Rattle.words.proofs.Tables.{takes-enough}
-use Rattle.reading.specs.Form.{Parsed, line, noLine, parse, Written, render}
+use Rattle.reading.specs.Form.{Parsed, line, no_line, parse, Written, render}
 use Rattle.reading.specs.Holding.{padded, full, blank, held}
 use Rattle.reading.specs.declared.Line.{Line}
 use Rattle.meaning.specs.Meaning.{meant}
@@ -26,7 +26,7 @@ module _ (ns : List ℕ) (h : length ns ≤ 256) where
   -- a number that is not there is 0
   pub padded_at : (i : ℕ) → get_or (padded ns) i 0 ≡ get_or ns i 0
   unfolding padded
-  padded-at i = go (dec_lt i (length ns))
+  padded_at i = go (dec_lt i (length ns))
     where
       zeros : (n j : ℕ) → get_or (replicate {A = ℕ} n 0) j 0 ≡ 0
       zeros n j = zeroes (dec_lt j n)
@@ -46,7 +46,7 @@ module _ (ns : List ℕ) (h : length ns ≤ 256) where
   -- the list of roles
   pub padded_list : (from : ℕ) → from ≤ length ns → take (length ns - from) (drop from (padded ns)) ≡ drop from ns
   unfolding padded
-  padded-list from p = rw (drop-append-le from ns (replicate (256 - length ns) 0) p) (take_at (drop from ns) (replicate (256 - length ns) 0) (length ns - from) (length-drop from ns))
+  padded_list from p = rw (drop-append-le from ns (replicate (256 - length ns) 0) p) (take_at (drop from ns) (replicate (256 - length ns) 0) (length ns - from) (length-drop from ns))
 
 pub padded-long : (ns : List ℕ) → length ns ≤ 256 → length (padded ns) ≡ 256
 unfolding padded
@@ -56,7 +56,7 @@ padded-long ns h = omega (arith, length-append ns (replicate (256 - length ns) 0
 
 abbrev pub numbers_of : Parsed → List ℕ
 numbers_of (line k ns) = ns
-numbers_of noLine = []
+numbers_of no_line = []
 
 pub record Reads (text : List ℕ) (l : Line) : Type 0 where
   pub is : parse text ≡ line l.word (numbers_of (parse text))
@@ -75,15 +75,15 @@ read_right text l e ok = go (parse text) refl
           count = ap (λ (x : Line). x.count) f ∙ ap (λ (p : Parsed). length (numbers_of p)) (sym h);
           numbers = ap (λ (x : Line). x.numbers) f ∙ ap (λ (p : Parsed). padded (numbers_of p)) (sym h);
         }
-    go noLine h = let z : ◌≡◌ {A = Bool} true false = sym ok ∙ ap (λ (x : Line). x.ok) (e ∙ ap held h) in let y : ◌≡◌ {A = ℕ} 0 1 = cc in absurd (omega arith)
+    go no_line h = let z : ◌≡◌ {A = Bool} true false = sym ok ∙ ap (λ (x : Line). x.ok) (e ∙ ap held h) in let y : ◌≡◌ {A = ℕ} 0 1 = cc in absurd (omega arith)
 
-pub read-wrong : (text : List ℕ) (l : Line) → l ≡ held (parse text) → l.ok ≡ false → parse text ≡ noLine
+pub read-wrong : (text : List ℕ) (l : Line) → l ≡ held (parse text) → l.ok ≡ false → parse text ≡ no_line
 unfolding full blank
 read-wrong text l e ok = go (parse text) refl
   where
-    go : (p : Parsed) → parse text ≡ p → parse text ≡ noLine
+    go : (p : Parsed) → parse text ≡ p → parse text ≡ no_line
     go (line k ns) h = let z : ◌≡◌ {A = Bool} false true = sym ok ∙ ap (λ (x : Line). x.ok) (e ∙ ap held h) in let y : ◌≡◌ {A = ℕ} 0 1 = cc in absurd (omega arith)
-    go noLine h = h
+    go no_line h = h
 
 module _ (text : List ℕ) (l : Line) (r : Reads text l) where
   abbrev ns : List ℕ
@@ -106,11 +106,11 @@ module _ (text : List ℕ) (l : Line) (r : Reads text l) where
   long = ap length r.numbers ∙ padded-long ns few
 
   at : (i : ℕ) → get_or l.numbers i 0 ≡ get_or ns i 0
-  at i = ap (λ (x : List ℕ). get_or x i 0) r.numbers ∙ padded-at ns few i
+  at i = ap (λ (x : List ℕ). get_or x i 0) r.numbers ∙ padded_at ns few i
 
   list : (from : ℕ) → from ≡ (word_of l.word).numbers → take (l.count - from) (drop from l.numbers) ≡ drop (word_of l.word).numbers ns
   list from e =
-      ap₂ (λ (n : ℕ) (x : List ℕ). take (n - from) (drop from x)) r.count r.numbers ∙ padded-list ns few from (omega (arith, enough, e, r.count))
+      ap₂ (λ (n : ℕ) (x : List ℕ). take (n - from) (drop from x)) r.count r.numbers ∙ padded_list ns few from (omega (arith, enough, e, r.count))
       ∙ ap (λ (n : ℕ). drop n ns) e
 
   -- the room is enough for the list

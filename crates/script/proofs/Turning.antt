@@ -19,7 +19,7 @@ use Rattle.textlines.specs.Parts.{parts_of, part_at, place_past}
 use Rattle.textlines.specs.Tallies.{counted, one_more}
 use Rattle.textlines.specs.declared.Tally.{Tally}
 use Rattle.textlines.proofs.Laws.{parts_at, parts_none, past_more}
-use Rattle.reading.specs.Form.{Parsed, line, noLine, parse}
+use Rattle.reading.specs.Form.{Parsed, line, no_line, parse}
 use Rattle.meaning.specs.declared.Meant.{Meant}
 use Rattle.meaning.specs.declared.Meant.TheVariants.{Do, Ask, Nothing}
 use Rattle.meaning.specs.Meaning.{meant}
@@ -38,7 +38,7 @@ few-done m Nothing list = omega arith
 
 few-obeyed : (m : Model) (p : Parsed) → length (obeyed m p).results ≤ 4096
 few-obeyed m (line k ns) = few-done m (meant k (get_or ns 0 0) (get_or ns 1 0) (get_or ns 2 0)) (drop (word_of k).numbers ns)
-few-obeyed m noLine = omega arith
+few-obeyed m no_line = omega arith
 
 -- "Its buffers hold the longest result": a line's answer has 4,096 results at most, and 24,582 bytes
 pub obey-few : (m : Model) (text : List ℕ) → length (obey m text).results ≤ 4096

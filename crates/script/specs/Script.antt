@@ -8,7 +8,7 @@ use Rattle.decimal.specs.Decimal.{decimal, numbered}
 use Rattle.words.specs.Bytes.{bytes}
 use Rattle.words.specs.ScriptWords.{word_of}
 use Rattle.textlines.specs.Parts.{parts_of}
-use Rattle.reading.specs.Form.{Parsed, line, noLine, parse}
+use Rattle.reading.specs.Form.{Parsed, line, no_line, parse}
 use Rattle.meaning.specs.Meaning.{meant}
 use Rattle.meaning.specs.declared.Meant.{Meant}
 use Rattle.meaning.specs.declared.Meant.TheVariants.{Do, Ask, Nothing}
@@ -26,7 +26,7 @@ doing m Nothing list = refused 14 m
 -- the line with this word and these numbers: the word's own numbers, and then the list of roles where it takes one
 abbrev pub obeyed : Model → Parsed → Told
 obeyed m (line k ns) = doing m (meant k (get_or ns 0 0) (get_or ns 1 0) (get_or ns 2 0)) (drop (word_of k).numbers ns)
-obeyed m noLine = refused 14 m
+obeyed m no_line = refused 14 m
 
 -- what any line tells: a text that is the rendering of no word and numbers answers 14 and changes nothing
 unfoldable pub obey : Model → List ℕ → Told

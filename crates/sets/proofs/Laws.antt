@@ -26,7 +26,7 @@ members-placed kind name m after roles rest h there e =
 module _ (refusals : List Refusal) (m after : Model) (a : Answer) (answers : verdict refusals ≡ number_of a) (done? : Bool) (is : done? ≡ eqb (number_of a) 0) where
   pub last_refused : not done? ≡ true → refused (number_of a) m ≡ settle refusals m [] after
   unfolding settle
-  last-refused h = rw (settle, answers, ← is, not-true done? h) (ap (λ (n : ℕ). refused n m) (sym answers))
+  last_refused h = rw (settle, answers, ← is, not-true done? h) (ap (λ (n : ℕ). refused n m) (sym answers))
 
   pub last_done : not done? ≡ false → (x : Model) → x ≡ after → done [] x ≡ settle refusals m [] after
   unfolding settle

@@ -75,12 +75,12 @@ set-asks-all kind m s name new l =
     here i = ap (λ (set : RoleSet). breaks set (held kind m i)) (put_same (sets_of kind m) name new)
 
     all_else : (i : ℕ) → breaks new (held kind m i) ≡ false → (n : ℕ) → n < 16 → Dec (n ≡ name) → breaks (sets n) (held kind m i) ≡ false
-    all-else i e n ln (yes p) = ap (λ (k : ℕ). breaks (sets k) (held kind m i)) p ∙ here i ∙ e
-    all-else i e n ln (no p) = ap (λ (set : RoleSet). breaks set (held kind m i)) (put_other (sets_of kind m) name new n p) ∙ each-unbroken (sets_of kind m) (held kind m i) (rule-of kind m s i) n ln
+    all_else i e n ln (yes p) = ap (λ (k : ℕ). breaks (sets k) (held kind m i)) p ∙ here i ∙ e
+    all_else i e n ln (no p) = ap (λ (set : RoleSet). breaks set (held kind m i)) (put_other (sets_of kind m) name new n p) ∙ each-unbroken (sets_of kind m) (held kind m i) (rule-of kind m s i) n ln
 
     same : (i : ℕ) → breaks new (held kind m i) ≡ breaks_some sets (held kind m i)
     same i = go (breaks new (held kind m i)) refl
       where
         go : (b : Bool) → breaks new (held kind m i) ≡ b → breaks new (held kind m i) ≡ breaks_some sets (held kind m i)
         go true e = e ∙ sym (some-breaks sets (held kind m i) name l (here i ∙ e))
-        go false e = e ∙ sym (none-breaks sets (held kind m i) (λ n ln. all-else i e n ln (ℕ_discrete n name)))
+        go false e = e ∙ sym (none-breaks sets (held kind m i) (λ n ln. all_else i e n ln (ℕ_discrete n name)))

@@ -16,8 +16,8 @@ use Rattle.model.proofs.Puts.{put_same}
 use Rattle.sound.proofs.Put.{put_all}
 use Rattle.sound.proofs.Members.{or_no, fewer-at}
 use Rattle.sound.proofs.Counting.{one_more, one_less}
-use Rattle.sound.proofs.Carried.{existing-without, existing-at, old-at}
-use Rattle.sound.proofs.Changing.{assigned-changed, holders-changed}
+use Rattle.sound.proofs.Carried.{existing-without, existing_at, old_at}
+use Rattle.sound.proofs.Changing.{assigned_changed, holders_changed}
 
 -- `assign u r` keeps a sound model sound.
 pub assign-sound : (m : Model) (u r : ℕ) → Sound m → Sound (assign m u r).after
@@ -30,10 +30,10 @@ assign-sound m u r s =
     let new : ℕ → ℕ = put m.assigned u (with (m.assigned u) r) in
     let more : m.assignment_count + 1 ≡ standing 256 new = omega (arith, s.counted.assigned, one_more 256 m.assigned u r (leb-false 256 u range.0) (leb-false 64 r range.1) c.1.1.0) in
     let room : m.assignment_count < 2048 = leb-false 2048 m.assignment_count c.1.1.1.1.0 in
-    assigned-changed m s new (m.assignment_count + 1)
-    (old-at m m.assigned u r s.shape.assigned)
+    assigned_changed m s new (m.assignment_count + 1)
+    (old_at m m.assigned u r s.shape.assigned)
     (put_all (λ k set. (j : ℕ) → has set j ≡ true → m.users k ≡ true) m.assigned u (with (m.assigned u) r) (λ j e. user) (λ k d j e. s.shape.assignees k j e))
-    (existing-at m m.assigned u r s.shape.assigned (not-false (has m.roles r) there.1))
+    (existing_at m m.assigned u r s.shape.assigned (not-false (has m.roles r) there.1))
     more
     (omega arith)
     (put_all (λ k set. breaks_some m.ssd (reach m.juniors set) ≡ false) m.assigned u (with (m.assigned u) r) (subst (λ (set : ℕ). breaks_some m.ssd (reach m.juniors set) ≡ false) (put_same m.assigned u (with (m.assigned u) r)) c.1.1.1.0) (λ k d. s.rules.static k)))
@@ -50,9 +50,9 @@ grant-sound m op obj r s =
     let new : ℕ → ℕ = put m.holders p (with (m.holders p) r) in
     let more : m.grant_count + 1 ≡ standing 4096 new = omega (arith, s.counted.granted, one_more 4096 m.holders p r small (leb-false 64 r range.1) c.1.1.0) in
     let room : m.grant_count < 2048 = leb-false 2048 m.grant_count c.1.1.1.0 in
-    holders-changed m s new (m.grant_count + 1)
+    holders_changed m s new (m.grant_count + 1)
     (put_all (λ k set. (j : ℕ) → has set j ≡ true → k < 4096) m.holders p (with (m.holders p) r) (λ j e. small) (λ k d j e. s.shape.permissions k j e))
-    (existing-at m m.holders p r s.shape.holders (not-false (has m.roles r) c.1.0))
+    (existing_at m m.holders p r s.shape.holders (not-false (has m.roles r) c.1.0))
     more
     (omega arith))
 
@@ -68,7 +68,7 @@ revoke-sound m op obj r s =
     let new : ℕ → ℕ = put m.holders p (without (m.holders p) r) in
     let less : m.grant_count - 1 ≡ standing 4096 new = omega (arith, s.counted.granted, one_less 4096 m.holders p r small (leb-false 64 r range.1) (not-false (has (m.holders p) r) c.1.1.0)) in
     let before : standing 4096 m.holders ≤ 2048 = s.limits.granted in
-    holders-changed m s new (m.grant_count - 1)
+    holders_changed m s new (m.grant_count - 1)
     (λ k j e. s.shape.permissions k j (fewer-at m.holders p r k j e))
     (put_all (λ k set. Existing m set) m.holders p (without (m.holders p) r) (existing-without m (m.holders p) r (s.shape.holders p)) (λ k d. s.shape.holders k))
     less

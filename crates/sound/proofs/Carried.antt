@@ -11,7 +11,7 @@ use Rattle.roleset.proofs.Laws.{has-none, member-small, with-small, without-smal
 use Rattle.hierarchy.specs.Lines.{line, Inherits, Small, AtOrAbove}
 use Rattle.hierarchy.specs.Lines.Inherits.{one, more}
 use Rattle.hierarchy.specs.Walks.{reach}
-use Rattle.hierarchy.proofs.WalkLaws.{reach-sound, reach-small}
+use Rattle.hierarchy.proofs.WalkLaws.{reach_sound, reach_small}
 use Rattle.model.specs.Model.{Model, RoleSet, Session, absent_set, closed_session, put}
 use Rattle.model.specs.Words.{reached}
 use Rattle.model.specs.Sound.{Existing, SetShape, SessionShape, Shape}
@@ -57,15 +57,15 @@ member-there m n set r x h = go set.there refl
 module _ (m m' : Model) (roles : (r : ℕ) → has m.roles r ≡ true → has m'.roles r ≡ true) where
   -- A set of existing roles is one where these roles still exist,
   pub existing_in : {set : ℕ} → Existing m set → Existing m' set
-  existing-in x = record { small = x.small; exist = λ r e. roles r (x.exist r e) }
+  existing_in x = record { small = x.small; exist = λ r e. roles r (x.exist r e) }
 
   -- a separation set keeps its shape,
   pub set_in : {n : ℕ} {set : RoleSet} → SetShape m n set → SetShape m' n set
-  set-in x = record { absent = x.absent; named = x.named; at_least = x.at_least; at_most = x.at_most; members = existing-in x.members }
+  set_in x = record { absent = x.absent; named = x.named; at_least = x.at_least; at_most = x.at_most; members = existing_in x.members }
 
   -- and so does a session where users still exist.
   pub session_in : ((u : ℕ) → m.users u ≡ true → m'.users u ≡ true) → {k : ℕ} {session : Session} → SessionShape m k session → SessionShape m' k session
-  session-in users {session = session} x = record { closed = x.closed; numbered = x.numbered; owned = λ e. users session.owner (x.owned e); active = existing-in x.active }
+  session_in users {session = session} x = record { closed = x.closed; numbered = x.numbered; owned = λ e. users session.owner (x.owned e); active = existing_in x.active }
 
 -- What a role is or inherits exists, where the role and every junior of a line do.
 pub below-exists : (lines : ℕ → ℕ) (roles : ℕ) → ((a b : ℕ) → line lines a b ≡ true → has roles b ≡ true) → {a b : ℕ} → AtOrAbove lines a b → has roles a ≡ true → has roles b ≡ true
@@ -81,46 +81,46 @@ below-exists lines roles juniors (inr p) h = inherited p
 module _ (m : Model) (x : Shape m) where
   -- A role that exists is 0 to 63.
   pub role_small : (r : ℕ) → has m.roles r ≡ true → r < 64
-  role-small r e = member-small m.roles r x.roles e
+  role_small r e = member-small m.roles r x.roles e
 
   -- Every line joins two roles 0 to 63.
   pub lines_small : Small m.juniors
-  lines_small = record { within = λ s j e. (role-small s (x.seniors s j e), role-small j ((x.juniors s).exist j e)) }
+  lines_small = record { within = λ s j e. (role_small s (x.seniors s j e), role_small j ((x.juniors s).exist j e)) }
 
   -- The roles reached from existing roles exist.
   pub reached_exist : (from : ℕ) → Existing m from → Existing m (reached m from)
-  reached-exist from e =
+  reached_exist from e =
       record {
-        small = reach-small m.juniors from;
-        exist = λ r h. let u = reach-sound m.juniors from r h in below-exists m.juniors m.roles (λ a b. (x.juniors a).exist b) u.down (e.exist u.role u.member);
+        small = reach_small m.juniors from;
+        exist = λ r h. let u = reach_sound m.juniors from r h in below-exists m.juniors m.roles (λ a b. (x.juniors a).exist b) u.down (e.exist u.role u.member);
       }
 
   -- A user that does not exist is assigned to no role,
   pub nobody_assigned : (u : ℕ) → m.users u ≡ false → (r : ℕ) → has (m.assigned u) r ≡ false
-  nobody-assigned u e r = never (has (m.assigned u) r) (λ h. clash (m.users u) (x.assignees u r h) e)
+  nobody_assigned u e r = never (has (m.assigned u) r) (λ h. clash (m.users u) (x.assignees u r h) e)
 
   -- and a number of 256 or more is no user's.
   pub no_user_beyond : (u : ℕ) → 256 ≤ u → m.users u ≡ false
-  no-user-beyond u l = never (m.users u) (λ e. let h = x.users u e in let z : ⊥ = omega arith in z)
+  no_user_beyond u l = never (m.users u) (λ e. let h = x.users u e in let z : ⊥ = omega arith in z)
 
   -- A session number of 64 or more has no active roles.
   pub no_session_beyond : (s : ℕ) → 64 ≤ s → m.sessions s ≡ closed_session
-  no-session-beyond s l = (x.sessions s).closed (never (m.sessions s).live (λ e. let h = (x.sessions s).numbered e in let z : ⊥ = omega arith in z))
+  no_session_beyond s l = (x.sessions s).closed (never (m.sessions s).live (λ e. let h = (x.sessions s).numbered e in let z : ⊥ = omega arith in z))
 
   -- A session that is not live has none either.
   pub closed_idle : (s : ℕ) → (m.sessions s).live ≡ false → (r : ℕ) → has (m.sessions s).active r ≡ false
-  closed-idle s e r = ap (λ (y : Session). has y.active r) ((x.sessions s).closed e) ∙ has-none r
+  closed_idle s e r = ap (λ (y : Session). has y.active r) ((x.sessions s).closed e) ∙ has-none r
 
 -- From no role none is reached.
 pub nothing-reached : (lines : ℕ → ℕ) (from : ℕ) → ((r : ℕ) → has from r ≡ false) → (r : ℕ) → has (reach lines from) r ≡ false
-nothing-reached lines from h r = never (has (reach lines from) r) (λ e. let u = reach-sound lines from r e in clash (has from u.role) u.member (h u.role))
+nothing-reached lines from h r = never (has (reach lines from) r) (λ e. let u = reach_sound lines from r e in clash (has from u.role) u.member (h u.role))
 
 -- ---- a table of sets of existing roles, with a role more at one place
 
 module _ (m : Model) (table : ℕ → ℕ) (i r : ℕ) (existing : (k : ℕ) → Existing m (table k)) where
   -- The sets are sets of existing roles if the role exists,
   pub existing_at : has m.roles r ≡ true → (k : ℕ) → Existing m (put table i (with (table i) r) k)
-  existing-at h = put_all (λ k set. Existing m set) table i (with (table i) r) (existing-with m (table i) r (existing i) h) (λ k d. existing k)
+  existing_at h = put_all (λ k set. Existing m set) table i (with (table i) r) (existing-with m (table i) r (existing i) h) (λ k d. existing k)
 
   -- nothing is lost,
   pub old_at : (k j : ℕ) → has (table k) j ≡ true → has (put table i (with (table i) r) k) j ≡ true

@@ -5,13 +5,13 @@ use Prim.Native.Nat.{ℕ, ◌≤◌, ◌<◌, ◌^◌}
 use Rattle.roleset.specs.Roles.{has}
 use Rattle.roleset.proofs.Laws.{has-none}
 use Rattle.hierarchy.specs.Lines.{line}
-use Rattle.hierarchy.proofs.WalkLaws.{reach-grows, reach-small}
+use Rattle.hierarchy.proofs.WalkLaws.{reach-grows, reach_small}
 use Rattle.model.specs.Model.{Model, Session, closed_session, with_lines, with_sessions}
 use Rattle.model.specs.Words.{breaks_some, counted}
 use Rattle.model.specs.Sound.{Shape}
 use Rattle.sound.proofs.Members.{Within}
 use Rattle.sound.proofs.Breaking.{none-held, some-breaks-fewer}
-use Rattle.sound.proofs.Carried.{no-session-beyond, nothing-reached}
+use Rattle.sound.proofs.Carried.{no_session_beyond, nothing-reached}
 
 -- ---- its own laws
 
@@ -25,7 +25,7 @@ counts-fewer m m' k lines actives = λ r l. reach-grows m'.juniors m.juniors (m'
 
 -- What is counted is a set of roles.
 pub counted-small : (m : Model) (k : ℕ) → counted m k < 2 ^ 64
-counted-small m k = reach-small m.juniors (m.sessions k).active
+counted-small m k = reach_small m.juniors (m.sessions k).active
 
 -- ---- the dynamic rule, by these
 
@@ -39,7 +39,7 @@ closed-breaks-none m x = none-held m.dsd (counted_of m closed_session) (λ n. (x
 
 -- and neither does a number past 63, whatever the lines.
 pub none-counted-beyond : (m : Model) → Shape m → (lines : ℕ → ℕ) (n k : ℕ) → 64 ≤ k → (r : ℕ) → has (counted (with_lines m lines n) k) r ≡ false
-none-counted-beyond m x lines n k l = counts-none (with_lines m lines n) k (λ r. ap (λ (y : Session). has y.active r) (no-session-beyond m x k l) ∙ has-none r)
+none-counted-beyond m x lines n k l = counts-none (with_lines m lines n) k (λ r. ap (λ (y : Session). has y.active r) (no_session_beyond m x k l) ∙ has-none r)
 
 pub dynamic-beyond : (m : Model) → Shape m → (lines : ℕ → ℕ) (n k : ℕ) → 64 ≤ k → breaks_some m.dsd (counted (with_lines m lines n) k) ≡ false
 dynamic-beyond m x lines n k l = none-held m.dsd (counted (with_lines m lines n) k) (λ i. (x.dsd i).at_least) (none-counted-beyond m x lines n k l)

@@ -22,7 +22,7 @@ use Rattle.model.proofs.Puts.{session-dynamic}
 use Rattle.sound.proofs.Put.{put_all}
 use Rattle.sound.proofs.Members.{or_no, with-member, without-member}
 use Rattle.sound.proofs.Carried.{existing-with, existing-without, session-none}
-use Rattle.sound.proofs.Changing.{sessions-changed}
+use Rattle.sound.proofs.Changing.{sessions_changed}
 use Rattle.sound.proofs.Counted.{counted_of, closed-breaks-none, dynamic-fewer}
 use Rattle.sound.proofs.Sets.{listed-existing}
 
@@ -92,7 +92,7 @@ lowest-free m h = go (free-or-full m.sessions 64 0)
 pub session-put-sound : (m : Model) (k : ℕ) (new : Session) → Sound m → SessionShape m k new → ((r : ℕ) → has new.active r ≡ true → has (authorised m new.owner) r ≡ true) → breaks_some m.dsd (counted_of m new) ≡ false → Sound (session_set m k new)
 unfolding dynamic_broken
 session-put-sound m k new s shaped active unbroken =
-    sessions-changed m s (put m.sessions k new)
+    sessions_changed m s (put m.sessions k new)
     (put_all (λ i y. SessionShape m i y) m.sessions k new shaped (λ i d. s.shape.sessions i))
     (put_all (λ i y. (r : ℕ) → has y.active r ≡ true → has (authorised m y.owner) r ≡ true) m.sessions k new active (λ i d. s.rules.active i))
     (put_all (λ i y. breaks_some m.dsd (counted_of m y) ≡ false) m.sessions k new unbroken (λ i d. s.rules.dynamic i))

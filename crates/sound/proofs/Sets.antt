@@ -22,8 +22,8 @@ use Rattle.sound.proofs.Sheet.{kept}
 use Rattle.sound.proofs.Put.{put_all}
 use Rattle.sound.proofs.Members.{or_no, with-old, without-old}
 use Rattle.sound.proofs.Breaking.{breaks-fewer, nothing-breaks, none-breaks, each-unbroken}
-use Rattle.sound.proofs.Carried.{existing-with, existing-without, set-none, nobody-assigned, no-user-beyond, nothing-reached}
-use Rattle.sound.proofs.Changing.{held, sets-changed}
+use Rattle.sound.proofs.Carried.{existing-with, existing-without, set-none, nobody_assigned, no_user_beyond, nothing-reached}
+use Rattle.sound.proofs.Changing.{held, sets_changed}
 use Rattle.sound.proofs.Counted.{none-counted-beyond}
 
 -- ---- what the two kinds share
@@ -36,7 +36,7 @@ broken-some Dynamic m set = refl
 
 -- Nobody is authorised for a role, and none of a session's counts, beyond those numbers.
 pub none-beyond : (kind : Kind) (m : Model) → Shape m → (i : ℕ) → asked_of kind ≤ i → (r : ℕ) → has (held kind m i) r ≡ false
-none-beyond Static m x u l = nothing-reached m.juniors (m.assigned u) (nobody-assigned m x u (no-user-beyond m x u l))
+none-beyond Static m x u l = nothing-reached m.juniors (m.assigned u) (nobody_assigned m x u (no_user_beyond m x u l))
 none-beyond Dynamic m x s l = none-counted-beyond m x m.juniors m.line_count s l
 
 -- The sets of a kind have their shape,
@@ -61,7 +61,7 @@ unbroken-all kind m set x above e i = go (dec_lt i (asked_of kind))
 -- One set changed, to one of the right shape that is broken by nobody's roles, leaves a sound model sound.
 pub set-put-sound : (kind : Kind) (m : Model) (name : ℕ) (new : RoleSet) → Sound m → SetShape m name new → ((i : ℕ) → breaks new (held kind m i) ≡ false) → Sound (with_sets kind m (put (sets_of kind m) name new))
 set-put-sound kind m name new s shaped unbroken =
-    sets-changed m s kind (put (sets_of kind m) name new)
+    sets_changed m s kind (put (sets_of kind m) name new)
     (put_all (λ n set. SetShape m n set) (sets_of kind m) name new shaped (λ n d. shape_of kind m s.shape n))
     (λ i. none-breaks (put (sets_of kind m) name new) (held kind m i) (put_all (λ n set. n < 16 → breaks set (held kind m i) ≡ false) (sets_of kind m) name new (λ l. unbroken i) (λ n d. each-unbroken (sets_of kind m) (held kind m i) (rule-of kind m s i) n)))
 

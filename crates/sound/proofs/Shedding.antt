@@ -11,7 +11,7 @@ use Rattle.roleset.proofs.BoundedLaws.{clash, never, some-intro, some-elim}
 use Rattle.roleset.proofs.Laws.{has-none, without-small, common-small}
 use Rattle.hierarchy.specs.Lines.{line}
 use Rattle.hierarchy.specs.Walks.{reach}
-use Rattle.hierarchy.proofs.WalkLaws.{reach-sound}
+use Rattle.hierarchy.proofs.WalkLaws.{reach_sound}
 use Rattle.model.specs.Model.{Model, RoleSet, Session, put, standing, with_lines, with_assignments}
 use Rattle.model.specs.Words.{keeping, shedded, shed, assignments, grants, lines_standing}
 use Rattle.model.specs.Sound.{Existing, SetShape, SessionShape, Shape, Counted, Sound}
@@ -22,8 +22,8 @@ use Rattle.sound.proofs.Sheet.{kept}
 use Rattle.sound.proofs.Put.{put_all}
 use Rattle.sound.proofs.Members.{without-member, without_other, common-member, or_no, fewer-at, small_at, stripped-fewer}
 use Rattle.sound.proofs.Counting.{one_less, stripped, stripped-emptied}
-use Rattle.sound.proofs.Carried.{existing-none, existing-in, set-in, session-none, role-small, below-exists, closed-idle, member-there}
-use Rattle.sound.proofs.Changing.{fewer-sound}
+use Rattle.sound.proofs.Carried.{existing-none, existing_in, set_in, session-none, role_small, below-exists, closed_idle, member-there}
+use Rattle.sound.proofs.Changing.{fewer_sound}
 
 -- What holds of a live session that keeps only some roles, and of one that is not live, holds of the session that has shed.
 pub shedded-all : (P : Session → Type 0) (juniors assigned : ℕ → ℕ) (x : Session) → (x.live ≡ true → P (keeping x (reach juniors (assigned x.owner)))) → (x.live ≡ false → P x) → P (shedded juniors assigned x)
@@ -62,13 +62,13 @@ module _ (m m' : Model) where
           users = x.users;
           roles = t.small;
           seniors = t.seniors;
-          juniors = λ a. existing-in base after (λ r e. e) (t.juniors_left a);
+          juniors = λ a. existing_in base after (λ r e. e) (t.juniors_left a);
           assignees = λ u r e. x.assignees u r (t.assigned_before u r e);
-          assigned = λ u. existing-in base after (λ r e. e) (t.assigned_left u);
+          assigned = λ u. existing_in base after (λ r e. e) (t.assigned_left u);
           permissions = λ p r e. x.permissions p r (t.held_before p r e);
-          holders = λ p. existing-in base after (λ r e. e) (t.holders_left p);
-          ssd = λ n. set-in base after (λ r e. e) (t.ssd_left n);
-          dsd = λ n. set-in base after (λ r e. e) (t.dsd_left n);
+          holders = λ p. existing_in base after (λ r e. e) (t.holders_left p);
+          ssd = λ n. set_in base after (λ r e. e) (t.ssd_left n);
+          dsd = λ n. set_in base after (λ r e. e) (t.dsd_left n);
           sessions = λ k. shedded-all (λ y. SessionShape after k y) m'.juniors m'.assigned (m.sessions k) (live k (x.sessions k)) (λ e. subst (λ (y : Session). SessionShape after k y) (sym ((x.sessions k).closed e)) (session-none after k));
         }
       where
@@ -82,24 +82,24 @@ module _ (m m' : Model) where
         x = s.shape
 
         authorised_exist : (u r : ℕ) → has (reach m'.juniors (m'.assigned u)) r ≡ true → has m'.roles r ≡ true
-        authorised-exist u r h =
-            let under = reach-sound m'.juniors (m'.assigned u) r h in
+        authorised_exist u r h =
+            let under = reach_sound m'.juniors (m'.assigned u) r h in
             below-exists m'.juniors m'.roles (λ a b. (t.juniors_left a).exist b) under.down ((t.assigned_left u).exist under.role under.member)
 
         live : (k : ℕ) → SessionShape m k (m.sessions k) → (m.sessions k).live ≡ true → SessionShape after k (keeping (m.sessions k) (reach m'.juniors (m'.assigned (m.sessions k).owner)))
         live k y l =
             let held = reach m'.juniors (m'.assigned (m.sessions k).owner) in
-            record { closed = λ e. clash (m.sessions k).live l e; numbered = y.numbered; owned = y.owned; active = record { small = common-small (m.sessions k).active held; exist = λ r h. authorised-exist (m.sessions k).owner r (common-member (m.sessions k).active held r h).2 } }
+            record { closed = λ e. clash (m.sessions k).live l e; numbered = y.numbered; owned = y.owned; active = record { small = common-small (m.sessions k).active held; exist = λ r h. authorised_exist (m.sessions k).owner r (common-member (m.sessions k).active held r h).2 } }
 
     -- and is sound: a rule that held before still does, and shedding leaves no active role without its authorisation.
     pub shed_sound : Sound (shed (left m m'))
     unfolding shed assignments grants lines_standing
     shed_sound =
-        fewer-sound m s (shed (left m m')) shed-shape
+        fewer_sound m s (shed (left m m')) shed-shape
         (record { assigned = t.counted.assigned; granted = t.counted.granted; lined = t.counted.lined })
         t.lines t.assigned_before t.held_before
         (λ k r. shedded-all (λ y. has y.active r ≡ true → has (m.sessions k).active r ≡ true) m'.juniors m'.assigned (m.sessions k) (λ l h. (common-member (m.sessions k).active (reach m'.juniors (m'.assigned (m.sessions k).owner)) r h).1) (λ l h. h))
-        (λ k r. shedded-all (λ y. has y.active r ≡ true → has (reach m'.juniors (m'.assigned y.owner)) r ≡ true) m'.juniors m'.assigned (m.sessions k) (λ l h. (common-member (m.sessions k).active (reach m'.juniors (m'.assigned (m.sessions k).owner)) r h).2) (λ l h. clash (has (m.sessions k).active r) h (closed-idle m s.shape k l r)))
+        (λ k r. shedded-all (λ y. has y.active r ≡ true → has (reach m'.juniors (m'.assigned y.owner)) r ≡ true) m'.juniors m'.assigned (m.sessions k) (λ l h. (common-member (m.sessions k).active (reach m'.juniors (m'.assigned (m.sessions k).owner)) r h).2) (λ l h. clash (has (m.sessions k).active r) h (closed_idle m s.shape k l r)))
 
 -- ---- the commands
 
@@ -116,9 +116,9 @@ same-roles-left m juniors assigned n k s small-juniors small-assigned lines assi
       seniors = λ a j e. x.seniors a j (lines a j e);
       juniors_left = λ a. record { small = small-juniors a; exist = λ r e. (x.juniors a).exist r (lines a r e) };
       assigned_left = λ u. record { small = small-assigned u; exist = λ r e. (x.assigned u).exist r (assigned-before u r e) };
-      holders_left = λ p. existing-in m base (λ r e. e) (x.holders p);
-      ssd_left = λ n. set-in m base (λ r e. e) (x.ssd n);
-      dsd_left = λ n. set-in m base (λ r e. e) (x.dsd n);
+      holders_left = λ p. existing_in m base (λ r e. e) (x.holders p);
+      ssd_left = λ n. set_in m base (λ r e. e) (x.ssd n);
+      dsd_left = λ n. set_in m base (λ r e. e) (x.dsd n);
       lines = lines;
       assigned_before = assigned-before;
       held_before = λ p r e. e;
@@ -174,8 +174,8 @@ role-stripped m r s l no-ssd no-dsd =
       juniors_left = put_all (λ a set. Existing base set) table r none (existing-none base) (λ a d. existing (m.juniors a) (x.juniors a));
       assigned_left = λ u. existing (m.assigned u) (x.assigned u);
       holders_left = λ p. existing (m.holders p) (x.holders p);
-      ssd_left = λ n. set-left n (m.ssd n) (x.ssd n) (in-no-set m m.ssd x.ssd r no-ssd n);
-      dsd_left = λ n. set-left n (m.dsd n) (x.dsd n) (in-no-set m m.dsd x.dsd r no-dsd n);
+      ssd_left = λ n. set_left n (m.ssd n) (x.ssd n) (in-no-set m m.ssd x.ssd r no-ssd n);
+      dsd_left = λ n. set_left n (m.dsd n) (x.dsd n) (in-no-set m m.dsd x.dsd r no-dsd n);
       lines = stripped-fewer m.juniors r;
       assigned_before = λ u k e. (without-member (m.assigned u) r k e).1;
       held_before = λ p k e. (without-member (m.holders p) r k e).1;
@@ -200,13 +200,13 @@ role-stripped m r s l no-ssd no-dsd =
     x = s.shape
 
     still : (k : ℕ) → has m.roles k ≡ true → (k ≡ r → ⊥) → has remaining k ≡ true
-    still k e d = without_other m.roles r k (role-small m x k e) e d
+    still k e d = without_other m.roles r k (role_small m x k e) e d
 
     existing : (set : ℕ) → Existing m set → Existing base (without set r)
     existing set y = record { small = without-small set r; exist = λ k e. let w = without-member set r k e in still k (y.exist k w.1) w.2 }
 
     set_left : (n : ℕ) (set : RoleSet) → SetShape m n set → has set.roles r ≡ false → SetShape base n set
-    set-left n set y e = record { absent = y.absent; named = y.named; at_least = y.at_least; at_most = y.at_most; members = record { small = y.members.small; exist = λ k h. still k (y.members.exist k h) (λ d. clash (has set.roles k) h (rw d e)) } }
+    set_left n set y e = record { absent = y.absent; named = y.named; at_least = y.at_least; at_most = y.at_most; members = record { small = y.members.small; exist = λ k h. still k (y.members.exist k h) (λ d. clash (has set.roles k) h (rw d e)) } }
 
 -- `norole r` keeps a sound model sound.
 pub norole-sound : (m : Model) (r : ℕ) → Sound m → Sound (norole m r).after

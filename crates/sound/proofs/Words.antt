@@ -11,7 +11,7 @@ use Rattle.roleset.specs.Roles.{has, common, count, is_empty, subset}
 use Rattle.roleset.proofs.BoundedLaws.{clash, never, not_yes, or_cases, tally-le}
 use Rattle.roleset.proofs.Laws.{member-small, has-those, those-member, subset-true, subset-intro, is_empty-true, is_empty_false}
 use Rattle.hierarchy.specs.Lines.{Inherits, AtOrAbove}
-use Rattle.hierarchy.proofs.WalkLaws.{reach-sound, reach-complete, reach-small}
+use Rattle.hierarchy.proofs.WalkLaws.{reach_sound, reach_complete, reach_small}
 use Rattle.model.specs.Model.{Model}
 use Rattle.model.specs.Words.{reached, authorised, effective, breaks_some, counted, static_broken, dynamic_broken, shed, sessions_open}
 use Rattle.model.specs.Lists.{listed, set_of, some_from}
@@ -22,7 +22,7 @@ use Rattle.model.specs.declared.Kind.{Kind}
 use Rattle.model.specs.declared.Kind.TheVariants.{Static, Dynamic}
 use Rattle.sound.proofs.Members.{or_no, common-member, common-intro}
 use Rattle.sound.proofs.Breaking.{unbroken-exact, none-breaks, each-unbroken}
-use Rattle.sound.proofs.Carried.{reached-exist, lines-small}
+use Rattle.sound.proofs.Carried.{reached_exist, lines_small}
 use Rattle.sound.proofs.Changing.{held}
 use Rattle.sound.proofs.Sets.{shape_of, rule-of}
 use Rattle.sound.proofs.Shedding.{shedded-all}
@@ -38,14 +38,14 @@ pub reached-exact : (m : Model) → Shape m → (from : ℕ) → Existing m from
 reached-exact m x from e r = (to, back)
   where
     to : has (reached m from) r ≡ true → (has m.roles r ≡ true) × InOrBelow m from r
-    to h = let u = reach-sound m.juniors from r h in ((reached-exist m x from e).exist r h, side u.role u.member u.down)
+    to h = let u = reach_sound m.juniors from r h in ((reached_exist m x from e).exist r h, side u.role u.member u.down)
       where
         side : (a : ℕ) → has from a ≡ true → AtOrAbove m.juniors a r → InOrBelow m from r
         side a h (inl p) = inl (rw p at h)
         side a h (inr p) = inr (a, h, p)
 
     met : (a : ℕ) → has from a ≡ true → AtOrAbove m.juniors a r → has (reached m from) r ≡ true
-    met a h p = reach-complete m.juniors from (lines-small m x) r (record { role = a; small = member-small from a e.small h; member = h; down = p })
+    met a h p = reach_complete m.juniors from (lines_small m x) r (record { role = a; small = member-small from a e.small h; member = h; down = p })
 
     back : (has m.roles r ≡ true) × InOrBelow m from r → has (reached m from) r ≡ true
     back p = side p.1
@@ -77,7 +77,7 @@ permitted-exact m k p = (to, back)
 
     back : (r : ℕ) × (has (effective m k) r ≡ true) × (has (m.holders p) r ≡ true) → not (is_empty (common (effective m k) (m.holders p))) ≡ true
     back q =
-        let small : q.0 < 64 = member-small (effective m k) q.0 (reach-small m.juniors (m.sessions k).active) q.1 in
+        let small : q.0 < 64 = member-small (effective m k) q.0 (reach_small m.juniors (m.sessions k).active) q.1 in
         not_yes (is_empty (common (effective m k) (m.holders p))) (never (is_empty (common (effective m k) (m.holders p))) (λ e. clash (has (common (effective m k) (m.holders p)) q.0) (common-intro (effective m k) (m.holders p) q.0 small q.1 q.2) (is_empty-true (common (effective m k) (m.holders p)) e q.0 small)))
 
 -- ---- separation
@@ -118,7 +118,7 @@ shed-stays m k = shedded-all (λ y. (y.live ≡ (m.sessions k).live) × (y.owner
 pub shed-exact : (m : Model) (k r : ℕ) → (m.sessions k).live ≡ true → (has ((shed m).sessions k).active r ≡ true) ↔ ((has (m.sessions k).active r ≡ true) × (has (authorised m (m.sessions k).owner) r ≡ true))
 unfolding shed
 shed-exact m k r live = shedded-all (λ y. (has y.active r ≡ true) ↔ ((has (m.sessions k).active r ≡ true) × (has held-by-owner r ≡ true))) m.juniors m.assigned (m.sessions k)
-    (λ e. ((λ h. let b = common-member (m.sessions k).active held-by-owner r h in (b.1, b.2)), (λ p. common-intro (m.sessions k).active held-by-owner r (member-small held-by-owner r (reach-small m.juniors (m.assigned (m.sessions k).owner)) p.1) p.0 p.1)))
+    (λ e. ((λ h. let b = common-member (m.sessions k).active held-by-owner r h in (b.1, b.2)), (λ p. common-intro (m.sessions k).active held-by-owner r (member-small held-by-owner r (reach_small m.juniors (m.assigned (m.sessions k).owner)) p.1) p.0 p.1)))
     (λ e. clash (m.sessions k).live live e)
   where
     held_by_owner : ℕ

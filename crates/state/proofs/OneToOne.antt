@@ -53,65 +53,65 @@ module _ (l r : List ℕ) (p : Numbers l) (q : Numbers r) (e : view l ≡ view r
 
   in_counts : (i : ℕ) → 4613 ≤ i → i < 4616 → Dec (i < 4614) → Dec (i < 4615) → get_or l i 0 ≡ get_or r i 0
   unfolding view
-  in-counts i from h (yes a) b = one assignment_count_at i (omega arith) (ap (λ (m : Model). m.assignment_count) e)
-  in-counts i from h (no a) (yes b) = one grant_count_at i (omega arith) (ap (λ (m : Model). m.grant_count) e)
-  in-counts i from h (no a) (no b) = one line_count_at i (omega arith) (ap (λ (m : Model). m.line_count) e)
+  in_counts i from h (yes a) b = one assignment_count_at i (omega arith) (ap (λ (m : Model). m.assignment_count) e)
+  in_counts i from h (no a) (yes b) = one grant_count_at i (omega arith) (ap (λ (m : Model). m.grant_count) e)
+  in_counts i from h (no a) (no b) = one line_count_at i (omega arith) (ap (λ (m : Model). m.line_count) e)
 
   in_roles : (i : ℕ) → 4612 ≤ i → i < 4616 → Dec (i < 4613) → get_or l i 0 ≡ get_or r i 0
   unfolding view
-  in-roles i from h (yes a) = one roles_at i (omega arith) (ap (λ (m : Model). m.roles) e)
-  in-roles i from h (no z) = in-counts i (omega arith) h (dec_lt i 4614) (dec_lt i 4615)
+  in_roles i from h (yes a) = one roles_at i (omega arith) (ap (λ (m : Model). m.roles) e)
+  in_roles i from h (no z) = in_counts i (omega arith) h (dec_lt i 4614) (dec_lt i 4615)
 
   in_users : (i : ℕ) → 4608 ≤ i → i < 4616 → Dec (i < 4612) → get_or l i 0 ≡ get_or r i 0
   unfolding view
-  in-users i from h (yes a) = piece l r users_at 4 i (omega arith) (omega arith) (words-one (part l users_at 4) (part r users_at 4) (part_small l p users_at 4) (part_small r q users_at 4) (ap (λ (m : Model). m.users) e) (i - users_at))
-  in-users i from h (no z) = in-roles i (omega arith) h (dec_lt i 4613)
+  in_users i from h (yes a) = piece l r users_at 4 i (omega arith) (omega arith) (words-one (part l users_at 4) (part r users_at 4) (part_small l p users_at 4) (part_small r q users_at 4) (ap (λ (m : Model). m.users) e) (i - users_at))
+  in_users i from h (no z) = in_roles i (omega arith) h (dec_lt i 4613)
 
   in_active : (i : ℕ) → 4544 ≤ i → i < 4616 → Dec (i < 4608) → get_or l i 0 ≡ get_or r i 0
   unfolding view
-  in-active i from h (yes a) = piece l r active_at 64 i (omega arith) (omega arith) (ap (λ (m : Model). (m.sessions (i - active_at)).active) e)
-  in-active i from h (no z) = in-users i (omega arith) h (dec_lt i 4612)
+  in_active i from h (yes a) = piece l r active_at 64 i (omega arith) (omega arith) (ap (λ (m : Model). (m.sessions (i - active_at)).active) e)
+  in_active i from h (no z) = in_users i (omega arith) h (dec_lt i 4612)
 
   in_owners : (i : ℕ) → 4480 ≤ i → i < 4616 → Dec (i < 4544) → get_or l i 0 ≡ get_or r i 0
   unfolding view
   in_owners i from h (yes a) = piece l r owners_at 64 i (omega arith) (omega arith) (one_more (part l owners_at 64 (i - owners_at)) (part r owners_at 64 (i - owners_at)) (ap (λ (m : Model). (m.sessions (i - owners_at)).live) e) (ap (λ (m : Model). (m.sessions (i - owners_at)).owner) e))
-  in_owners i from h (no z) = in-active i (omega arith) h (dec_lt i 4608)
+  in_owners i from h (no z) = in_active i (omega arith) h (dec_lt i 4608)
 
   in_dsdroles : (i : ℕ) → 4464 ≤ i → i < 4616 → Dec (i < 4480) → get_or l i 0 ≡ get_or r i 0
   unfolding view
-  in-dsdroles i from h (yes a) = piece l r dsd_roles_at 16 i (omega arith) (omega arith) (ap (λ (m : Model). (m.dsd (i - dsd_roles_at)).roles) e)
-  in-dsdroles i from h (no z) = in_owners i (omega arith) h (dec_lt i 4544)
+  in_dsdroles i from h (yes a) = piece l r dsd_roles_at 16 i (omega arith) (omega arith) (ap (λ (m : Model). (m.dsd (i - dsd_roles_at)).roles) e)
+  in_dsdroles i from h (no z) = in_owners i (omega arith) h (dec_lt i 4544)
 
   in_dsdcards : (i : ℕ) → 4448 ≤ i → i < 4616 → Dec (i < 4464) → get_or l i 0 ≡ get_or r i 0
   unfolding view
-  in-dsdcards i from h (yes a) = piece l r dsd_cards_at 16 i (omega arith) (omega arith) (one_more (part l dsd_cards_at 16 (i - dsd_cards_at)) (part r dsd_cards_at 16 (i - dsd_cards_at)) (ap (λ (m : Model). (m.dsd (i - dsd_cards_at)).there) e) (ap (λ (m : Model). (m.dsd (i - dsd_cards_at)).card) e))
-  in-dsdcards i from h (no z) = in-dsdroles i (omega arith) h (dec_lt i 4480)
+  in_dsdcards i from h (yes a) = piece l r dsd_cards_at 16 i (omega arith) (omega arith) (one_more (part l dsd_cards_at 16 (i - dsd_cards_at)) (part r dsd_cards_at 16 (i - dsd_cards_at)) (ap (λ (m : Model). (m.dsd (i - dsd_cards_at)).there) e) (ap (λ (m : Model). (m.dsd (i - dsd_cards_at)).card) e))
+  in_dsdcards i from h (no z) = in_dsdroles i (omega arith) h (dec_lt i 4480)
 
   in_ssdroles : (i : ℕ) → 4432 ≤ i → i < 4616 → Dec (i < 4448) → get_or l i 0 ≡ get_or r i 0
   unfolding view
-  in-ssdroles i from h (yes a) = piece l r ssd_roles_at 16 i (omega arith) (omega arith) (ap (λ (m : Model). (m.ssd (i - ssd_roles_at)).roles) e)
-  in-ssdroles i from h (no z) = in-dsdcards i (omega arith) h (dec_lt i 4464)
+  in_ssdroles i from h (yes a) = piece l r ssd_roles_at 16 i (omega arith) (omega arith) (ap (λ (m : Model). (m.ssd (i - ssd_roles_at)).roles) e)
+  in_ssdroles i from h (no z) = in_dsdcards i (omega arith) h (dec_lt i 4464)
 
   in_ssdcards : (i : ℕ) → 4416 ≤ i → i < 4616 → Dec (i < 4432) → get_or l i 0 ≡ get_or r i 0
   unfolding view
-  in-ssdcards i from h (yes a) = piece l r ssd_cards_at 16 i (omega arith) (omega arith) (one_more (part l ssd_cards_at 16 (i - ssd_cards_at)) (part r ssd_cards_at 16 (i - ssd_cards_at)) (ap (λ (m : Model). (m.ssd (i - ssd_cards_at)).there) e) (ap (λ (m : Model). (m.ssd (i - ssd_cards_at)).card) e))
-  in-ssdcards i from h (no z) = in-ssdroles i (omega arith) h (dec_lt i 4448)
+  in_ssdcards i from h (yes a) = piece l r ssd_cards_at 16 i (omega arith) (omega arith) (one_more (part l ssd_cards_at 16 (i - ssd_cards_at)) (part r ssd_cards_at 16 (i - ssd_cards_at)) (ap (λ (m : Model). (m.ssd (i - ssd_cards_at)).there) e) (ap (λ (m : Model). (m.ssd (i - ssd_cards_at)).card) e))
+  in_ssdcards i from h (no z) = in_ssdroles i (omega arith) h (dec_lt i 4448)
 
   in_juniors : (i : ℕ) → 4352 ≤ i → i < 4616 → Dec (i < 4416) → get_or l i 0 ≡ get_or r i 0
   unfolding view
-  in-juniors i from h (yes a) = piece l r juniors_at 64 i (omega arith) (omega arith) (ap (λ (m : Model). m.juniors (i - juniors_at)) e)
-  in-juniors i from h (no z) = in-ssdcards i (omega arith) h (dec_lt i 4432)
+  in_juniors i from h (yes a) = piece l r juniors_at 64 i (omega arith) (omega arith) (ap (λ (m : Model). m.juniors (i - juniors_at)) e)
+  in_juniors i from h (no z) = in_ssdcards i (omega arith) h (dec_lt i 4432)
 
   in_assigned : (i : ℕ) → 4096 ≤ i → i < 4616 → Dec (i < 4352) → get_or l i 0 ≡ get_or r i 0
   unfolding view
-  in-assigned i from h (yes a) = piece l r assigned_at 256 i (omega arith) (omega arith) (ap (λ (m : Model). m.assigned (i - assigned_at)) e)
-  in-assigned i from h (no z) = in-juniors i (omega arith) h (dec_lt i 4416)
+  in_assigned i from h (yes a) = piece l r assigned_at 256 i (omega arith) (omega arith) (ap (λ (m : Model). m.assigned (i - assigned_at)) e)
+  in_assigned i from h (no z) = in_juniors i (omega arith) h (dec_lt i 4416)
 
   in_holders : (i : ℕ) → i < 4616 → Dec (i < 4096) → get_or l i 0 ≡ get_or r i 0
   unfolding view
-  in-holders i h (yes a) = piece l r holders_at 4096 i (omega arith) (omega arith) (ap (λ (m : Model). m.holders (i - holders_at)) e)
-  in-holders i h (no z) = in-assigned i (omega arith) h (dec_lt i 4352)
+  in_holders i h (yes a) = piece l r holders_at 4096 i (omega arith) (omega arith) (ap (λ (m : Model). m.holders (i - holders_at)) e)
+  in_holders i h (no z) = in_assigned i (omega arith) h (dec_lt i 4352)
 
   -- two states that mean the same are one
   pub view_one_to_one : l ≡ r
-  view_one_to_one = ext_get_or 0 l r (p.long ∙ sym q.long) (λ i h. in-holders i (rw p.long at h) (dec_lt i 4096))
+  view_one_to_one = ext_get_or 0 l r (p.long ∙ sym q.long) (λ i h. in_holders i (rw p.long at h) (dec_lt i 4096))

@@ -15,7 +15,7 @@ use Rattle.hierarchy.specs.Lines.{table_of}
 use Rattle.model.specs.Model.{put}
 use Rattle.state.specs.Stores.{Table}
 use Rattle.state.specs.View.{part}
-use Rattle.state.proofs.Tables.{set-put}
+use Rattle.state.proofs.Tables.{set_put}
 
 -- a number within a part, and past it
 pub part_at : (l : List ℕ) (o n k : ℕ) → k < n → part l o n k ≡ get_or l (o + k) 0
@@ -82,7 +82,7 @@ pub part-store : (l : List ℕ) (o n k v : ℕ) → k < n → o + n ≤ length l
 part-store l o n k v p q =
     ap (λ (x : List ℕ). table_of (take n x)) (drop-set-add o l k v) ∙
     ap table_of (take-set-lt n (drop o l) k v p) ∙
-    set-put (take n (drop o l)) k v 0 (rw (part_length l o n q) p)
+    set_put (take n (drop o l)) k v 0 (rw (part_length l o n q) p)
 
 -- ---- a part filled from an array, place by place: k of its n numbers are stored
 

@@ -48,47 +48,47 @@ placed-as n k before after stored roles new standing count is counted h e = plac
 module _ (l after : List ℕ) where
   pub users_changed : Within users_at 4 l after → (x : ℕ → Bool) → bits (part after users_at 4) ≡ x → view after ≡ with_users (view l) x
   unfolding view
-  users-changed w x e j = record { users = e j; roles = same w roles_at 1 refl j 0; juniors = same w juniors_at 64 refl j; assigned = same w assigned_at 256 refl j; holders = same w holders_at 4096 refl j; ssd = paired set_of (same w ssd_cards_at 16 refl j) (same w ssd_roles_at 16 refl j); dsd = paired set_of (same w dsd_cards_at 16 refl j) (same w dsd_roles_at 16 refl j); sessions = paired session_of (same w owners_at 64 refl j) (same w active_at 64 refl j); assignment_count = same w assignment_count_at 1 refl j 0; grant_count = same w grant_count_at 1 refl j 0; line_count = same w line_count_at 1 refl j 0 }
+  users_changed w x e j = record { users = e j; roles = same w roles_at 1 refl j 0; juniors = same w juniors_at 64 refl j; assigned = same w assigned_at 256 refl j; holders = same w holders_at 4096 refl j; ssd = paired set_of (same w ssd_cards_at 16 refl j) (same w ssd_roles_at 16 refl j); dsd = paired set_of (same w dsd_cards_at 16 refl j) (same w dsd_roles_at 16 refl j); sessions = paired session_of (same w owners_at 64 refl j) (same w active_at 64 refl j); assignment_count = same w assignment_count_at 1 refl j 0; grant_count = same w grant_count_at 1 refl j 0; line_count = same w line_count_at 1 refl j 0 }
 
   pub roles_changed : Within roles_at 1 l after → (x : ℕ) → part after roles_at 1 0 ≡ x → view after ≡ with_roles (view l) x
   unfolding view
-  roles-changed w x e j = record { users = bits (same w users_at 4 refl j); roles = e j; juniors = same w juniors_at 64 refl j; assigned = same w assigned_at 256 refl j; holders = same w holders_at 4096 refl j; ssd = paired set_of (same w ssd_cards_at 16 refl j) (same w ssd_roles_at 16 refl j); dsd = paired set_of (same w dsd_cards_at 16 refl j) (same w dsd_roles_at 16 refl j); sessions = paired session_of (same w owners_at 64 refl j) (same w active_at 64 refl j); assignment_count = same w assignment_count_at 1 refl j 0; grant_count = same w grant_count_at 1 refl j 0; line_count = same w line_count_at 1 refl j 0 }
+  roles_changed w x e j = record { users = bits (same w users_at 4 refl j); roles = e j; juniors = same w juniors_at 64 refl j; assigned = same w assigned_at 256 refl j; holders = same w holders_at 4096 refl j; ssd = paired set_of (same w ssd_cards_at 16 refl j) (same w ssd_roles_at 16 refl j); dsd = paired set_of (same w dsd_cards_at 16 refl j) (same w dsd_roles_at 16 refl j); sessions = paired session_of (same w owners_at 64 refl j) (same w active_at 64 refl j); assignment_count = same w assignment_count_at 1 refl j 0; grant_count = same w grant_count_at 1 refl j 0; line_count = same w line_count_at 1 refl j 0 }
 
   pub juniors_changed : Within juniors_at 64 l after → (x : ℕ → ℕ) → part after juniors_at 64 ≡ x → view after ≡ with_lines (view l) x (view l).line_count
   unfolding view
-  juniors-changed w x e j = record { users = bits (same w users_at 4 refl j); roles = same w roles_at 1 refl j 0; juniors = e j; assigned = same w assigned_at 256 refl j; holders = same w holders_at 4096 refl j; ssd = paired set_of (same w ssd_cards_at 16 refl j) (same w ssd_roles_at 16 refl j); dsd = paired set_of (same w dsd_cards_at 16 refl j) (same w dsd_roles_at 16 refl j); sessions = paired session_of (same w owners_at 64 refl j) (same w active_at 64 refl j); assignment_count = same w assignment_count_at 1 refl j 0; grant_count = same w grant_count_at 1 refl j 0; line_count = same w line_count_at 1 refl j 0 }
+  juniors_changed w x e j = record { users = bits (same w users_at 4 refl j); roles = same w roles_at 1 refl j 0; juniors = e j; assigned = same w assigned_at 256 refl j; holders = same w holders_at 4096 refl j; ssd = paired set_of (same w ssd_cards_at 16 refl j) (same w ssd_roles_at 16 refl j); dsd = paired set_of (same w dsd_cards_at 16 refl j) (same w dsd_roles_at 16 refl j); sessions = paired session_of (same w owners_at 64 refl j) (same w active_at 64 refl j); assignment_count = same w assignment_count_at 1 refl j 0; grant_count = same w grant_count_at 1 refl j 0; line_count = same w line_count_at 1 refl j 0 }
 
   pub lines_counted : Within line_count_at 1 l after → (x : ℕ) → part after line_count_at 1 0 ≡ x → view after ≡ with_lines (view l) (view l).juniors x
   unfolding view
-  lines-counted w x e j = record { users = bits (same w users_at 4 refl j); roles = same w roles_at 1 refl j 0; juniors = same w juniors_at 64 refl j; assigned = same w assigned_at 256 refl j; holders = same w holders_at 4096 refl j; ssd = paired set_of (same w ssd_cards_at 16 refl j) (same w ssd_roles_at 16 refl j); dsd = paired set_of (same w dsd_cards_at 16 refl j) (same w dsd_roles_at 16 refl j); sessions = paired session_of (same w owners_at 64 refl j) (same w active_at 64 refl j); assignment_count = same w assignment_count_at 1 refl j 0; grant_count = same w grant_count_at 1 refl j 0; line_count = e j }
+  lines_counted w x e j = record { users = bits (same w users_at 4 refl j); roles = same w roles_at 1 refl j 0; juniors = same w juniors_at 64 refl j; assigned = same w assigned_at 256 refl j; holders = same w holders_at 4096 refl j; ssd = paired set_of (same w ssd_cards_at 16 refl j) (same w ssd_roles_at 16 refl j); dsd = paired set_of (same w dsd_cards_at 16 refl j) (same w dsd_roles_at 16 refl j); sessions = paired session_of (same w owners_at 64 refl j) (same w active_at 64 refl j); assignment_count = same w assignment_count_at 1 refl j 0; grant_count = same w grant_count_at 1 refl j 0; line_count = e j }
 
   pub assigned_changed : Within assigned_at 256 l after → (x : ℕ → ℕ) → part after assigned_at 256 ≡ x → view after ≡ with_assignments (view l) x (view l).assignment_count
   unfolding view
-  assigned-changed w x e j = record { users = bits (same w users_at 4 refl j); roles = same w roles_at 1 refl j 0; juniors = same w juniors_at 64 refl j; assigned = e j; holders = same w holders_at 4096 refl j; ssd = paired set_of (same w ssd_cards_at 16 refl j) (same w ssd_roles_at 16 refl j); dsd = paired set_of (same w dsd_cards_at 16 refl j) (same w dsd_roles_at 16 refl j); sessions = paired session_of (same w owners_at 64 refl j) (same w active_at 64 refl j); assignment_count = same w assignment_count_at 1 refl j 0; grant_count = same w grant_count_at 1 refl j 0; line_count = same w line_count_at 1 refl j 0 }
+  assigned_changed w x e j = record { users = bits (same w users_at 4 refl j); roles = same w roles_at 1 refl j 0; juniors = same w juniors_at 64 refl j; assigned = e j; holders = same w holders_at 4096 refl j; ssd = paired set_of (same w ssd_cards_at 16 refl j) (same w ssd_roles_at 16 refl j); dsd = paired set_of (same w dsd_cards_at 16 refl j) (same w dsd_roles_at 16 refl j); sessions = paired session_of (same w owners_at 64 refl j) (same w active_at 64 refl j); assignment_count = same w assignment_count_at 1 refl j 0; grant_count = same w grant_count_at 1 refl j 0; line_count = same w line_count_at 1 refl j 0 }
 
   pub assignments_counted : Within assignment_count_at 1 l after → (x : ℕ) → part after assignment_count_at 1 0 ≡ x → view after ≡ with_assignments (view l) (view l).assigned x
   unfolding view
-  assignments-counted w x e j = record { users = bits (same w users_at 4 refl j); roles = same w roles_at 1 refl j 0; juniors = same w juniors_at 64 refl j; assigned = same w assigned_at 256 refl j; holders = same w holders_at 4096 refl j; ssd = paired set_of (same w ssd_cards_at 16 refl j) (same w ssd_roles_at 16 refl j); dsd = paired set_of (same w dsd_cards_at 16 refl j) (same w dsd_roles_at 16 refl j); sessions = paired session_of (same w owners_at 64 refl j) (same w active_at 64 refl j); assignment_count = e j; grant_count = same w grant_count_at 1 refl j 0; line_count = same w line_count_at 1 refl j 0 }
+  assignments_counted w x e j = record { users = bits (same w users_at 4 refl j); roles = same w roles_at 1 refl j 0; juniors = same w juniors_at 64 refl j; assigned = same w assigned_at 256 refl j; holders = same w holders_at 4096 refl j; ssd = paired set_of (same w ssd_cards_at 16 refl j) (same w ssd_roles_at 16 refl j); dsd = paired set_of (same w dsd_cards_at 16 refl j) (same w dsd_roles_at 16 refl j); sessions = paired session_of (same w owners_at 64 refl j) (same w active_at 64 refl j); assignment_count = e j; grant_count = same w grant_count_at 1 refl j 0; line_count = same w line_count_at 1 refl j 0 }
 
   pub holders_changed : Within holders_at 4096 l after → (x : ℕ → ℕ) → part after holders_at 4096 ≡ x → view after ≡ with_grants (view l) x (view l).grant_count
   unfolding view
-  holders-changed w x e j = record { users = bits (same w users_at 4 refl j); roles = same w roles_at 1 refl j 0; juniors = same w juniors_at 64 refl j; assigned = same w assigned_at 256 refl j; holders = e j; ssd = paired set_of (same w ssd_cards_at 16 refl j) (same w ssd_roles_at 16 refl j); dsd = paired set_of (same w dsd_cards_at 16 refl j) (same w dsd_roles_at 16 refl j); sessions = paired session_of (same w owners_at 64 refl j) (same w active_at 64 refl j); assignment_count = same w assignment_count_at 1 refl j 0; grant_count = same w grant_count_at 1 refl j 0; line_count = same w line_count_at 1 refl j 0 }
+  holders_changed w x e j = record { users = bits (same w users_at 4 refl j); roles = same w roles_at 1 refl j 0; juniors = same w juniors_at 64 refl j; assigned = same w assigned_at 256 refl j; holders = e j; ssd = paired set_of (same w ssd_cards_at 16 refl j) (same w ssd_roles_at 16 refl j); dsd = paired set_of (same w dsd_cards_at 16 refl j) (same w dsd_roles_at 16 refl j); sessions = paired session_of (same w owners_at 64 refl j) (same w active_at 64 refl j); assignment_count = same w assignment_count_at 1 refl j 0; grant_count = same w grant_count_at 1 refl j 0; line_count = same w line_count_at 1 refl j 0 }
 
   pub grants_counted : Within grant_count_at 1 l after → (x : ℕ) → part after grant_count_at 1 0 ≡ x → view after ≡ with_grants (view l) (view l).holders x
   unfolding view
-  grants-counted w x e j = record { users = bits (same w users_at 4 refl j); roles = same w roles_at 1 refl j 0; juniors = same w juniors_at 64 refl j; assigned = same w assigned_at 256 refl j; holders = same w holders_at 4096 refl j; ssd = paired set_of (same w ssd_cards_at 16 refl j) (same w ssd_roles_at 16 refl j); dsd = paired set_of (same w dsd_cards_at 16 refl j) (same w dsd_roles_at 16 refl j); sessions = paired session_of (same w owners_at 64 refl j) (same w active_at 64 refl j); assignment_count = same w assignment_count_at 1 refl j 0; grant_count = e j; line_count = same w line_count_at 1 refl j 0 }
+  grants_counted w x e j = record { users = bits (same w users_at 4 refl j); roles = same w roles_at 1 refl j 0; juniors = same w juniors_at 64 refl j; assigned = same w assigned_at 256 refl j; holders = same w holders_at 4096 refl j; ssd = paired set_of (same w ssd_cards_at 16 refl j) (same w ssd_roles_at 16 refl j); dsd = paired set_of (same w dsd_cards_at 16 refl j) (same w dsd_roles_at 16 refl j); sessions = paired session_of (same w owners_at 64 refl j) (same w active_at 64 refl j); assignment_count = same w assignment_count_at 1 refl j 0; grant_count = e j; line_count = same w line_count_at 1 refl j 0 }
 
   pub static_changed : Within ssd_cards_at 32 l after → (x : ℕ → RoleSet) → paired set_of (part after ssd_cards_at 16) (part after ssd_roles_at 16) ≡ x → view after ≡ with_ssd (view l) x
   unfolding view
-  static-changed w x e j = record { users = bits (same w users_at 4 refl j); roles = same w roles_at 1 refl j 0; juniors = same w juniors_at 64 refl j; assigned = same w assigned_at 256 refl j; holders = same w holders_at 4096 refl j; ssd = e j; dsd = paired set_of (same w dsd_cards_at 16 refl j) (same w dsd_roles_at 16 refl j); sessions = paired session_of (same w owners_at 64 refl j) (same w active_at 64 refl j); assignment_count = same w assignment_count_at 1 refl j 0; grant_count = same w grant_count_at 1 refl j 0; line_count = same w line_count_at 1 refl j 0 }
+  static_changed w x e j = record { users = bits (same w users_at 4 refl j); roles = same w roles_at 1 refl j 0; juniors = same w juniors_at 64 refl j; assigned = same w assigned_at 256 refl j; holders = same w holders_at 4096 refl j; ssd = e j; dsd = paired set_of (same w dsd_cards_at 16 refl j) (same w dsd_roles_at 16 refl j); sessions = paired session_of (same w owners_at 64 refl j) (same w active_at 64 refl j); assignment_count = same w assignment_count_at 1 refl j 0; grant_count = same w grant_count_at 1 refl j 0; line_count = same w line_count_at 1 refl j 0 }
 
   pub dynamic_changed : Within dsd_cards_at 32 l after → (x : ℕ → RoleSet) → paired set_of (part after dsd_cards_at 16) (part after dsd_roles_at 16) ≡ x → view after ≡ with_dsd (view l) x
   unfolding view
-  dynamic-changed w x e j = record { users = bits (same w users_at 4 refl j); roles = same w roles_at 1 refl j 0; juniors = same w juniors_at 64 refl j; assigned = same w assigned_at 256 refl j; holders = same w holders_at 4096 refl j; ssd = paired set_of (same w ssd_cards_at 16 refl j) (same w ssd_roles_at 16 refl j); dsd = e j; sessions = paired session_of (same w owners_at 64 refl j) (same w active_at 64 refl j); assignment_count = same w assignment_count_at 1 refl j 0; grant_count = same w grant_count_at 1 refl j 0; line_count = same w line_count_at 1 refl j 0 }
+  dynamic_changed w x e j = record { users = bits (same w users_at 4 refl j); roles = same w roles_at 1 refl j 0; juniors = same w juniors_at 64 refl j; assigned = same w assigned_at 256 refl j; holders = same w holders_at 4096 refl j; ssd = paired set_of (same w ssd_cards_at 16 refl j) (same w ssd_roles_at 16 refl j); dsd = e j; sessions = paired session_of (same w owners_at 64 refl j) (same w active_at 64 refl j); assignment_count = same w assignment_count_at 1 refl j 0; grant_count = same w grant_count_at 1 refl j 0; line_count = same w line_count_at 1 refl j 0 }
 
   pub sessions_changed : Within owners_at 128 l after → (x : ℕ → Session) → paired session_of (part after owners_at 64) (part after active_at 64) ≡ x → view after ≡ with_sessions (view l) x
   unfolding view
-  sessions-changed w x e j = record { users = bits (same w users_at 4 refl j); roles = same w roles_at 1 refl j 0; juniors = same w juniors_at 64 refl j; assigned = same w assigned_at 256 refl j; holders = same w holders_at 4096 refl j; ssd = paired set_of (same w ssd_cards_at 16 refl j) (same w ssd_roles_at 16 refl j); dsd = paired set_of (same w dsd_cards_at 16 refl j) (same w dsd_roles_at 16 refl j); sessions = e j; assignment_count = same w assignment_count_at 1 refl j 0; grant_count = same w grant_count_at 1 refl j 0; line_count = same w line_count_at 1 refl j 0 }
+  sessions_changed w x e j = record { users = bits (same w users_at 4 refl j); roles = same w roles_at 1 refl j 0; juniors = same w juniors_at 64 refl j; assigned = same w assigned_at 256 refl j; holders = same w holders_at 4096 refl j; ssd = paired set_of (same w ssd_cards_at 16 refl j) (same w ssd_roles_at 16 refl j); dsd = paired set_of (same w dsd_cards_at 16 refl j) (same w dsd_roles_at 16 refl j); sessions = e j; assignment_count = same w assignment_count_at 1 refl j 0; grant_count = same w grant_count_at 1 refl j 0; line_count = same w line_count_at 1 refl j 0 }
 
 -- ---- two tables side by side, of sets or of sessions
 
@@ -113,7 +113,7 @@ second-put {A} make a b s y k = go (eqb k s) refl
 -- the tables of n numbers each stand at o and at o + n
 module _ {A : Type 0} (make : ℕ → ℕ → A) (o n : ℕ) (l : List ℕ) (s : ℕ) (h : s < n) (fits : o + n + n ≤ length l) where
   pub common_stored : (x y : ℕ) → Within o (n + n) l (set (set l (o + s) x) (o + n + s) y) × ◌≡◌ {A = ℕ → A} (paired make (part (set (set l (o + s) x) (o + n + s) y) o n) (part (set (set l (o + s) x) (o + n + s) y) (o + n) n)) (put (paired make (part l o n) (part l (o + n) n)) s (make x y))
-  common-stored x y = (then (wider first o (n + n) (omega arith) (omega arith)) (wider second o (n + n) (omega arith) (omega arith)), ap₂ (paired make) heads roles ∙ fun_ext (pair_put make (part l o n) (part l (o + n) n) s x y))
+  common_stored x y = (then (wider first o (n + n) (omega arith) (omega arith)) (wider second o (n + n) (omega arith) (omega arith)), ap₂ (paired make) heads roles ∙ fun_ext (pair_put make (part l o n) (part l (o + n) n) s x y))
     where
       between : List ℕ
       between = set l (o + s) x
@@ -131,15 +131,15 @@ module _ {A : Type 0} (make : ℕ → ℕ → A) (o n : ℕ) (l : List ℕ) (s :
       roles = part-store between (o + n) n s y h (rw first.long (omega arith)) ∙ ap (λ (f : ℕ → ℕ). put f s y) (same first (o + n) n (apart_above o n (o + n) n (omega arith)))
 
   pub second_stored : (y : ℕ) → Within o (n + n) l (set l (o + n + s) y) × ◌≡◌ {A = ℕ → A} (paired make (part (set l (o + n + s) y) o n) (part (set l (o + n + s) y) (o + n) n)) (put (paired make (part l o n) (part l (o + n) n)) s (make (part l o n s) y))
-  second-stored y = (wider second o (n + n) (omega arith) (omega arith), ap₂ (paired make) (same second o n (apart_below (o + n) n o n (omega arith))) (part-store l (o + n) n s y h (omega arith)) ∙ fun_ext (second-put make (part l o n) (part l (o + n) n) s y))
+  second_stored y = (wider second o (n + n) (omega arith) (omega arith), ap₂ (paired make) (same second o n (apart_below (o + n) n o n (omega arith))) (part-store l (o + n) n s y h (omega arith)) ∙ fun_ext (second-put make (part l o n) (part l (o + n) n) s y))
     where
       second : Within (o + n) n l (set l (o + n + s) y)
       second = set-within l (o + n) n s y h
 
 -- the sets of a kind
 pub sets-changed : (kind : Kind) (l after : List ℕ) → Within (sets_at kind) 32 l after → (x : ℕ → RoleSet) → paired set_of (part after (sets_at kind) 16) (part after (sets_at kind + 16) 16) ≡ x → view after ≡ with_sets kind (view l) x
-sets-changed Static l after = static-changed l after
-sets-changed Dynamic l after = dynamic-changed l after
+sets-changed Static l after = static_changed l after
+sets-changed Dynamic l after = dynamic_changed l after
 
 sets-viewed : (kind : Kind) (l : List ℕ) → paired set_of (part l (sets_at kind) 16) (part l (sets_at kind + 16) 16) ≡ sets_of kind (view l)
 unfolding view
@@ -156,13 +156,13 @@ set_at kind l n = ap (λ (f : ℕ → RoleSet). f n) (sets-viewed kind l)
 
 module _ (kind : Kind) (l : List ℕ) (n : ℕ) (long : length l ≡ places) (h : n < 16) where
   pub set_stored : (card roles : ℕ) → view (set (set l (sets_at kind + n) card) (sets_at kind + 16 + n) roles) ≡ set_stored kind (view l) n (set_of card roles)
-  set-stored card roles =
-      let b = common-stored set_of (sets_at kind) 16 l n h (omega (arith, sets-fit kind)) card roles in
+  set_stored card roles =
+      let b = common_stored set_of (sets_at kind) 16 l n h (omega (arith, sets-fit kind)) card roles in
       sets-changed kind l _ b.0 _ (b.1 ∙ ap (λ (f : ℕ → RoleSet). put f n (set_of card roles)) (sets-viewed kind l))
 
   pub members_stored : (roles : ℕ) → view (set l (sets_at kind + 16 + n) roles) ≡ set_stored kind (view l) n (record { there = (sets_of kind (view l) n).there; card = (sets_of kind (view l) n).card; roles = roles })
-  members-stored roles =
-      let b = second-stored set_of (sets_at kind) 16 l n h (omega (arith, sets-fit kind)) roles in
+  members_stored roles =
+      let b = second_stored set_of (sets_at kind) 16 l n h (omega (arith, sets-fit kind)) roles in
       sets-changed kind l _ b.0 _ (b.1 ∙ ap (λ (f : ℕ → RoleSet). put f n (record { there = (f n).there; card = (f n).card; roles = roles })) (sets-viewed kind l))
 
 -- one more than the cardinality stands for a set that is there, and one more than the owner's number for a session that is open
@@ -180,34 +180,34 @@ one-more-session u active =
 module _ (l : List ℕ) (s : ℕ) (long : length l ≡ places) (h : s < 64) where
   pub session_stored : (owner active : ℕ) → view (set (set l (owners_at + s) owner) (active_at + s) active) ≡ with_sessions (view l) (put (view l).sessions s (session_of owner active))
   unfolding view
-  session-stored owner active = let b = common-stored session_of owners_at 64 l s h (omega arith) owner active in sessions-changed l _ b.0 _ b.1
+  session_stored owner active = let b = common_stored session_of owners_at 64 l s h (omega arith) owner active in sessions_changed l _ b.0 _ b.1
 
   pub active_stored : (active : ℕ) → view (set l (active_at + s) active) ≡ with_sessions (view l) (put (view l).sessions s (record { live = ((view l).sessions s).live; owner = ((view l).sessions s).owner; active = active }))
   unfolding view
-  active-stored active = let b = second-stored session_of owners_at 64 l s h (omega arith) active in sessions-changed l _ b.0 _ b.1
+  active_stored active = let b = second_stored session_of owners_at 64 l s h (omega arith) active in sessions_changed l _ b.0 _ b.1
 
 -- one number and the count beside it
 module _ (l : List ℕ) (long : length l ≡ places) (k x n : ℕ) where
   pub line_stored : k < 64 → view (set (set l (juniors_at + k) x) line_count_at n) ≡ with_lines (view l) (put (view l).juniors k x) n
   unfolding view put
-  line-stored h =
+  line_stored h =
       let first = set-within l juniors_at 64 k x h in
-      lines-counted _ _ (set-within (set l (juniors_at + k) x) line_count_at 1 0 n (omega arith)) n (ap (λ (f : ℕ → ℕ). f 0) (part-store (set l (juniors_at + k) x) line_count_at 1 0 n (omega arith) (rw first.long (omega arith))))
-      ∙ ap (λ (m : Model). with_lines m m.juniors n) (juniors-changed l _ first _ (part-store l juniors_at 64 k x h (omega arith)))
+      lines_counted _ _ (set-within (set l (juniors_at + k) x) line_count_at 1 0 n (omega arith)) n (ap (λ (f : ℕ → ℕ). f 0) (part-store (set l (juniors_at + k) x) line_count_at 1 0 n (omega arith) (rw first.long (omega arith))))
+      ∙ ap (λ (m : Model). with_lines m m.juniors n) (juniors_changed l _ first _ (part-store l juniors_at 64 k x h (omega arith)))
 
   pub assignment_stored : k < 256 → view (set (set l (assigned_at + k) x) assignment_count_at n) ≡ with_assignments (view l) (put (view l).assigned k x) n
   unfolding view put
-  assignment-stored h =
+  assignment_stored h =
       let first = set-within l assigned_at 256 k x h in
-      assignments-counted _ _ (set-within (set l (assigned_at + k) x) assignment_count_at 1 0 n (omega arith)) n (ap (λ (f : ℕ → ℕ). f 0) (part-store (set l (assigned_at + k) x) assignment_count_at 1 0 n (omega arith) (rw first.long (omega arith))))
-      ∙ ap (λ (m : Model). with_assignments m m.assigned n) (assigned-changed l _ first _ (part-store l assigned_at 256 k x h (omega arith)))
+      assignments_counted _ _ (set-within (set l (assigned_at + k) x) assignment_count_at 1 0 n (omega arith)) n (ap (λ (f : ℕ → ℕ). f 0) (part-store (set l (assigned_at + k) x) assignment_count_at 1 0 n (omega arith) (rw first.long (omega arith))))
+      ∙ ap (λ (m : Model). with_assignments m m.assigned n) (assigned_changed l _ first _ (part-store l assigned_at 256 k x h (omega arith)))
 
   pub grant_stored : k < 4096 → view (set (set l (holders_at + k) x) grant_count_at n) ≡ with_grants (view l) (put (view l).holders k x) n
   unfolding view put
-  grant-stored h =
+  grant_stored h =
       let first = set-within l holders_at 4096 k x h in
-      grants-counted _ _ (set-within (set l (holders_at + k) x) grant_count_at 1 0 n (omega arith)) n (ap (λ (f : ℕ → ℕ). f 0) (part-store (set l (holders_at + k) x) grant_count_at 1 0 n (omega arith) (rw first.long (omega arith))))
-      ∙ ap (λ (m : Model). with_grants m m.holders n) (holders-changed l _ first _ (part-store l holders_at 4096 k x h (omega arith)))
+      grants_counted _ _ (set-within (set l (holders_at + k) x) grant_count_at 1 0 n (omega arith)) n (ap (λ (f : ℕ → ℕ). f 0) (part-store (set l (holders_at + k) x) grant_count_at 1 0 n (omega arith) (rw first.long (omega arith))))
+      ∙ ap (λ (m : Model). with_grants m m.holders n) (holders_changed l _ first _ (part-store l holders_at 4096 k x h (omega arith)))
 
 -- ---- the users, 64 to a number
 
@@ -244,7 +244,7 @@ unfolding view
 user-stored l u there long h =
     let w : u / 64 < 4 = omega arith in
     let x = pick_member there (get_or l (users_at + u / 64) 0) (u % 64) in
-    users-changed l _ (set-within l users_at 4 (u / 64) x w) _
+    users_changed l _ (set-within l users_at 4 (u / 64) x w) _
     (ap bits (part-store l users_at 4 (u / 64) x w (omega arith) ∙ ap (λ (v : ℕ). put (part l users_at 4) (u / 64) (pick_member there v (u % 64))) (sym (part_at l users_at 4 (u / 64) w))) ∙ users-put (part l users_at 4) u there)
 
 -- ---- all of a state

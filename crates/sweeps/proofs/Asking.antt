@@ -10,7 +10,7 @@ use Rattle.roleset.specs.Roles.{has}
 use Rattle.roleset.proofs.BoundedLaws.{clash, never, every-elim, some_more, some-intro, some-none}
 use Rattle.roleset.proofs.Laws.{is_empty-none}
 use Rattle.hierarchy.specs.Walks.{reach}
-use Rattle.hierarchy.proofs.WalkLaws.{walk-empty}
+use Rattle.hierarchy.proofs.WalkLaws.{walk_empty}
 use Rattle.model.specs.Model.{Model, RoleSet, with_lines}
 use Rattle.model.specs.Words.{breaks, static_broken, dynamic_broken}
 use Rattle.model.specs.commands.Sets.{asked_of, broken, rule_broken}
@@ -55,20 +55,20 @@ all_held held k l h = every-elim 64 (has 18446744073709551615) all-64 k l
 -- from no roles, none is reached
 reach-none : (lines : ℕ → ℕ) → reach lines 0 ≡ 0
 unfolding reach
-reach-none lines = walk-empty lines 64 0 is_empty-none
+reach-none lines = walk_empty lines 64 0 is_empty-none
 
 module _ (rule : ℕ → Bool) (lines own : ℕ → ℕ) where
   -- none of n breaks the rule, and neither does one more, that was walked for
   pub passed_walk : (n held w : ℕ) → held ≡ own n → w ≡ reach lines held → rule w ≡ false → some n (breaking rule lines own) ≡ false → some (n + 1) (breaking rule lines own) ≡ false
-  passed-walk n held w h e b p = some_more n _ p (ap rule (sym (e ∙ ap (reach lines) h)) ∙ b)
+  passed_walk n held w h e b p = some_more n _ p (ap rule (sym (e ∙ ap (reach lines) h)) ∙ b)
 
   -- neither does one more, with no roles, where no roles break nothing
   pub passed_idle : (n held : ℕ) → held ≡ own n → held ≡ 0 → rule 0 ≡ false → some n (breaking rule lines own) ≡ false → some (n + 1) (breaking rule lines own) ≡ false
-  passed-idle n held h z b p = some_more n _ p (ap rule (ap (reach lines) (sym h ∙ z) ∙ reach-none lines) ∙ b)
+  passed_idle n held h z b p = some_more n _ p (ap rule (ap (reach lines) (sym h ∙ z) ∙ reach-none lines) ∙ b)
 
   -- one breaks it
   pub asks_walk : (n k held w : ℕ) → k < n → held ≡ own k → w ≡ reach lines held → rule w ≡ true → true ≡ some n (breaking rule lines own)
-  asks-walk n k held w l h e b = sym (some-intro n (breaking rule lines own) k l (ap rule (sym (e ∙ ap (reach lines) h)) ∙ b))
+  asks_walk n k held w l h e b = sym (some-intro n (breaking rule lines own) k l (ap rule (sym (e ∙ ap (reach lines) h)) ∙ b))
 
   -- nobody does where those who break it are among all roles, and all roles together do not
   pub asks_none : (n all : ℕ) → ((held : ℕ) → rule held ≡ true → rule all ≡ true) → rule all ≡ false → false ≡ some n (breaking rule lines own)
@@ -76,8 +76,8 @@ module _ (rule : ℕ → Bool) (lines own : ℕ → ℕ) where
 
   -- all do
   pub asks_any : (n : ℕ) → 0 < n → ((held : ℕ) → rule held ≡ true) → true ≡ some n (breaking rule lines own)
-  asks-any n l b = asks-walk n 0 (own 0) (reach lines (own 0)) l refl refl (b _)
+  asks_any n l b = asks_walk n 0 (own 0) (reach lines (own 0)) l refl refl (b _)
 
   -- one by one, over a table of what they have themselves
   pub asked_of_table : (n : ℕ) (x : List ℕ) (b : Bool) → Table n own x → rule 0 ≡ false → Asked rule lines x b → b ≡ some n (breaking rule lines own)
-  asked-of-table n x b t idle asked = asked idle ∙ ap₂ (λ (k : ℕ) (f : ℕ → ℕ). some k (breaking rule lines f)) t.long t.each
+  asked_of_table n x b t idle asked = asked idle ∙ ap₂ (λ (k : ℕ) (f : ℕ → ℕ). some k (breaking rule lines f)) t.long t.each

@@ -10,7 +10,7 @@ use Rattle.model.specs.commands.Users.{holding}
 use Rattle.state.specs.Stores.{Table}
 use Rattle.state.specs.View.{part}
 use Rattle.state.proofs.Slots.{whole}
-use Rattle.state.proofs.Tables.{set-put}
+use Rattle.state.proofs.Tables.{set_put}
 use Rattle.sweeps.specs.Sweeps.{Strips}
 use Rattle.sweeps.proofs.Strips.{stripped-table, stripped-length}
 
@@ -20,7 +20,7 @@ as-part {n} x t = whole x n t.long ∙ t.each
 
 -- one place is put
 pub table-put : {n : ℕ} {f : ℕ → ℕ} (x : List ℕ) (i v : ℕ) → i < n → Table n f x → Table n (put f i v) (set x i v)
-table-put x i v h t = record { long = length-set x i v ∙ t.long; each = set-put x i v 0 (omega (arith, t.long)) ∙ ap (λ (f : ℕ → ℕ). put f i v) t.each }
+table-put x i v h t = record { long = length-set x i v ∙ t.long; each = set_put x i v 0 (omega (arith, t.long)) ∙ ap (λ (f : ℕ → ℕ). put f i v) t.each }
 
 -- a role is stripped, and counted
 pub table-stripped : {n : ℕ} {f : ℕ → ℕ} (x after : List ℕ) (r gone : ℕ) → Table n f x → Strips x after r gone → Table n (λ k. without (f k) r) after

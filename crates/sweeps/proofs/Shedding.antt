@@ -45,7 +45,7 @@ module _ (m : Model) (kept : List ℕ) (sheds : ShedsAll m.juniors m.assigned m.
   -- the sessions that it leaves are those of the model after shedding
   pub shed_after : ((k : ℕ) → 64 ≤ k → m.sessions k ≡ closed_session) → shed m ≡ with_sessions m (with_active m.sessions (part kept 0 64))
   unfolding shed
-  shed-after past = ap (with_sessions m) (fun_ext (λ k. go k (dec_lt k 64)))
+  shed_after past = ap (with_sessions m) (fun_ext (λ k. go k (dec_lt k 64)))
     where
       go : (k : ℕ) → Dec (k < 64) → shedded m.juniors m.assigned (m.sessions k) ≡ with_active m.sessions (part kept 0 64) k
       go k (yes p) = shedded-active m.juniors m.assigned (m.sessions k) ∙ ap (λ (x : ℕ). record { live = (m.sessions k).live; owner = (m.sessions k).owner; active = x }) (sym (get_or-take 64 kept k 0 p ∙ sheds.each k p))
@@ -53,4 +53,4 @@ module _ (m : Model) (kept : List ℕ) (sheds : ShedsAll m.juniors m.assigned m.
 
   -- a state that holds the model, and then stores what each session keeps, holds the model after shedding
   pub shed_stored : ((k : ℕ) → 64 ≤ k → m.sessions k ≡ closed_session) → (between after : Model) → between ≡ m → after ≡ with_sessions between (with_active between.sessions (part kept 0 64)) → after ≡ shed m
-  shed-stored past between after stored e = e ∙ ap (λ (x : Model). with_sessions x (with_active x.sessions (part kept 0 64))) stored ∙ sym (shed-after past)
+  shed_stored past between after stored e = e ∙ ap (λ (x : Model). with_sessions x (with_active x.sessions (part kept 0 64))) stored ∙ sym (shed_after past)

@@ -19,12 +19,12 @@ module _ (juniors assigned : ℕ → ℕ) (s : Session) where
   -- a live session keeps what its owner's walk meets
   pub keeps_live : (w x : ℕ) → s.live ≡ true → w ≡ reach juniors (assigned s.owner) → x ≡ common s.active w → x ≡ (shedded juniors assigned s).active
   unfolding shedded
-  keeps-live w x h e f = f ∙ rw (e, shedded, h)
+  keeps_live w x h e f = f ∙ rw (e, shedded, h)
 
   -- any other is as it was
   pub keeps_dead : s.live ≡ false → s.active ≡ (shedded juniors assigned s).active
   unfolding shedded
-  keeps-dead h = rw (shedded, h)
+  keeps_dead h = rw (shedded, h)
 
 -- an open session of the user ends; any other is as it was
 pub end-own : (u : ℕ) (s : Session) → open_of u s ≡ true → closed_session ≡ ended_of u s
@@ -47,7 +47,7 @@ module _ (m : Model) (u : ℕ) where
 
   -- the next session ends
   pub ended_one : (n : ℕ) (before after : Model) → Ended n before → after ≡ session_set before n closed_session → closed_session ≡ ended_of u (m.sessions n) → Ended (n + 1) after
-  ended-one n before after d e h = record { rest = e ∙ ap (λ (x : Model). with_sessions x (put before.sessions n closed_session)) d.rest ∙ sym (ap (λ (x : Model). with_sessions m x.sessions) e); done = λ k p. at k ∙ go k (last-or-below k n (omega arith)); left = λ k p. at k ∙ put_other before.sessions n closed_session k (λ q. omega arith) ∙ d.left k (omega arith) }
+  ended_one n before after d e h = record { rest = e ∙ ap (λ (x : Model). with_sessions x (put before.sessions n closed_session)) d.rest ∙ sym (ap (λ (x : Model). with_sessions m x.sessions) e); done = λ k p. at k ∙ go k (last-or-below k n (omega arith)); left = λ k p. at k ∙ put_other before.sessions n closed_session k (λ q. omega arith) ∙ d.left k (omega arith) }
     where
       at : (k : ℕ) → after.sessions k ≡ put before.sessions n closed_session k
       at k = ap (λ (x : Model). x.sessions k) e
@@ -58,7 +58,7 @@ module _ (m : Model) (u : ℕ) where
 
   -- the next session stays
   pub ended_none : (n : ℕ) (after : Model) → Ended n after → m.sessions n ≡ ended_of u (m.sessions n) → Ended (n + 1) after
-  ended-none n after d h = record { rest = d.rest; done = λ k p. go k (last-or-below k n (omega arith)); left = λ k p. d.left k (omega arith) }
+  ended_none n after d h = record { rest = d.rest; done = λ k p. go k (last-or-below k n (omega arith)); left = λ k p. d.left k (omega arith) }
     where
       go : (k : ℕ) → (k ≡ n) ⊎ (k < n) → after.sessions k ≡ ended_of u (m.sessions k)
       go k (inl p) = rw p (d.left n (omega arith) ∙ h)
@@ -67,7 +67,7 @@ module _ (m : Model) (u : ℕ) where
   -- all are passed, and there are none past them
   pub ended_all : (n : ℕ) (after : Model) → ((k : ℕ) → n ≤ k → m.sessions k ≡ closed_session) → Ended n after → after ≡ all_ended m u
   unfolding all_ended
-  ended-all n after past d = d.rest ∙ ap (with_sessions m) (fun_ext (λ k. go k (dec_lt k n)))
+  ended_all n after past d = d.rest ∙ ap (with_sessions m) (fun_ext (λ k. go k (dec_lt k n)))
     where
       go : (k : ℕ) → Dec (k < n) → after.sessions k ≡ ended_of u (m.sessions k)
       go k (yes p) = d.done k p

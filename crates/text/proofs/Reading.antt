@@ -72,15 +72,15 @@ at-most-le most n = go (ltb most n) refl
 module _ {A : Type 0} (bytes : List ℕ) (put : ℕ → List ℕ) (act : A → ℕ → A) (step : ℕ × A → ℕ × A) (P : ℕ → Type 0) (one : (k at : ℕ) (a : A) (rest : List ℕ) → P k → Stands bytes at (put k) rest → step (at, a) ≡ (at + length (put k), act a k)) where
   pub again_flat : (ks : List ℕ) → Each P ks → (at : ℕ) (a : A) (rest : List ℕ) → Stands bytes at (flat put ks) rest → again step (length ks) (at, a) ≡ (at + length (flat put ks), foldl act a ks)
   unfolding flat again
-  again-flat [] p at a rest s = ap (λ (n : ℕ). (n, a)) (omega arith)
-  again-flat (k ∷ ks) p at a rest s =
+  again_flat [] p at a rest s = ap (λ (n : ℕ). (n, a)) (omega arith)
+  again_flat (k ∷ ks) p at a rest s =
       ap (again step (length ks)) (one k at a (flat put ks ++ rest) p.0 (stands-left (put k) (flat put ks) s))
-      ∙ again-flat ks p.1 (at + length (put k)) (act a k) rest (stands-right (put k) (flat put ks) s)
+      ∙ again_flat ks p.1 (at + length (put k)) (act a k) rest (stands-right (put k) (flat put ks) s)
       ∙ ap (λ (n : ℕ). (n, foldl act (act a k) ks)) (omega (arith, length-append (put k) (flat put ks)))
 
   pub section_back : (most : ℕ) → most < 65536 → (ks : List ℕ) → length ks ≤ most → Each P ks → (at : ℕ) (a : A) (rest : List ℕ) → Stands bytes at (section put ks) rest → read_section bytes most step at a ≡ (at + length (section put ks), foldl act a ks)
   unfolding section read_section
-  section-back most l ks h p at a rest s =
+  section_back most l ks h p at a rest s =
       ap (λ (n : ℕ). again step n (at + 2, a)) (ap (at_most most) (word_back (length ks) (omega arith) (stands-left (two (length ks)) (flat put ks) s)) ∙ at-most most (length ks) h)
-      ∙ again-flat ks p (at + 2) a rest (stands-right (two (length ks)) (flat put ks) s)
+      ∙ again_flat ks p (at + 2) a rest (stands-right (two (length ks)) (flat put ks) s)
       ∙ ap (λ (n : ℕ). (n, foldl act a ks)) (omega (arith, length-append (two (length ks)) (flat put ks)))

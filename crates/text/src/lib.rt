@@ -1,5 +1,6 @@
 // Bytes, and texts of them, put into a lent buffer; sixteen-bit numbers taken from one, low byte first. A script's line, an answer and a policy file share them.
 #![tactic(auto)]
+
 ghost use Rattle.std.specs.Prelude.{[], ◌∷◌, ◌≡◌};
 ghost use Rattle.text.specs.Places.{word_at};
 ghost use Rattle.text.specs.Putting.{Put};

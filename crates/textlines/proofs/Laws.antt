@@ -70,10 +70,10 @@ parts_next stop b (x ∷ l) = one_more stop b (x ∷ l) (ap (joined b) (parts_ne
 module _ (stop : ℕ) (s : List ℕ) (at : ℕ) where
   -- at a stop byte, at another byte, and at the end
   pub part_stops : at < length s → get_or s at 0 ≡ stop → part_at stop s at ≡ []
-  part-stops h e = rw (drop-cons s at 0 h) (at-stop stop (get_or s at 0) (drop (suc at) s) (eq-eqb (get_or s at 0) stop e))
+  part_stops h e = rw (drop-cons s at 0 h) (at-stop stop (get_or s at 0) (drop (suc at) s) (eq-eqb (get_or s at 0) stop e))
 
   pub part_goes_on : at < length s → (get_or s at 0 ≡ stop → ⊥) → part_at stop s at ≡ get_or s at 0 ∷ part_at stop s (at + 1)
-  part-goes-on h n = rw (drop-cons s at 0 h, add-one at) (before-stop stop (get_or s at 0) (drop (suc at) s) (ne_eqb (get_or s at 0) stop n))
+  part_goes_on h n = rw (drop-cons s at 0 h, add-one at) (before-stop stop (get_or s at 0) (drop (suc at) s) (ne_eqb (get_or s at 0) stop n))
 
   pub part_none : length s ≤ at → part_at stop s at ≡ []
   unfolding up_to
@@ -81,7 +81,7 @@ module _ (stop : ℕ) (s : List ℕ) (at : ℕ) where
 
   -- the part ends within the text
   pub part_within : at ≤ length s → at + length (part_at stop s at) ≤ length s
-  part-within h = omega (arith, up-short stop (drop at s), length-drop at s)
+  part_within h = omega (arith, up-short stop (drop at s), length-drop at s)
 
   pub part_front : take (length (part_at stop s at)) (drop at s) ≡ part_at stop s at
   part_front = up-front stop (drop at s)

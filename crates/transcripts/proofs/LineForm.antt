@@ -13,7 +13,7 @@ use Rattle.decimal.specs.Decimal.{digit, lead, decimal, numbered, space}
 use Rattle.decimal.proofs.Laws.{lead-there, lead-gone}
 use Rattle.words.specs.ScriptWords.{word_of, spelling, takes}
 use Rattle.words.proofs.Tables.{fits}
-use Rattle.reading.specs.Form.{render, Small, Written, Parsed, line, noLine, parse}
+use Rattle.reading.specs.Form.{render, Small, Written, Parsed, line, no_line, parse}
 use Rattle.reading.proofs.Back.{written-parsed, parsed-written, none_written}
 use Rattle.transcripts.specs.LineForm.{Digits, value_after, NumberForm, NumberForms, spaced, LineForm, LineForms}
 
@@ -177,12 +177,12 @@ line-parsed text k ns f = written-parsed text k ns (line-written text k ns f)
 pub parsed-line : (text : List ℕ) (k : ℕ) (ns : List ℕ) → parse text ≡ line k ns → LineForm text k ns
 parsed-line text k ns e = written-line text k ns (parsed-written text k ns e)
 
-unread : (text : List ℕ) → ((k : ℕ) (ns : List ℕ) → LineForm text k ns → ⊥) → parse text ≡ noLine
+unread : (text : List ℕ) → ((k : ℕ) (ns : List ℕ) → LineForm text k ns → ⊥) → parse text ≡ no_line
 unread text none = go (parse text) refl
   where
-    go : (p : Parsed) → parse text ≡ p → p ≡ noLine
+    go : (p : Parsed) → parse text ≡ p → p ≡ no_line
     go (line k ns) e = absurd (none k ns (parsed-line text k ns e))
-    go noLine e = refl
+    go no_line e = refl
 
 pub line-forms : LineForms
 line-forms =

@@ -7,7 +7,7 @@ use lib.ListN.{get_or, drop}
 use Rattle.model.specs.Model.{Model}
 use Rattle.model.specs.Sheet.{refused}
 use Rattle.words.specs.ScriptWords.{word_of}
-use Rattle.reading.specs.Form.{Parsed, line, noLine, parse}
+use Rattle.reading.specs.Form.{Parsed, line, no_line, parse}
 use Rattle.meaning.specs.Meaning.{meant}
 use Rattle.meaning.specs.declared.Meant.{Meant}
 use Rattle.meaning.specs.declared.Meant.TheVariants.{Do, Ask, Nothing}
@@ -25,16 +25,16 @@ not-formed m text none = go (parse text) (λ k ns e. none k ns (parsed-line text
   where
     go : (p : Parsed) → ((k : ℕ) (ns : List ℕ) → p ≡ line k ns → ⊥) → obeyed m p ≡ refused 14 m
     go (line k ns) h = absurd (h k ns refl)
-    go noLine h = refl
+    go no_line h = refl
 
 -- the word and the numbers of a line that was read
 word_of_line : Parsed → ℕ
 word_of_line (line k ns) = k
-word_of_line noLine = 0
+word_of_line no_line = 0
 
 numbers_of_line : Parsed → List ℕ
 numbers_of_line (line k ns) = ns
-numbers_of_line noLine = []
+numbers_of_line no_line = []
 
 one_line : (text : List ℕ) (k k' : ℕ) (ns ns' : List ℕ) → LineForm text k ns → LineForm text k' ns' → (k ≡ k') × (ns ≡ ns')
 unfolding word_of_line numbers_of_line
@@ -48,7 +48,7 @@ never_done m Nothing list e = omega (arith, e)
 
 never-obeyed : (m : Model) (p : Parsed) → (obeyed m p).answer ≡ 15 → ⊥
 never-obeyed m (line k ns) e = never_done m (meant k (get_or ns 0 0) (get_or ns 1 0) (get_or ns 2 0)) (drop (word_of k).numbers ns) e
-never-obeyed m noLine e = omega (arith, e)
+never-obeyed m no_line e = omega (arith, e)
 
 -- and what it leaves can be reached
 reachable-done : (m : Model) (x : Meant) (list : List ℕ) → Reachable m → Reachable (doing m x list).after
@@ -58,7 +58,7 @@ reachable-done m Nothing list r = r
 
 reachable-obeyed : (m : Model) (p : Parsed) → Reachable m → Reachable (obeyed m p).after
 reachable-obeyed m (line k ns) r = reachable-done m (meant k (get_or ns 0 0) (get_or ns 1 0) (get_or ns 2 0)) (drop (word_of k).numbers ns) r
-reachable-obeyed m noLine r = r
+reachable-obeyed m no_line r = r
 
 pub script-lines : ScriptLines
 unfolding obey

@@ -2,7 +2,7 @@
 use Rattle.std.specs.Prelude.{true, false, List, [], ◌∷◌, ◌++◌, ◌↔◌, ◌≡◌, ℕ, ◌+◌, ◌*◌, ◌-◌, ◌≤◌, ◌<◌, length, get_or}
 use Rattle.decimal.specs.Decimal.{decimal}
 use Rattle.words.specs.ScriptWords.{word_of, word_count}
-use Rattle.reading.specs.Form.{line, noLine, parse}
+use Rattle.reading.specs.Form.{line, no_line, parse}
 
 -- ---- a number
 
@@ -62,4 +62,4 @@ pub record LineForms : Type 0 where
   -- A text is read as a line exactly where it has that line's form,
   pub read : (text : List ℕ) (k : ℕ) (ns : List ℕ) → LineForm text k ns ↔ (parse text ≡ line k ns)
   -- and as none exactly where it has the form of none.
-  pub unread : (text : List ℕ) → ((k : ℕ) (ns : List ℕ) → LineForm text k ns → ⊥) ↔ (parse text ≡ noLine)
+  pub unread : (text : List ℕ) → ((k : ℕ) (ns : List ℕ) → LineForm text k ns → ⊥) ↔ (parse text ≡ no_line)

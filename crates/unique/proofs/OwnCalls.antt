@@ -308,22 +308,22 @@ obeyed-at (inl x) = ((λ h. absurd (omega (arith, h, x.short))), (λ h. (x.no_le
 obeyed-at (inr x) = ((λ h. (x.long, x.stored, x.state)), (λ h. absurd (omega (arith, h, x.fits))))
 
 -- what `check` stores where the caller says is its results
-module _ {m : Model} {s op obj before after lookedBefore lookedAfter answer : ℕ} {t : Told} (x : Checked m s op obj t) (p : ChecksAt t before after lookedBefore lookedAfter answer) where
-  stored : (b : Bool) → eqb answer 0 ≡ b → t.results ≡ both_given b after lookedAfter
+module _ {m : Model} {s op obj before after looked_before looked_after answer : ℕ} {t : Told} (x : Checked m s op obj t) (p : ChecksAt t before after looked_before looked_after answer) where
+  stored : (b : Bool) → eqb answer 0 ≡ b → t.results ≡ both_given b after looked_after
   stored true e = let q = x.answers (sym p.answered ∙ eqb-true answer 0 e) in both q.0 q.1
     where
-      two : (a k : ℕ) → t.results ≡ a ∷ k ∷ [] → t.results ≡ after ∷ lookedAfter ∷ []
-      two a k q = q ∙ (λ i. sym (p.result ∙ ap (λ (l : List ℕ). placed l before) q) i ∷ sym (p.looked ∙ ap (λ (l : List ℕ). placed (drop 1 l) lookedBefore) q) i ∷ [])
+      two : (a k : ℕ) → t.results ≡ a ∷ k ∷ [] → t.results ≡ after ∷ looked_after ∷ []
+      two a k q = q ∙ (λ i. sym (p.result ∙ ap (λ (l : List ℕ). placed l before) q) i ∷ sym (p.looked ∙ ap (λ (l : List ℕ). placed (drop 1 l) looked_before) q) i ∷ [])
 
-      both : (k : ℕ) → (t.results ≡ 1 ∷ k ∷ []) ⊎ (t.results ≡ 0 ∷ k ∷ []) → t.results ≡ after ∷ lookedAfter ∷ []
+      both : (k : ℕ) → (t.results ≡ 1 ∷ k ∷ []) ⊎ (t.results ≡ 0 ∷ k ∷ []) → t.results ≡ after ∷ looked_after ∷ []
       both k (inl q) = two 1 k q
       both k (inr q) = two 0 k q
   stored false e = x.silent (λ z. eqb-false answer 0 e (p.answered ∙ z))
 
-  checked_at : Checked m s op obj (record { answer = answer; results = both_given (eqb answer 0) after lookedAfter; after = m }) × ((answer ≡ 0 → ⊥) → (after ≡ before) × (lookedAfter ≡ lookedBefore))
+  checked_at : Checked m s op obj (record { answer = answer; results = both_given (eqb answer 0) after looked_after; after = m }) × ((answer ≡ 0 → ⊥) → (after ≡ before) × (looked_after ≡ looked_before))
   checked_at = (
     subst (Checked m s op obj) (λ i. record { answer = sym p.answered i; results = stored (eqb answer 0) refl i; after = x.unchanged i }) x,
-    λ z. let none = x.silent (λ e. z (p.answered ∙ e)) in (p.result ∙ ap (λ (l : List ℕ). placed l before) none, p.looked ∙ ap (λ (l : List ℕ). placed (drop 1 l) lookedBefore) none),
+    λ z. let none = x.silent (λ e. z (p.answered ∙ e)) in (p.result ∙ ap (λ (l : List ℕ). placed l before) none, p.looked ∙ ap (λ (l : List ℕ). placed (drop 1 l) looked_before) none),
   )
 
 -- the length of a save is stored where it is done

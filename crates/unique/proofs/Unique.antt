@@ -27,7 +27,7 @@ use Rattle.lists.specs.Reading.{Reads}
 use Rattle.lists.specs.declared.Listed.{Listed}
 use Rattle.state.specs.Stores.{Table}
 use Rattle.state.specs.View.{Numbers, view, told}
-use Rattle.state.proofs.OneToOne.{view-one-to-one}
+use Rattle.state.proofs.OneToOne.{view_one_to_one}
 use Rattle.state.proofs.Tables as tables
 use Rattle.hierarchy.specs.Walks.{Reaches, ReachesUp, TellsCircle}
 use Rattle.sweeps.specs.Sweeps.{ShedsAll, Strips}
@@ -70,7 +70,7 @@ numbers_of l v = record { long = v.1.1.0.1; small = each-small l v.1.0 v.1.1.1 }
 
 -- two states that mean the same are one
 pub states : {m : Model} {l r : List ℕ} → State l → State r → view l ≡ m → view r ≡ m → l ≡ r
-states {l = l} {r} sl sr p q = view-one-to-one l r (numbers_of l sl) (numbers_of r sr) (p ∙ sym q)
+states {l = l} {r} sl sr p q = view_one_to_one l r (numbers_of l sl) (numbers_of r sr) (p ∙ sym q)
 
 -- two outcomes of a command that tell the same are one
 pub outcomes : {t : Told} {x y : Answer} {l r : List ℕ} → State l → State r → told x l ≡ t → told y r ≡ t → (x ≡ y) × (l ≡ r)
@@ -271,7 +271,7 @@ obeys-one sl sr (inl p) (inr q) = absurd (omega (arith, p.short, q.fits))
 obeys-one sl sr (inr p) (inl q) = absurd (omega (arith, p.fits, q.short))
 obeys-one sl sr (inr p) (inr q) = (p.long ∙ sym q.long, states sl sr p.state q.state, p.stored ∙ sym q.stored)
 
-pub checks-at-one : {told : Told} {before after after' lookedBefore n n' x y : ℕ} → calls.ChecksAt told before after lookedBefore n x → calls.ChecksAt told before after' lookedBefore n' y → (x ≡ y) × (◌≡◌ {A = ℕ × ℕ} (after, n) (after', n'))
+pub checks-at-one : {told : Told} {before after after' looked_before n n' x y : ℕ} → calls.ChecksAt told before after looked_before n x → calls.ChecksAt told before after' looked_before n' y → (x ≡ y) × (◌≡◌ {A = ℕ × ℕ} (after, n) (after', n'))
 checks-at-one p q = (p.answered ∙ sym q.answered, λ i. ((p.result ∙ sym q.result) i, (p.looked ∙ sym q.looked) i))
 
 pub loaded-one : {m : Model} {bytes : List ℕ} {x y : ℕ} {l r : List ℕ} → State l → State r → Loads m bytes (calls.loaded x l) → Loads m bytes (calls.loaded y r) → (x ≡ y) × (l ≡ r)

@@ -44,10 +44,10 @@ module _ (a b : List ℕ) (i : ℕ) (p : i < length a) (q : i < length b) where
   apart = rw (drop-cons a i 0 p, drop-cons b i 0 q, add-one i)
 
   pub turn_differs : (get_or a i 0 ≡ get_or b i 0 → ⊥) → same (drop i a) (drop i b) ≡ false
-  turn-differs n = apart ∙ rw (ne_eqb (get_or a i 0) (get_or b i 0) n)
+  turn_differs n = apart ∙ rw (ne_eqb (get_or a i 0) (get_or b i 0) n)
 
   pub turn_equal : get_or a i 0 ≡ get_or b i 0 → same (drop i a) (drop i b) ≡ same (drop (i + 1) a) (drop (i + 1) b)
-  turn-equal e = apart ∙ rw (eq-eqb (get_or a i 0) (get_or b i 0) e)
+  turn_equal e = apart ∙ rw (eq-eqb (get_or a i 0) (get_or b i 0) e)
 
 pub all-passed : (a b : List ℕ) (i : ℕ) → length a ≤ i → length b ≤ i → same (drop i a) (drop i b) ≡ true
 unfolding same

@@ -92,17 +92,17 @@ module _ (l : List ℕ) (i : ℕ) where
   so_far n = rw (one_more n, append_assoc (take i l) (get_or l i 32 ∷ []) (left l (i + 1)), add-one i, goes_on l i n)
 
   pub all_put : get_or l i 32 ≡ 32 → take i l ≡ take i l ++ left l i
-  all-put e = rw (ends-here l i e) (sym (append-nil (take i l)))
+  all_put e = rw (ends-here l i e) (sym (append-nil (take i l)))
 
 -- one turn of the comparison of a text with these letters
 module _ (a l : List ℕ) (i : ℕ) where
   pub text_longer : i < length a → get_or l i 32 ≡ 32 → same (drop i a) (left l i) ≡ false
   unfolding same
-  text-longer p e = rw (ends-here l i e, drop-cons a i 0 p)
+  text_longer p e = rw (ends-here l i e, drop-cons a i 0 p)
 
   pub text_ended : length a ≤ i → same (drop i a) (left l i) ≡ eqb (get_or l i 32) 32
   unfolding same
-  text-ended p = go (eqb (get_or l i 32) 32) refl
+  text_ended p = go (eqb (get_or l i 32) 32) refl
     where
       go : (t : Bool) → eqb (get_or l i 32) 32 ≡ t → same (drop i a) (left l i) ≡ t
       go true e = rw (drop_of_length-le a p, ends-here l i (eqb-true _ _ e))
@@ -110,12 +110,12 @@ module _ (a l : List ℕ) (i : ℕ) where
 
   pub letter_equal : i < length a → get_or a i 0 ≡ get_or l i 32 → (get_or l i 32 ≡ 32 → ⊥) → same (drop i a) (left l i) ≡ same (drop (i + 1) a) (left l (i + 1))
   unfolding same
-  letter-equal p e n = rw (drop-cons a i 0 p, goes_on l i n, eq-eqb (get_or a i 0) (get_or l i 32) e, add-one i)
+  letter_equal p e n = rw (drop-cons a i 0 p, goes_on l i n, eq-eqb (get_or a i 0) (get_or l i 32) e, add-one i)
 
   pub letter_differs : i < length a → (get_or a i 0 ≡ get_or l i 32 → ⊥) → same (drop i a) (left l i) ≡ false
   unfolding same
-  letter-differs p d = go (eqb (get_or l i 32) 32) refl
+  letter_differs p d = go (eqb (get_or l i 32) 32) refl
     where
       go : (t : Bool) → eqb (get_or l i 32) 32 ≡ t → same (drop i a) (left l i) ≡ false
-      go true e = text-longer p (eqb-true _ _ e)
+      go true e = text_longer p (eqb-true _ _ e)
       go false e = rw (drop-cons a i 0 p, goes_on l i (eqb-false _ _ e), ne_eqb (get_or a i 0) (get_or l i 32) d)

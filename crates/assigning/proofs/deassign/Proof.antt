@@ -12,7 +12,7 @@ use Rattle.model.specs.commands.Assigning.{deassign, deassigned}
 use Rattle.model.specs.commands.Naming.{user_beyond, role_beyond, user_missing, role_missing}
 use Rattle.state.specs.View.{view, told}
 use Rattle.state.proofs.Stored.{within}
-use Rattle.assigning.proofs.Laws.{assigned-stored, deassigned-shed}
+use Rattle.assigning.proofs.Laws.{assigned-stored, deassigned_shed}
 use Rattle.assigning.proofs.deassign.Statement.{statement}
 use Rattle.assigning.proofs.deassign.Tie as tie
 
@@ -72,7 +72,7 @@ stored c =
     let w = t.before.before.before.before in
     let c1 = to-1 (to-2 (to-3 swept)) in
     let s = to_start c1 in
-    deassigned-shed s.args.state.now t.before.before.juniors_table.result t.assigned_table.result (user s) (role s) w.without.result swept.shed.result (within-range c1) (left w) t.before.before.juniors_table.ensures t.assigned_table.ensures swept.shed.ensures _ _
+    deassigned_shed s.args.state.now t.before.before.juniors_table.result t.assigned_table.result (user s) (role s) w.without.result swept.shed.result (within-range c1) (left w) t.before.before.juniors_table.ensures t.assigned_table.ensures swept.shed.ensures _ _
     (assigned-stored (m s) _ (user s) _ _ _ _ (left w) (counted.less.ensures ∙ ap (λ (n : ℕ). n - 1) counted.before.assignment_count.ensures) (within-range c1) c.before.before.before.put_assigned.ensures)
     c.put_all_active.ensures
 

@@ -10,7 +10,7 @@ use lib.Seq.{length-take-le}
 use Rattle.model.specs.Model.{empty}
 use Rattle.text.proofs.Putting.{put-length}
 use Rattle.script.specs.Script.{run_script}
-use Rattle.program.proofs.Placing.{Handing, hands-all, hands_none, hands_on, piece-within, piece-next, calls-fewer, count_small}
+use Rattle.program.proofs.Placing.{Handing, hands-all, hands_none, hands_on, piece_within, piece_next, calls_fewer, count_small}
 use Rattle.program.proofs.Whole.{calls_left}
 use Rattle.bench.proofs.print_all.Statement.{statement}
 use Rattle.bench.proofs.print_all.Tie as tie
@@ -27,7 +27,7 @@ room : (c : tie.After-next invariant-loop decreases-loop) → 24582 ≤ length c
 room c = omega (arith, c.before.before.before.before.before.loop.invariant.0)
 
 within : (c : tie.After-next invariant-loop decreases-loop) → c.next.result.len ≤ length c.next.new.1.1.1.0
-within c = piece-within _ _ _ _ _ _ _ _ _ (room c) c.before.before.before.before.before.loop.invariant.1 (not-true _ c.before.before.before.if1.true) c.next.ensures
+within c = piece_within _ _ _ _ _ _ _ _ _ (room c) c.before.before.before.before.before.loop.invariant.1 (not-true _ c.before.before.before.if1.true) c.next.ensures
 
 -- it is written, and counted
 wrote : (c : tie.After-run invariant-loop decreases-loop) → c.before.before.write-next.new.1.0 ≡ c.before.before.before.before.before.before.before.before.before.before.before.loop.count + c.before.before.before.before.before.before.next.result.len
@@ -47,7 +47,7 @@ slice-aggregate-write-next c = sym (length-take-le _ _ (within c.before.before.b
 write-next-requires : tie.Need-write-next-requires invariant-loop decreases-loop
 unfolding run_script
 write-next-requires c κs = (
-  piece-next _ _ _ _ _ _ _ _ _ (room c.before.before.before) c.before.before.before.before.before.before.before.before.loop.invariant.1 (not-true _ c.before.before.before.before.before.before.if1.true) c.before.before.before.next.ensures,
+  piece_next _ _ _ _ _ _ _ _ _ (room c.before.before.before) c.before.before.before.before.before.before.before.before.loop.invariant.1 (not-true _ c.before.before.before.before.before.before.if1.true) c.before.before.before.next.ensures,
   omega (arith, count_small _ _ _ _ _ _ _ _ _ (room c.before.before.before) c.before.before.before.before.before.before.before.before.loop.invariant.1 (not-true _ c.before.before.before.before.before.before.if1.true) c.before.before.before.next.ensures, length-take-le c.before.before.before.next.result.len c.before.before.before.next.new.1.1.1.0 (within c.before.before.before)),
 )
 
@@ -56,7 +56,7 @@ returns : tie.Need-returns invariant-loop decreases-loop
 returns c = λ e. let z : ◌≡◌ {A = ℕ} 0 1 = cc in omega arith
 
 loop-less : tie.Need-loop-smaller invariant-loop decreases-loop
-loop-less c = calls-fewer _ _ _ _ _ _ _ _ _ (room c.before.before.before.before.before.before) c.before.before.before.before.before.before.before.before.before.before.before.loop.invariant.1 (not-true _ c.before.before.before.before.before.before.before.before.before.if1.true) c.before.before.before.before.before.before.next.ensures
+loop-less c = calls_fewer _ _ _ _ _ _ _ _ _ (room c.before.before.before.before.before.before) c.before.before.before.before.before.before.before.before.before.before.before.loop.invariant.1 (not-true _ c.before.before.before.before.before.before.before.before.before.if1.true) c.before.before.before.before.before.before.next.ensures
 
 loop-again : tie.Need-loop-preserved invariant-loop decreases-loop
 loop-again c = (put-length c.before.before.before.before.before.before.next.ensures.puts.text ∙ c.before.before.before.before.before.before.before.before.before.before.before.loop.invariant.0, rw (wrote c) (hands_on _ _ _ _ _ _ _ _ _ (room c.before.before.before.before.before.before) c.before.before.before.before.before.before.before.before.before.before.before.loop.invariant.1 (not-true _ c.before.before.before.before.before.before.before.before.before.if1.true) c.before.before.before.before.before.before.next.ensures))

@@ -10,7 +10,7 @@ use Rattle.roleset.proofs.Laws.{without-small}
 use Rattle.roleset.proofs.Taking.{not-zero, Taken, lowest-taken}
 use Rattle.numbers.specs.declared.Answer.TheVariants.{Done}
 use Rattle.checking.specs.declared.Checked.{Checked}
-use Rattle.checking.proofs.Looking.{found, seen, seen_most, seen_none, found_none, passed-seen, passed-found, held-seen, held_found}
+use Rattle.checking.proofs.Looking.{found, seen, seen_most, seen_none, found_none, passed_seen, passed_found, held_seen, held_found}
 use Rattle.checking.proofs.look.Statement.{statement}
 use Rattle.checking.proofs.look.Tie as tie
 
@@ -50,7 +50,7 @@ returns c =
     let held : has holders r ≡ true = sym c.before.has.ensures ∙ c.if1.true in
     told _ _ _ _
     (sym (held_found rest r holders (taken here).small (low here) held) ∙ (at here).loop.invariant.2)
-    (omega (arith, held-seen rest r holders (taken here).small (low here) held, (at here).loop.invariant.1))
+    (omega (arith, held_seen rest r holders (taken here).small (low here) held, (at here).loop.invariant.1))
 
 -- not this one: it is dropped
 loop-less : tie.Need-loop-smaller invariant-loop decreases-loop
@@ -64,8 +64,8 @@ loop-again c =
     let off : has (start here).args.holders r ≡ false = sym c.before.before.has.ensures ∙ c.before.if1.false in
     let gone : c.without.result ≡ without rest r = c.without.ensures.is in (
       rw gone (without-small rest r),
-      omega (arith, ap (λ (s : ℕ). seen s (start here).args.holders) gone, passed-seen rest r (start here).args.holders (taken here).small (low here) off, (at here).loop.invariant.1),
-      ap (λ (s : ℕ). found s (start here).args.holders) gone ∙ passed-found rest r (start here).args.holders (taken here).small (low here) off ∙ (at here).loop.invariant.2,
+      omega (arith, ap (λ (s : ℕ). seen s (start here).args.holders) gone, passed_seen rest r (start here).args.holders (taken here).small (low here) off, (at here).loop.invariant.1),
+      ap (λ (s : ℕ). found s (start here).args.holders) gone ∙ passed_found rest r (start here).args.holders (taken here).small (low here) off ∙ (at here).loop.invariant.2,
     )
 
 -- no: none is left

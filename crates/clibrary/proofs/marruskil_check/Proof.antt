@@ -9,7 +9,7 @@ use Rattle.model.specs.commands.Sessions.{check}
 use Rattle.state.specs.View.{view}
 use Rattle.state.specs.Results.{is_done}
 use Rattle.checking.specs.Answering.{Checks}
-use Rattle.clibrary.proofs.Calling.{check-sixteen, checked-done, checked_refused}
+use Rattle.clibrary.proofs.Calling.{check_sixteen, checked-done, checked_refused}
 use Rattle.clibrary.proofs.marruskil_check.Statement.{statement}
 use Rattle.clibrary.proofs.marruskil_check.Tie as tie
 
@@ -18,7 +18,7 @@ start c = c.before.before.before.before
 
 -- what was asked with sixteen bits is what was asked
 checks : (c : tie.After-check) → Checks (view (start c).args.state.now) (check (view (start c).args.state.now) (start c).args.session (start c).args.operation (start c).args.object) c.check.result
-checks c = rw (← check-sixteen (view (start c).args.state.now) (start c).args.session (start c).args.operation (start c).args.object, ← c.before.before.before.sixteen.ensures, ← c.before.before.sixteen2.ensures, ← c.before.sixteen3.ensures) c.check.ensures
+checks c = rw (← check_sixteen (view (start c).args.state.now) (start c).args.session (start c).args.operation (start c).args.object, ← c.before.before.before.sixteen.ensures, ← c.before.before.sixteen2.ensures, ← c.before.sixteen3.ensures) c.check.ensures
 
 as_number : (t : Bool) → bool_byte t ≡ bit t
 as_number true = refl

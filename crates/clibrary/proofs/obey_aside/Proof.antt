@@ -20,16 +20,16 @@ abbrev start : tie.After-answer-line → tie.Start
 start c = c.before.before.before.before.before
 
 -- what the line tells
-abbrev toldBy : tie.After-answer-line → Told
-toldBy c = obey (view (start c).args.state.now) (start c).args.line.now
+abbrev told_by : tie.After-answer-line → Told
+told_by c = obey (view (start c).args.state.now) (start c).args.line.now
 
-short : (c : tie.After-answer-line) → length (answer_line (toldBy c)) ≤ length (replicate {A = ℕ} 24582 0)
+short : (c : tie.After-answer-line) → length (answer_line (told_by c)) ≤ length (replicate {A = ℕ} 24582 0)
 short c = omega (arith, longest-answer.holds (view (start c).args.state.now) (start c).args.line.now, length-replicate {A = ℕ} 24582 0)
 
-whole : (c : tie.After-answer-line) → c.answer_line.result.len ≡ length (answer_line (toldBy c))
+whole : (c : tie.After-answer-line) → c.answer_line.result.len ≡ length (answer_line (told_by c))
 whole c = put_whole c.answer_line.ensures.puts.text (short c)
 
-front : (c : tie.After-answer-line) → take c.answer_line.result.len c.answer_line.new.1.1.0 ≡ answer_line (toldBy c)
+front : (c : tie.After-answer-line) → take c.answer_line.result.len c.answer_line.new.1.1.0 ≡ answer_line (told_by c)
 front c = put_front c.answer_line.ensures.puts.text (short c)
 
 within : (c : tie.After-answer-line) → c.answer_line.result.len ≤ length c.answer_line.new.1.1.0
@@ -42,7 +42,7 @@ commands c = (start c).requires
 returns : tie.Need-returns
 returns c =
     let asked = c.before.before in
-    let long : length (start asked).args.out.now < length (answer_line (toldBy asked)) = omega (arith, whole asked, c.if1.true) in
+    let long : length (start asked).args.out.now < length (answer_line (told_by asked)) = omega (arith, whole asked, c.if1.true) in
     inl (record { short = long; no_length = refl; untouched = refl; unchanged = asked.answer_line.ensures.state ∙ longest-answer.commands (view (start asked).args.state.now) (start asked).args.line.now (omega (arith, commands asked, long)) })
 
 slice-aggregate-put-text : tie.Need-slice-aggregate-put-text
@@ -51,7 +51,7 @@ slice-aggregate-put-text c = sym (length-take-le _ _ (within c.before.before.bef
 returns-2 : tie.Need-returns-2
 returns-2 c =
     let asked = c.before.before.before.before.before.before.before in
-    let fits : length (answer_line (toldBy asked)) ≤ length (start asked).args.out.now = omega (arith, whole asked, c.before.before.before.before.before.if1.false) in
+    let fits : length (answer_line (told_by asked)) ≤ length (start asked).args.out.now = omega (arith, whole asked, c.before.before.before.before.before.if1.false) in
     inr
     (record {
       fits = fits;

@@ -21,19 +21,19 @@ abbrev start : tie.After-answer-line → tie.Start
 start c = c.before.before.before.before.before.before.before.before
 
 -- what the line tells, asked of the state
-abbrev toldBy : tie.After-answer-line → Told
-toldBy c = obey (view (start c).args.state.now) (start c).args.line.now
+abbrev told_by : tie.After-answer-line → Told
+told_by c = obey (view (start c).args.state.now) (start c).args.line.now
 
-answers : (c : tie.After-answer-line) → Answers (toldBy c) (replicate 24582 0) c.answer_line.new.1.1.0 c.answer_line.result c.answer_line.new.0
+answers : (c : tie.After-answer-line) → Answers (told_by c) (replicate 24582 0) c.answer_line.new.1.1.0 c.answer_line.result c.answer_line.new.0
 answers c = rw (← c.before.before.before.put_all.ensures) c.answer_line.ensures
 
-short : (c : tie.After-answer-line) → length (answer_line (toldBy c)) ≤ length (replicate {A = ℕ} 24582 0)
+short : (c : tie.After-answer-line) → length (answer_line (told_by c)) ≤ length (replicate {A = ℕ} 24582 0)
 short c = omega (arith, longest-answer.holds (view (start c).args.state.now) (start c).args.line.now, length-replicate {A = ℕ} 24582 0)
 
-whole : (c : tie.After-answer-line) → c.answer_line.result.len ≡ length (answer_line (toldBy c))
+whole : (c : tie.After-answer-line) → c.answer_line.result.len ≡ length (answer_line (told_by c))
 whole c = put_whole (answers c).puts.text (short c)
 
-front : (c : tie.After-answer-line) → take c.answer_line.result.len c.answer_line.new.1.1.0 ≡ answer_line (toldBy c)
+front : (c : tie.After-answer-line) → take c.answer_line.result.len c.answer_line.new.1.1.0 ≡ answer_line (told_by c)
 front c = put_front (answers c).puts.text (short c)
 
 within : (c : tie.After-answer-line) → c.answer_line.result.len ≤ length c.answer_line.new.1.1.0
@@ -48,7 +48,7 @@ slice-aggregate-put-text c = sym (length-take-le _ _ (within c.before.before.bef
 returns-2 : tie.Need-returns-2
 returns-2 c =
     let asked = c.before.before.before.before.before.before.before.before.before.before in
-    let fits : length (answer_line (toldBy asked)) ≤ length (start asked).args.out.now = omega (arith, whole asked, c.before.before.before.before.before.before.before.before.if1.false) in
+    let fits : length (answer_line (told_by asked)) ≤ length (start asked).args.out.now = omega (arith, whole asked, c.before.before.before.before.before.before.before.before.if1.false) in
     inr
     (record {
       fits = fits;

@@ -6,7 +6,7 @@ use mathlib.Core.Path.{◌≡◌, sym, ◌∙◌}
 use native.Mathlib.Omega.{arith}
 use Rattle.model.specs.Questions.{ask}
 use Rattle.state.specs.Results.{is_done}
-use Rattle.engine.proofs.Asking.{check-refused, check-short, check_done}
+use Rattle.engine.proofs.Asking.{check_refused, check_short, check_done}
 use Rattle.engine.proofs.check.Statement.{statement}
 use Rattle.engine.proofs.check.Tie as tie
 
@@ -16,11 +16,11 @@ answered c = sym c.before.is_done.ensures ∙ not-false _ c.if1.false
 
 returns : tie.Need-returns
 unfolding ask
-returns c = check-refused _ _ _ _ c.before.before.check.ensures.tells (sym c.before.is_done.ensures ∙ not-true _ c.if1.true)
+returns c = check_refused _ _ _ _ c.before.before.check.ensures.tells (sym c.before.is_done.ensures ∙ not-true _ c.if1.true)
 
 returns-2 : tie.Need-returns-2
 unfolding ask
-returns-2 c = check-short _ _ c.before.before.before.check.result _ c.before.before.before.check.ensures.tells (answered c.before) (omega (arith, c.if2.true))
+returns-2 c = check_short _ _ c.before.before.before.check.result _ c.before.before.before.check.ensures.tells (answered c.before) (omega (arith, c.if2.true))
 
 returns-3 : tie.Need-returns-3
 unfolding ask

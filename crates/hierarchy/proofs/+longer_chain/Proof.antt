@@ -4,7 +4,7 @@ use native.Mathlib.Omega.{arith}
 use Rattle.roleset.proofs.Laws.{is_empty-none}
 use Rattle.roleset.proofs.Taking.{not-zero}
 use Rattle.hierarchy.specs.Lines.{table_of}
-use Rattle.hierarchy.proofs.ChainLaws.{longer-empty, longer-stopped}
+use Rattle.hierarchy.proofs.ChainLaws.{longer_empty, longer_stopped}
 use Rattle.hierarchy.proofs.Fronts.{longer-step}
 use borrow.Fn.Kinds.{In}
 use borrow.Fn.PlainCycle.{Measures, is, falls, and}
@@ -38,7 +38,7 @@ longer-chain-returns : (t : ℕ) → longer-chain-lts.Need-returns (
 ) (longer-chain-at t) longer-chain.Post
 longer-chain-returns t c =
     let start = c.before in
-    rw (longer-empty (table_of start.args.juniors.now) start.args.allowed start.args.front (rw c.if1.true is_empty-none))
+    rw (longer_empty (table_of start.args.juniors.now) start.args.allowed start.args.front (rw c.if1.true is_empty-none))
 
 longer-chain-returns-2 : (t : ℕ) → longer-chain-lts.Need-returns-2 (
   juniors-of-reads.Asked,
@@ -48,7 +48,7 @@ longer-chain-returns-2 : (t : ℕ) → longer-chain-lts.Need-returns-2 (
 ) (longer-chain-at t) longer-chain.Post
 longer-chain-returns-2 t c =
     let start = c.before.before in
-    rw (c.if2.true, longer-stopped (table_of start.args.juniors.now) start.args.front (not-zero start.args.front start.ranges.front.fits c.before.if1.false))
+    rw (c.if2.true, longer_stopped (table_of start.args.juniors.now) start.args.front (not-zero start.args.front start.ranges.front.fits c.before.if1.false))
 
 longer-chain-juniors-of-requires : (t : ℕ) → longer-chain-lts.Need-juniors-of-requires (
   juniors-of-reads.Asked,

@@ -4,7 +4,7 @@ use mathlib.Core.Path.{sym}
 use native.Mathlib.Omega.{arith}
 use Rattle.roleset.proofs.Laws.{is_empty-none}
 use Rattle.hierarchy.specs.Lines.{table_of}
-use Rattle.hierarchy.proofs.WalkLaws.{walk-empty, walk-stopped}
+use Rattle.hierarchy.proofs.WalkLaws.{walk_empty, walk_stopped}
 use Rattle.roleset.proofs.Taking.{not-zero}
 use Rattle.hierarchy.proofs.Fronts.{union-none, walk_step}
 use borrow.Fn.Kinds.{In}
@@ -37,7 +37,7 @@ walk-from-returns : (t : ℕ) → walk-from-lts.Need-returns (
 ) (walk-from-at t) walk-from.Post
 walk-from-returns t c =
     let start = c.before in
-    rw (walk-empty (table_of start.args.juniors.now) start.args.allowed start.args.front (rw c.if1.true is_empty-none)) (sym (union-none start.args.met start.ranges.met.fits))
+    rw (walk_empty (table_of start.args.juniors.now) start.args.allowed start.args.front (rw c.if1.true is_empty-none)) (sym (union-none start.args.met start.ranges.met.fits))
 
 walk-from-returns-2 : (t : ℕ) → walk-from-lts.Need-returns-2 (
   juniors-of-reads.Asked,
@@ -49,7 +49,7 @@ walk-from-returns-2 : (t : ℕ) → walk-from-lts.Need-returns-2 (
 ) (walk-from-at t) walk-from.Post
 walk-from-returns-2 t c =
     let start = c.before.before in
-    rw (c.if2.true, walk-stopped (table_of start.args.juniors.now) start.args.front) (sym (union-none start.args.met start.ranges.met.fits))
+    rw (c.if2.true, walk_stopped (table_of start.args.juniors.now) start.args.front) (sym (union-none start.args.met start.ranges.met.fits))
 
 walk-from-juniors-of-requires : (t : ℕ) → walk-from-lts.Need-juniors-of-requires (
   juniors-of-reads.Asked,

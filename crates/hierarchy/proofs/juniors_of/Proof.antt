@@ -7,7 +7,7 @@ use Rattle.roleset.proofs.Laws.{union-small, without-small}
 use Rattle.hierarchy.specs.Lines.{table_of}
 use Rattle.hierarchy.specs.Walks.{juniors_of}
 use Rattle.roleset.proofs.Taking.{Taken, lowest-taken}
-use Rattle.hierarchy.proofs.Fronts.{juniors-step, juniors-begin, juniors-end}
+use Rattle.hierarchy.proofs.Fronts.{juniors_step, juniors_begin, juniors_end}
 use Rattle.hierarchy.proofs.juniors_of.Statement.{statement}
 use Rattle.hierarchy.proofs.juniors_of.Tie as tie
 
@@ -18,7 +18,7 @@ abbrev decreases-loop : tie.decreases-loop
 decreases-loop juniors front met₀ rest₀ met rest = count rest
 
 loop-holds : tie.Need-loop-init invariant-loop decreases-loop
-loop-holds c = (omega arith, omega arith, juniors-begin (table_of c.args.juniors.now) c.args.front)
+loop-holds c = (omega arith, omega arith, juniors_begin (table_of c.args.juniors.now) c.args.front)
 
 -- the role taken is one that is left
 taken : (c : tie.After-lowest invariant-loop decreases-loop) → Taken c.before.before.loop.rest c.lowest.result
@@ -28,12 +28,12 @@ loop-less : tie.Need-loop-smaller invariant-loop decreases-loop
 loop-less c = omega (arith, ap count c.without.ensures.is, (taken c.before.before.before).fewer)
 
 loop-again : tie.Need-loop-preserved invariant-loop decreases-loop
-loop-again c = (rw c.before.union.ensures.is (union-small _ _), rw c.without.ensures.is (without-small _ _), rw (c.before.union.ensures.is, c.without.ensures.is) (juniors-step (table_of c.before.before.before.before.before.before.args.juniors.now) c.before.before.before.before.before.loop.rest c.before.before.before.lowest.result (taken c.before.before.before).small (taken c.before.before.before).member c.before.before.before.before.before.loop.met ∙ c.before.before.before.before.before.loop.invariant.2))
+loop-again c = (rw c.before.union.ensures.is (union-small _ _), rw c.without.ensures.is (without-small _ _), rw (c.before.union.ensures.is, c.without.ensures.is) (juniors_step (table_of c.before.before.before.before.before.before.args.juniors.now) c.before.before.before.before.before.loop.rest c.before.before.before.lowest.result (taken c.before.before.before).small (taken c.before.before.before).member c.before.before.before.before.before.loop.met ∙ c.before.before.before.before.before.loop.invariant.2))
 
 returns : tie.Need-returns invariant-loop decreases-loop
 returns c =
     let lines = table_of c.before.before.args.juniors.now in
-    sym (juniors-end lines c.before.loop.met c.before.loop.invariant.0) ∙ (rw c.loop-test.false at c.before.loop.invariant.2)
+    sym (juniors_end lines c.before.loop.met c.before.loop.invariant.0) ∙ (rw c.loop-test.false at c.before.loop.invariant.2)
 
 pub juniors-of-spec : {M : Type 1} → statement M
 juniors-of-spec =

@@ -13,7 +13,7 @@ use Rattle.model.specs.commands.Naming.{role_beyond, role_missing}
 use Rattle.state.specs.View.{view, told}
 use Rattle.sweeps.proofs.Shedding.{view-past}
 use Rattle.state.proofs.Stored.{within}
-use Rattle.inheriting.proofs.Laws.{unlined-stored}
+use Rattle.inheriting.proofs.Laws.{unlined_stored}
 use Rattle.inheriting.proofs.disinherit.Statement.{statement}
 use Rattle.inheriting.proofs.disinherit.Tie as tie
 
@@ -89,7 +89,7 @@ stored c =
     let holds = swept.before.before.before.before in
     let put = c.before.before.before in
     let left = put.before.before in
-    unlined-stored (m s) (senior s) (junior s) (within-range (to-1 (to-2 c3))) table.before.before.without.result (new table.before.before) table.juniors_table.result holds.assigned_table.result swept.shed.result table.juniors_table.ensures holds.assigned_table.ensures swept.shed.ensures
+    unlined_stored (m s) (senior s) (junior s) (within-range (to-1 (to-2 c3))) table.before.before.without.result (new table.before.before) table.juniors_table.result holds.assigned_table.result swept.shed.result table.juniors_table.ensures holds.assigned_table.ensures swept.shed.ensures
     (view-past s.args.state.now) (view put.put_juniors.new.0) (view c.put_all_active.new.0) left.less.result (left.less.ensures ∙ ap (λ (n : ℕ). n - 1) left.before.line_count.ensures) put.put_juniors.ensures c.put_all_active.ensures
 
 returns : tie.Need-returns

@@ -22,7 +22,7 @@ use Rattle.model.specs.declared.Kind.TheVariants.{Static, Dynamic}
 use Rattle.state.specs.View.{view, told}
 use Rattle.state.proofs.Stored.{within}
 use Rattle.sweeps.specs.Sweeps.{asks_rule}
-use Rattle.inheriting.proofs.Laws.{asks-lined, lined-stored}
+use Rattle.inheriting.proofs.Laws.{asks_lined, lined_stored}
 use Rattle.inheriting.proofs.inherit.Statement.{statement}
 use Rattle.inheriting.proofs.inherit.Tie as tie
 
@@ -117,7 +117,7 @@ asked : (c : tie.After-juniors-table) (kind : Kind) → let s = start-4 c.before
 asked c kind =
     let c4 = c.before.before.before in
     let s = start-4 c4 in
-    asks-lined (m s) (senior s) (junior s) (within-range (to-1 (to-2 (to-3 c4)))) c.before.before.with2.result (new c.before.before) kind c.juniors_table.result c.juniors_table.ensures
+    asks_lined (m s) (senior s) (junior s) (within-range (to-1 (to-2 (to-3 c4)))) c.before.before.with2.result (new c.before.before) kind c.juniors_table.result c.juniors_table.ensures
 
 found-5 : (c : tie.After-ask-rule) → let s = start-4 (to-4 c) in some 256 (static_broken (lined (m s) (senior s) (junior s))) ≡ c.ask_rule.result
 found-5 c = sym (c.ask_rule.ensures ∙ asked c.before.before.before.before Static)
@@ -145,7 +145,7 @@ stored c =
     let c4 = to-4 ask in
     let s = start-4 c4 in
     let with-line = ask.before.before.before.before.before.before in
-    lined-stored (m s) (senior s) (junior s) (within-range (to-1 (to-2 (to-3 c4)))) with-line.with2.result (new with-line) (view c.put_juniors.new.0) c7.before.line_count.result c7.before.line_count.ensures c.put_juniors.ensures
+    lined_stored (m s) (senior s) (junior s) (within-range (to-1 (to-2 (to-3 c4)))) with-line.with2.result (new with-line) (view c.put_juniors.new.0) c7.before.line_count.result c7.before.line_count.ensures c.put_juniors.ensures
 
 returns : tie.Need-returns
 unfolding told inherit settle verdict

@@ -8,7 +8,7 @@ use native.Mathlib.Omega.{arith}
 use lib.ListN.{length, get_or, drop}
 use Rattle.roleset.proofs.Laws.{with-small}
 use Rattle.model.specs.Lists.{rising, some_from, set_of}
-use Rattle.lists.proofs.Turns.{joining, turn_low, turn-high, turn-beyond, turn-within, turn-joins, joining-start, end-rising, end-beyond, end-joins}
+use Rattle.lists.proofs.Turns.{joining, turn_low, turn_high, turn_beyond, turn_within, turn_joins, joining-start, end_rising, end_beyond, end_joins}
 use Rattle.lists.proofs.read.Statement.{statement}
 use Rattle.lists.proofs.read.Tie as tie
 
@@ -44,21 +44,21 @@ loop-again c =
     let rises : (c.before.before.if1.ascending && rising (get_or list i 0 + 1) (drop (i + 1) list)) ≡ rising 0 list =
     ⊎_elim
     (λ w. rw w.1 (sym (turn_low list i l at.loop.ascending at.loop.bound w.0.taken) ∙ inv.1))
-    (λ w. rw w.1 (sym (turn-high list i l at.loop.ascending at.loop.bound w.0.left) ∙ inv.1))
+    (λ w. rw w.1 (sym (turn_high list i l at.loop.ascending at.loop.bound w.0.left) ∙ inv.1))
     c.before.before.if1.branch in
     let within : (c.before.if2.beyond || some_from 64 (drop (i + 1) list)) ≡ some_from 64 list =
     ⊎_elim
-    (λ w. rw w.1 (sym (turn-beyond list i l at.loop.beyond 64 w.0.taken) ∙ inv.2))
-    (λ w. rw w.1 (sym (turn-within list i l at.loop.beyond 64 w.0.left) ∙ inv.2))
+    (λ w. rw w.1 (sym (turn_beyond list i l at.loop.beyond 64 w.0.taken) ∙ inv.2))
+    (λ w. rw w.1 (sym (turn_within list i l at.loop.beyond 64 w.0.left) ∙ inv.2))
     c.before.if2.branch in
-    ((omega arith, rw c.with.ensures.is (with-small _ _)), rises, within, rw c.with.ensures.is (turn-joins list i l at.loop.roles ∙ inv.3))
+    ((omega arith, rw c.with.ensures.is (with-small _ _)), rises, within, rw c.with.ensures.is (turn_joins list i l at.loop.roles ∙ inv.3))
 
 returns : tie.Need-returns invariant-loop decreases-loop
 returns c =
     let at = c.before.loop in
     let list = c.before.before.before.args.list.now in
     let l : length list ≤ at.i = omega arith in
-    record { ascending = sym (end-rising list at.i l at.ascending at.bound) ∙ at.invariant.1; beyond = sym (end-beyond list at.i l at.beyond 64) ∙ at.invariant.2; roles = sym (end-joins list at.i l at.roles at.invariant.0.1) ∙ at.invariant.3 }
+    record { ascending = sym (end_rising list at.i l at.ascending at.bound) ∙ at.invariant.1; beyond = sym (end_beyond list at.i l at.beyond 64) ∙ at.invariant.2; roles = sym (end_joins list at.i l at.roles at.invariant.0.1) ∙ at.invariant.3 }
 
 pub read_spec : {M : Type 1} → statement M
 read_spec =

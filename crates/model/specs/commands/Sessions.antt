@@ -88,7 +88,7 @@ end m u s =
     (1 when (user_beyond u || session_beyond s) ∷ 2 when (user_missing m u || session_missing m s) ∷ 3 when not_owner m u s ∷ [])
     m
     []
-    (session_set m s model.closedSession)
+    (session_set m s model.closed_session)
 
 -- "Yes exactly when some effective role of the session holds the grant."
 unfoldable pub permitted : Model → ℕ → ℕ → Bool

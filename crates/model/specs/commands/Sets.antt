@@ -70,7 +70,7 @@ make_set kind m name n list =
 -- "`nossd name`: 1, 2."
 unfoldable pub drop_set : Kind → Model → ℕ → Told
 drop_set kind m name =
-    settle (1 when set_beyond name ∷ 2 when set_missing kind m name ∷ []) m [] (with_sets kind m (put (sets_of kind m) name model.absentSet))
+    settle (1 when set_beyond name ∷ 2 when set_missing kind m name ∷ []) m [] (with_sets kind m (put (sets_of kind m) name model.absent_set))
 
 -- "`ssd-add name r`: 1, 2, 4, 10."
 unfoldable pub add_member : Kind → Model → ℕ → ℕ → Told

@@ -21,7 +21,7 @@ open_of u s = s.live && eqb s.owner u
 
 -- the session of the user u ends; another's stays
 unfoldable pub ended_of : ℕ → Session → Session
-ended_of u s = elim (open_of u s) [ true ↦ model.closedSession | false ↦ s ]
+ended_of u s = elim (open_of u s) [ true ↦ model.closed_session | false ↦ s ]
 
 unfoldable pub all_ended : Model → ℕ → Model
 all_ended m u = with_sessions m (λ k. ended_of u (m.sessions k))

@@ -5,8 +5,8 @@ use native.Mathlib.Omega.{arith}
 use Rattle.roleset.specs.Roles.{has}
 use Rattle.state.specs.View.{view}
 use Rattle.policycheck.specs.Tests.{Tells, Backed}
-use Rattle.policycheck.proofs.Passing.{Passed, passed_none, passed-more, passed-all, stopped, backed-none}
-use Rattle.policycheck.proofs.Ranges.{no-assigned}
+use Rattle.policycheck.proofs.Passing.{Passed, passed_none, passed_more, passed_all, stopped, backed-none}
+use Rattle.policycheck.proofs.Ranges.{no_assigned}
 use Rattle.policycheck.proofs.assignees.Statement.{statement}
 use Rattle.policycheck.proofs.assignees.Tie as tie
 
@@ -24,13 +24,13 @@ loop-holds : tie.Need-loop-init invariant-loop decreases-loop
 loop-holds c = passed_none
 
 loop-again : tie.Need-loop-preserved invariant-loop decreases-loop
-loop-again c = passed-more (omega arith) c.before.before.before.before.before.loop.invariant ((asked c.before).holds c.if1.true)
+loop-again c = passed_more (omega arith) c.before.before.before.before.before.loop.invariant ((asked c.before).holds c.if1.true)
 
 returns : tie.Need-returns invariant-loop decreases-loop
 returns c = stopped c.before.before.before.before.before.loop.k (asked c.before).says c.if1.false
 
 returns-2 : tie.Need-returns-2 invariant-loop decreases-loop
-returns-2 c = passed-all (omega arith) c.before.loop.invariant (λ k h. rw (no-assigned c.before.before.args.state.now k h) (backed-none _))
+returns-2 c = passed_all (omega arith) c.before.loop.invariant (λ k h. rw (no_assigned c.before.before.args.state.now k h) (backed-none _))
 
 pub assignees-spec : {M : Type 1} → statement M
 assignees-spec =

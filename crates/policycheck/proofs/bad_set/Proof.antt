@@ -7,7 +7,7 @@ use mathlib.Core.Bool.{◌&&◌}
 use Rattle.model.specs.commands.Sets.{sets_of, bad_cardinality}
 use Rattle.state.specs.View.{view}
 use Rattle.policyform.specs.Rules.{bad_set}
-use Rattle.policycheck.proofs.Passing.{Unmet, unmet-start, unmet-more, met, unmet-end}
+use Rattle.policycheck.proofs.Passing.{Unmet, unmet_start, unmet_more, met, unmet_end}
 use Rattle.policycheck.proofs.bad_set.Statement.{statement}
 use Rattle.policycheck.proofs.bad_set.Tie as tie
 
@@ -22,18 +22,18 @@ asked : (c : tie.After-bad-cardinality invariant-loop decreases-loop) → c.bad_
 asked c = rw c.before.set_named.ensures at c.bad_cardinality.ensures
 
 loop-holds : tie.Need-loop-init invariant-loop decreases-loop
-loop-holds c = unmet-start
+loop-holds c = unmet_start
 
 returns : tie.Need-returns invariant-loop decreases-loop
 unfolding bad_set
 returns c = met (λ n. (sets_of c.before.before.before.before.before.args.kind (view c.before.before.before.before.before.args.state.now) n).there && bad_cardinality (sets_of c.before.before.before.before.before.args.kind (view c.before.before.before.before.before.args.state.now) n).card (sets_of c.before.before.before.before.before.args.kind (view c.before.before.before.before.before.args.state.now) n).roles) (omega arith) (asked c.before) c.if1.true
 
 loop-again : tie.Need-loop-preserved invariant-loop decreases-loop
-loop-again c = unmet-more (omega arith) (asked c.before) c.if1.false c.before.before.before.before.loop.invariant
+loop-again c = unmet_more (omega arith) (asked c.before) c.if1.false c.before.before.before.before.loop.invariant
 
 returns-2 : tie.Need-returns-2 invariant-loop decreases-loop
 unfolding bad_set
-returns-2 c = unmet-end c.loop-test.false c.before.loop.invariant
+returns-2 c = unmet_end c.loop-test.false c.before.loop.invariant
 
 pub bad-set-spec : {M : Type 1} → statement M
 bad-set-spec =

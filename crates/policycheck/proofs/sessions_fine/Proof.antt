@@ -4,8 +4,8 @@ use Prim.Native.Nat.{◌-◌}
 use native.Mathlib.Omega.{arith}
 use Rattle.state.specs.View.{view}
 use Rattle.policycheck.specs.Tests.{Tells, SessionFine}
-use Rattle.policycheck.proofs.Passing.{Passed, passed_none, passed-more, passed-all, stopped, session-none}
-use Rattle.policycheck.proofs.Ranges.{no-session}
+use Rattle.policycheck.proofs.Passing.{Passed, passed_none, passed_more, passed_all, stopped, session-none}
+use Rattle.policycheck.proofs.Ranges.{no_session}
 use Rattle.policycheck.proofs.sessions_fine.Statement.{statement}
 use Rattle.policycheck.proofs.sessions_fine.Tie as tie
 
@@ -23,13 +23,13 @@ loop-holds : tie.Need-loop-init invariant-loop decreases-loop
 loop-holds c = passed_none
 
 loop-again : tie.Need-loop-preserved invariant-loop decreases-loop
-loop-again c = passed-more (omega arith) c.before.before.before.before.loop.invariant ((asked c.before).holds c.if1.true)
+loop-again c = passed_more (omega arith) c.before.before.before.before.loop.invariant ((asked c.before).holds c.if1.true)
 
 returns : tie.Need-returns invariant-loop decreases-loop
 returns c = stopped c.before.before.before.before.loop.k (asked c.before).says c.if1.false
 
 returns-2 : tie.Need-returns-2 invariant-loop decreases-loop
-returns-2 c = passed-all (omega arith) c.before.loop.invariant (λ k h. rw (no-session c.before.before.args.state.now k h) (session-none _ _))
+returns-2 c = passed_all (omega arith) c.before.loop.invariant (λ k h. rw (no_session c.before.before.args.state.now k h) (session-none _ _))
 
 pub sessions-fine-spec : {M : Type 1} → statement M
 sessions-fine-spec =

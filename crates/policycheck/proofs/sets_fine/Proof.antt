@@ -5,8 +5,8 @@ use native.Mathlib.Omega.{arith}
 use Rattle.model.specs.commands.Sets.{sets_of}
 use Rattle.state.specs.View.{view}
 use Rattle.policycheck.specs.Tests.{Tells, SetFine}
-use Rattle.policycheck.proofs.Passing.{Passed, passed_none, passed-more, passed-all, stopped, set-none}
-use Rattle.policycheck.proofs.Ranges.{no-set}
+use Rattle.policycheck.proofs.Passing.{Passed, passed_none, passed_more, passed_all, stopped, set-none}
+use Rattle.policycheck.proofs.Ranges.{no_set}
 use Rattle.policycheck.proofs.sets_fine.Statement.{statement}
 use Rattle.policycheck.proofs.sets_fine.Tie as tie
 
@@ -24,13 +24,13 @@ loop-holds : tie.Need-loop-init invariant-loop decreases-loop
 loop-holds c = passed_none
 
 loop-again : tie.Need-loop-preserved invariant-loop decreases-loop
-loop-again c = passed-more (omega arith) c.before.before.before.before.before.loop.invariant ((asked c.before).holds c.if1.true)
+loop-again c = passed_more (omega arith) c.before.before.before.before.before.loop.invariant ((asked c.before).holds c.if1.true)
 
 returns : tie.Need-returns invariant-loop decreases-loop
 returns c = stopped c.before.before.before.before.before.loop.k (asked c.before).says c.if1.false
 
 returns-2 : tie.Need-returns-2 invariant-loop decreases-loop
-returns-2 c = passed-all (omega arith) c.before.loop.invariant (λ k h. rw (no-set c.before.before.args.state.now c.before.before.args.kind k h) (set-none _))
+returns-2 c = passed_all (omega arith) c.before.loop.invariant (λ k h. rw (no_set c.before.before.args.state.now c.before.before.args.kind k h) (set-none _))
 
 pub sets-fine-spec : {M : Type 1} → statement M
 sets-fine-spec =

@@ -6,7 +6,7 @@ use Rattle.roleset.specs.Roles.{with}
 use Rattle.state.specs.View.{view}
 use Rattle.text.specs.Places.{read_section}
 use Rattle.policyread.specs.Steps.{read_grant}
-use Rattle.policyread.proofs.Loops.{Left, left-start, left_step, left_end, grant-was}
+use Rattle.policyread.proofs.Loops.{Left, left-start, left_step, left_end, grant_was}
 use Rattle.policyread.proofs.read_grants.Statement.{statement}
 use Rattle.policyread.proofs.read_grants.Tie as tie
 
@@ -22,7 +22,7 @@ loop-holds c = left-start _ c.count_at.ensures
 loop-again : tie.Need-loop-preserved invariant-loop decreases-loop
 loop-again c =
     left_step c.before.before.before.before.before.before.before.before.loop-test.true
-    (grant-was _ _ _ _ _ _ _ c.before.before.before.before.before.before.before.word_at.ensures c.before.before.before.before.before.before.word-at2.ensures c.before.before.before.before.before.word-at3.ensures (c.put_holders.ensures ∙ rw (c.before.before.with.ensures.is, c.before.before.before.holders_of.ensures)))
+    (grant_was _ _ _ _ _ _ _ c.before.before.before.before.before.before.before.word_at.ensures c.before.before.before.before.before.before.word-at2.ensures c.before.before.before.before.before.word-at3.ensures (c.put_holders.ensures ∙ rw (c.before.before.with.ensures.is, c.before.before.before.holders_of.ensures)))
     (omega arith)
     c.before.before.before.before.before.before.before.before.before.loop.invariant
 

@@ -5,7 +5,7 @@ use native.Mathlib.Omega.{arith}
 use Rattle.state.specs.View.{view}
 use Rattle.text.specs.Places.{read_section}
 use Rattle.policyread.specs.Steps.{pairs_most, read_pair}
-use Rattle.policyread.proofs.Loops.{Left, left-start, left_step, left_end, pair-was, pairs-few}
+use Rattle.policyread.proofs.Loops.{Left, left-start, left_step, left_end, pair_was, pairs-few}
 use Rattle.policyread.proofs.read_pairs.Statement.{statement}
 use Rattle.policyread.proofs.read_pairs.Tie as tie
 
@@ -23,7 +23,7 @@ room : (c : tie.In-loop invariant-loop decreases-loop) → pairs_most c.before.b
 room c = pairs-few c.before.before.before.before.before.args.pairs
 
 loop-again : tie.Need-loop-preserved invariant-loop decreases-loop
-loop-again c = left_step c.before.before.before.before.loop-test.true (pair-was _ _ _ _ _ _ _ c.before.before.before.word_at.ensures c.before.before.word-at2.ensures c.add-pair.ensures) (omega arith) c.before.before.before.before.before.loop.invariant
+loop-again c = left_step c.before.before.before.before.loop-test.true (pair_was _ _ _ _ _ _ _ c.before.before.before.word_at.ensures c.before.before.word-at2.ensures c.add-pair.ensures) (omega arith) c.before.before.before.before.before.loop.invariant
 
 returns : tie.Need-returns invariant-loop decreases-loop
 returns c = left_end c.loop-test.false c.before.loop.invariant

@@ -3,7 +3,7 @@ use borrow.Author.Rules.{rules}
 use native.Mathlib.Omega.{arith}
 use Rattle.text.specs.Places.{read_section}
 use Rattle.policyread.specs.Steps.{read_role, read_roles}
-use Rattle.policyread.proofs.Loops.{Left, left-start, left_step, left_end, role-was}
+use Rattle.policyread.proofs.Loops.{Left, left-start, left_step, left_end, role_was}
 use Rattle.policyread.proofs.read_roles.Statement.{statement}
 use Rattle.policyread.proofs.read_roles.Tie as tie
 
@@ -17,7 +17,7 @@ loop-holds : tie.Need-loop-init invariant-loop decreases-loop
 loop-holds c = left-start _ c.count_at.ensures
 
 loop-again : tie.Need-loop-preserved invariant-loop decreases-loop
-loop-again c = left_step c.before.before.loop-test.true (role-was _ _ _ _ _ c.before.word_at.ensures c.with.ensures.is) (omega arith) c.before.before.before.loop.invariant
+loop-again c = left_step c.before.before.loop-test.true (role_was _ _ _ _ _ c.before.word_at.ensures c.with.ensures.is) (omega arith) c.before.before.before.loop.invariant
 
 returns : tie.Need-returns invariant-loop decreases-loop
 unfolding read_roles

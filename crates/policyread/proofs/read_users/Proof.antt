@@ -4,7 +4,7 @@ use native.Mathlib.Omega.{arith}
 use Rattle.state.specs.View.{view}
 use Rattle.text.specs.Places.{read_section}
 use Rattle.policyread.specs.Steps.{read_user}
-use Rattle.policyread.proofs.Loops.{Left, left-start, left_step, left_end, user-was}
+use Rattle.policyread.proofs.Loops.{Left, left-start, left_step, left_end, user_was}
 use Rattle.policyread.proofs.read_users.Statement.{statement}
 use Rattle.policyread.proofs.read_users.Tie as tie
 
@@ -18,7 +18,7 @@ loop-holds : tie.Need-loop-init invariant-loop decreases-loop
 loop-holds c = left-start _ c.count_at.ensures
 
 loop-again : tie.Need-loop-preserved invariant-loop decreases-loop
-loop-again c = left_step c.before.before.before.loop-test.true (user-was _ _ _ _ _ c.before.before.word_at.ensures c.put_user.ensures) (omega arith) c.before.before.before.before.loop.invariant
+loop-again c = left_step c.before.before.before.loop-test.true (user_was _ _ _ _ _ c.before.before.word_at.ensures c.put_user.ensures) (omega arith) c.before.before.before.before.loop.invariant
 
 returns : tie.Need-returns invariant-loop decreases-loop
 returns c = left_end c.loop-test.false c.before.loop.invariant

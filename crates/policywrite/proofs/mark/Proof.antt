@@ -11,7 +11,7 @@ use Rattle.hierarchy.specs.Lines.{table_of}
 use Rattle.roleset.proofs.Taking.{Taken, lowest-taken}
 use Rattle.policyform.specs.Encode.{pair_in}
 use Rattle.policywrite.specs.Parts.{granted}
-use Rattle.policywrite.proofs.Turning.{mark-step, none_left}
+use Rattle.policywrite.proofs.Turning.{mark_step, none_left}
 use Rattle.policywrite.proofs.mark.Statement.{statement}
 use Rattle.policywrite.proofs.mark.Tie as tie
 
@@ -36,7 +36,7 @@ loop-again c =
     let at = c.before.before.before in
     let head = at.before.before.loop in
     let t = taken at in
-    (length-set head.rows _ c.before.with.result ∙ head.invariant.0, rw c.without.ensures.is (without-small _ _), λ k l. rw c.before.with.ensures.is (mark-step head.rows _ at.lowest.result at.before.before.before.args.p k head.invariant.0 t.small at.before.before.before.requires.1 refl head.rest c.without.result t.member c.without.ensures.each ∙ head.invariant.2 k l))
+    (length-set head.rows _ c.before.with.result ∙ head.invariant.0, rw c.without.ensures.is (without-small _ _), λ k l. rw c.before.with.ensures.is (mark_step head.rows _ at.lowest.result at.before.before.before.args.p k head.invariant.0 t.small at.before.before.before.requires.1 refl head.rest c.without.result t.member c.without.ensures.each ∙ head.invariant.2 k l))
 
 returns : tie.Need-returns invariant-loop decreases-loop
 returns c =

@@ -6,7 +6,7 @@ use native.Mathlib.Omega.{arith}
 use Rattle.hierarchy.specs.Lines.{table_of}
 use Rattle.text.proofs.Writing.{wrote-length}
 use Rattle.policyform.specs.Encode.{grant_entry}
-use Rattle.policywrite.proofs.Rows.{Rows, rows_start, rows_taken, rows_left, rows-size, rows-room, rows_end}
+use Rattle.policywrite.proofs.Rows.{Rows, rows_start, rows_taken, rows_left, rows_size, rows_room, rows_end}
 use Rattle.policywrite.proofs.put_grant_rows.Statement.{statement}
 use Rattle.policywrite.proofs.put_grant_rows.Tie as tie
 
@@ -20,7 +20,7 @@ loop-holds : tie.Need-loop-init invariant-loop decreases-loop
 loop-holds c = rows_start
 
 put-grant-row-requires : tie.Need-put-grant-row-requires invariant-loop decreases-loop
-put-grant-row-requires c κs = omega (arith, rows-room 6 (λ m. refl) c.before.before.before.before.loop.invariant)
+put-grant-row-requires c κs = omega (arith, rows_room 6 (λ m. refl) c.before.before.before.before.loop.invariant)
 
 loop-again : tie.Need-loop-preserved invariant-loop decreases-loop
 loop-again c = rows_taken (omega arith) c.before.before.before.before.before.before.before.loop.invariant c.before.before.put-grant-row.ensures
@@ -34,7 +34,7 @@ same_length c = wrote-length c.before.before.put_word.ensures ∙ wrote-length c
 returns : tie.Need-returns invariant-loop decreases-loop
 returns c =
     let u = c.before.before.before.before.before.loop.invariant in
-    record { wrote = rows_end (omega arith) (omega (arith, rows-size 6 (λ m. refl) u)) u c.before.before.put_word.ensures; room = omega (arith, rows-room 6 (λ m. refl) u) }
+    record { wrote = rows_end (omega arith) (omega (arith, rows_size 6 (λ m. refl) u)) u c.before.before.put_word.ensures; room = omega (arith, rows_room 6 (λ m. refl) u) }
 
 pub put-grant-rows-spec : {M : Type 1} → statement M
 put-grant-rows-spec =
@@ -52,8 +52,8 @@ put-grant-rows-spec =
     loop-again
     (λ c. search rules)
     loop-again-2
-    (λ c. omega (arith, rows-size 6 (λ m. refl) c.before.before.loop.invariant))
-    (λ c. omega (arith, rows-size 6 (λ m. refl) c.before.before.loop.invariant))
+    (λ c. omega (arith, rows_size 6 (λ m. refl) c.before.before.loop.invariant))
+    (λ c. omega (arith, rows_size 6 (λ m. refl) c.before.before.loop.invariant))
     (λ c κs. search rules)
     same_length
     returns)

@@ -9,7 +9,7 @@ use Rattle.roleset.specs.Roles.{has, count}
 use Rattle.roleset.proofs.MembersLaws.{members-length}
 use Rattle.text.specs.Bytes.{two, section}
 use Rattle.text.proofs.Writing.{wrote-length, wrote-more}
-use Rattle.policywrite.proofs.Taking.{Least, least, Through, through-start, through-taken, through-end, through-room}
+use Rattle.policywrite.proofs.Taking.{Least, least, Through, through_start, through_taken, through_end, through_room}
 use Rattle.policywrite.proofs.put_roles.Statement.{statement}
 use Rattle.policywrite.proofs.put_roles.Tie as tie
 
@@ -20,20 +20,20 @@ abbrev decreases-loop : tie.decreases-loop
 decreases-loop set out₀ at next₀ rest₀ out next rest = count rest
 
 loop-holds : tie.Need-loop-init invariant-loop decreases-loop
-loop-holds c = through-start (omega arith)
+loop-holds c = through_start (omega arith)
 
 -- the member taken is the lowest that is left
 next : (c : tie.After-lowest invariant-loop decreases-loop) → Least c.before.before.loop.rest c.lowest.result
 next c = least c.before.before.loop.invariant.fits c.before.loop-test.true c.lowest.ensures.1.0
 
 put-word-requires-2 : tie.Need-put-word-requires-2 invariant-loop decreases-loop
-put-word-requires-2 c κs = omega (arith, through-room 2 (λ k. refl) c.before.before.before.loop.invariant)
+put-word-requires-2 c κs = omega (arith, through_room 2 (λ k. refl) c.before.before.before.loop.invariant)
 
 loop-less : tie.Need-loop-smaller invariant-loop decreases-loop
 loop-less c = omega (arith, ap count c.without.ensures.is, (next c.before.before.before.before.before).taken.fewer)
 
 loop-again : tie.Need-loop-preserved invariant-loop decreases-loop
-loop-again c = through-taken (next c.before.before.before.before.before) c.without.ensures c.before.before.before.before.before.before.before.loop.invariant c.before.before.before.put-word2.ensures
+loop-again c = through_taken (next c.before.before.before.before.before) c.without.ensures c.before.before.before.before.before.before.before.loop.invariant c.before.before.before.put-word2.ensures
 
 -- there are as many members as are counted
 many : (set : ℕ) → count set ≡ length (members 64 (has set))
@@ -48,7 +48,7 @@ unfolding section
 returns c =
     let set = c.before.before.before.before.before.before.before.before.args.set in
     let n : c.before.before.before.before.before.count.result ≡ length (members 64 (has set)) = c.before.before.before.before.before.count.ensures.0 ∙ many set in
-    record { wrote = wrote-more (rw n at c.before.before.before.before.put_word.ensures) (through-end c.loop-test.false c.before.loop.invariant); room = omega (arith, through-room 2 (λ k. refl) c.before.loop.invariant, c.before.before.before.before.put_word.ensures.next) }
+    record { wrote = wrote-more (rw n at c.before.before.before.before.put_word.ensures) (through_end c.loop-test.false c.before.loop.invariant); room = omega (arith, through_room 2 (λ k. refl) c.before.loop.invariant, c.before.before.before.before.put_word.ensures.next) }
 
 pub put-roles-spec : {M : Type 1} → statement M
 put-roles-spec =

@@ -6,7 +6,7 @@ use native.Mathlib.Omega.{arith}
 use Rattle.model.specs.Model.{Session}
 use Rattle.state.specs.View.{view}
 use Rattle.policyform.specs.Encode.{session_entry}
-use Rattle.policywrite.proofs.Under.{Under, under-start, under-taken, under_left, under-end, under-length}
+use Rattle.policywrite.proofs.Under.{Under, under_start, under_taken, under_left, under_end, under_length}
 use Rattle.policywrite.proofs.put_sessions.Statement.{statement}
 use Rattle.policywrite.proofs.put_sessions.Tie as tie
 
@@ -17,19 +17,19 @@ abbrev decreases-loop : tie.decreases-loop
 decreases-loop state out₀ at n₀ next₀ k₀ out n next k = 64 - k
 
 loop-holds : tie.Need-loop-init invariant-loop decreases-loop
-loop-holds c = under-start
+loop-holds c = under_start
 
 loop-again : tie.Need-loop-preserved invariant-loop decreases-loop
-loop-again c = under-taken (omega arith) (sym (ap (λ (x : Session). x.live) c.before.before.before.before.before.before.session_at.ensures) ∙ c.before.before.before.before.before.if1.true) c.before.before.put-entry.ensures.room c.before.before.before.before.before.before.before.before.loop.invariant (rw c.before.before.before.before.before.before.session_at.ensures at c.before.before.put-entry.ensures.wrote)
+loop-again c = under_taken (omega arith) (sym (ap (λ (x : Session). x.live) c.before.before.before.before.before.before.session_at.ensures) ∙ c.before.before.before.before.before.if1.true) c.before.before.put-entry.ensures.room c.before.before.before.before.before.before.before.before.loop.invariant (rw c.before.before.before.before.before.before.session_at.ensures at c.before.before.put-entry.ensures.wrote)
 
 loop-again-2 : tie.Need-loop-preserved-2 invariant-loop decreases-loop
 loop-again-2 c = under_left (omega arith) (sym (ap (λ (x : Session). x.live) c.before.session_at.ensures) ∙ c.if1.false) c.before.before.before.loop.invariant
 
 same_length : tie.Need-same-length invariant-loop decreases-loop
-same_length c = under-length c.before.before.before.before.before.loop.invariant c.before.before.put_word.ensures
+same_length c = under_length c.before.before.before.before.before.loop.invariant c.before.before.put_word.ensures
 
 returns : tie.Need-returns invariant-loop decreases-loop
-returns c = under-end (omega arith) (omega arith) c.before.before.before.before.before.loop.invariant c.before.before.put_word.ensures
+returns c = under_end (omega arith) (omega arith) c.before.before.before.before.before.loop.invariant c.before.before.put_word.ensures
 
 pub put-sessions-spec : {M : Type 1} → statement M
 put-sessions-spec =

@@ -7,7 +7,7 @@ use Rattle.model.specs.Model.{RoleSet}
 use Rattle.model.specs.commands.Sets.{sets_of}
 use Rattle.state.specs.View.{view}
 use Rattle.policyform.specs.Encode.{set_entry}
-use Rattle.policywrite.proofs.Under.{Under, under-start, under-taken, under_left, under-end, under-length}
+use Rattle.policywrite.proofs.Under.{Under, under_start, under_taken, under_left, under_end, under_length}
 use Rattle.policywrite.proofs.put_sets.Statement.{statement}
 use Rattle.policywrite.proofs.put_sets.Tie as tie
 
@@ -18,19 +18,19 @@ abbrev decreases-loop : tie.decreases-loop
 decreases-loop state kind out₀ at n₀ next₀ k₀ out n next k = 16 - k
 
 loop-holds : tie.Need-loop-init invariant-loop decreases-loop
-loop-holds c = under-start
+loop-holds c = under_start
 
 loop-again : tie.Need-loop-preserved invariant-loop decreases-loop
-loop-again c = under-taken (omega arith) (sym (ap (λ (x : RoleSet). x.there) c.before.before.before.before.before.before.set_named.ensures) ∙ c.before.before.before.before.before.if1.true) c.before.before.put-entry.ensures.room c.before.before.before.before.before.before.before.before.loop.invariant (rw c.before.before.before.before.before.before.set_named.ensures at c.before.before.put-entry.ensures.wrote)
+loop-again c = under_taken (omega arith) (sym (ap (λ (x : RoleSet). x.there) c.before.before.before.before.before.before.set_named.ensures) ∙ c.before.before.before.before.before.if1.true) c.before.before.put-entry.ensures.room c.before.before.before.before.before.before.before.before.loop.invariant (rw c.before.before.before.before.before.before.set_named.ensures at c.before.before.put-entry.ensures.wrote)
 
 loop-again-2 : tie.Need-loop-preserved-2 invariant-loop decreases-loop
 loop-again-2 c = under_left (omega arith) (sym (ap (λ (x : RoleSet). x.there) c.before.set_named.ensures) ∙ c.if1.false) c.before.before.before.loop.invariant
 
 same_length : tie.Need-same-length invariant-loop decreases-loop
-same_length c = under-length c.before.before.before.before.before.loop.invariant c.before.before.put_word.ensures
+same_length c = under_length c.before.before.before.before.before.loop.invariant c.before.before.put_word.ensures
 
 returns : tie.Need-returns invariant-loop decreases-loop
-returns c = under-end (omega arith) (omega arith) c.before.before.before.before.before.loop.invariant c.before.before.put_word.ensures
+returns c = under_end (omega arith) (omega arith) c.before.before.before.before.before.loop.invariant c.before.before.put_word.ensures
 
 pub put-sets-spec : {M : Type 1} → statement M
 put-sets-spec =

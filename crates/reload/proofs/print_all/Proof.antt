@@ -14,7 +14,7 @@ use Rattle.policyform.specs.Promises.{Loads}
 use Rattle.text.specs.Putting.{Put}
 use Rattle.text.proofs.Putting.{put-length, put-within}
 use Rattle.reload.specs.Reloading.{answer_line}
-use Rattle.reload.proofs.Pieces.{long, line-next, line-all, file-next, file-all, Again, saved-again}
+use Rattle.reload.proofs.Pieces.{long, line_next, line_all, file_next, file_all, Again, saved-again}
 use Rattle.reload.proofs.print_all.Statement.{statement}
 use Rattle.reload.proofs.print_all.Tie as tie
 
@@ -49,7 +49,7 @@ slice-aggregate-write-next c = sym (length-take-le _ _ (within c.before.before.b
 
 write-next-requires : tie.Need-write-next-requires
 write-next-requires c κs = (
-  line-next _ _ (loads c.before.before.before.before.before) _ _ _ (answered c.before.before.before) (omega arith),
+  line_next _ _ (loads c.before.before.before.before.before) _ _ _ (answered c.before.before.before) (omega arith),
   omega (arith, within c.before.before.before, put-length c.before.before.before.put-answer.ensures, length-take-le c.before.before.before.put-answer.result c.before.before.before.put-answer.new.0 (within c.before.before.before)),
 )
 
@@ -65,7 +65,7 @@ slice-aggregate-write-next-2 c = sym (length-take-le _ _ (saved c.before.before.
 
 write-next-requires-2 : tie.Need-write-next-requires-2
 write-next-requires-2 c κs = (
-  rw (counted c.before.before.before.before.before.before.before.before) (file-next _ _ (loads c.before.before.before.before.before.before.before.before.before.before.before.before.before.before.before) _ _ _ (answered c.before.before.before.before.before.before.before.before.before.before.before.before.before) (omega arith) (zero c.before.before.before.before.before.before) _ (saved c.before.before.before).front),
+  rw (counted c.before.before.before.before.before.before.before.before) (file_next _ _ (loads c.before.before.before.before.before.before.before.before.before.before.before.before.before.before.before) _ _ _ (answered c.before.before.before.before.before.before.before.before.before.before.before.before.before) (omega arith) (zero c.before.before.before.before.before.before) _ (saved c.before.before.before).front),
   omega (arith, counted c.before.before.before.before.before.before.before.before, within c.before.before.before.before.before.before.before.before.before.before.before.before.before, put-length c.before.before.before.before.before.before.before.before.before.before.before.before.before.put-answer.ensures, (saved c.before.before.before).within, c.before.before.before.save.auto.1.0, length-take-le c.before.before.before.save.result.length c.before.before.before.save.new.1.0 (saved c.before.before.before).within),
 )
 
@@ -73,11 +73,11 @@ write-next-requires-2 c κs = (
 returns-2 : tie.Need-returns-2
 returns-2 c = λ e.
     let all : c.write-next2.new.1.0 ≡ c.before.before.before.before.before.before.before.before.before.before.before.before.before.before.put-answer.result + c.before.before.before.before.save.result.length = omega (arith, c.write-next2.ensures e, counted c.before.before.before.before.before.before.before.before.before, length-take-le c.before.before.before.before.save.result.length c.before.before.before.before.save.new.1.0 (saved c.before.before.before.before).within) in
-    rw all (file-all _ _ (loads c.before.before.before.before.before.before.before.before.before.before.before.before.before.before.before.before) _ _ _ (answered c.before.before.before.before.before.before.before.before.before.before.before.before.before.before) (omega arith) (zero c.before.before.before.before.before.before.before) _ (saved c.before.before.before.before).size)
+    rw all (file_all _ _ (loads c.before.before.before.before.before.before.before.before.before.before.before.before.before.before.before.before) _ _ _ (answered c.before.before.before.before.before.before.before.before.before.before.before.before.before.before) (omega arith) (zero c.before.before.before.before.before.before.before) _ (saved c.before.before.before.before).size)
 
 returns-3 : tie.Need-returns-3
 unfolding told
-returns-3 c = λ e. rw (counted c.before.before) (line-all _ _ (loads c.before.before.before.before.before.before.before.before.before) _ _ _ (answered c.before.before.before.before.before.before.before) (omega arith) (sym c.before.is_done.ensures ∙ c.if2.false))
+returns-3 c = λ e. rw (counted c.before.before) (line_all _ _ (loads c.before.before.before.before.before.before.before.before.before) _ _ _ (answered c.before.before.before.before.before.before.before) (omega arith) (sym c.before.is_done.ensures ∙ c.if2.false))
 
 pub print-all-spec : {M : Type 1} → statement M
 print-all-spec =

@@ -4,14 +4,14 @@ use mathlib.Core.Path.{sym, ap}
 use Rattle.roleset.specs.Bounded.{members}
 use Rattle.roleset.specs.Roles.{has}
 use Rattle.model.specs.Questions.{ask, auth_roles}
-use Rattle.reviews.proofs.Walking.{walked, told-walk}
+use Rattle.reviews.proofs.Walking.{walked, told_walk}
 use Rattle.reviews.proofs.auth_roles.Statement.{statement}
 use Rattle.reviews.proofs.auth_roles.Tie as tie
 
 returns : tie.Need-returns
 unfolding ask auth_roles
 returns c =
-    told-walk _ (sym c.before.before.before.before.before.user_beyond.ensures) (ap not (sym c.before.before.before.before.has_user.ensures)) (walked _ c.before.before.before.before.before.before.before.assigned_to.ensures c.before.before.before.before.before.before.reach.ensures) (λ roles. members 64 (has roles)) c.before.before.review-roles.ensures
+    told_walk _ (sym c.before.before.before.before.before.user_beyond.ensures) (ap not (sym c.before.before.before.before.has_user.ensures)) (walked _ c.before.before.before.before.before.before.before.assigned_to.ensures c.before.before.before.before.before.before.reach.ensures) (λ roles. members 64 (has roles)) c.before.before.review-roles.ensures
 
 pub auth-roles-spec : {M : Type 1} → statement M
 auth-roles-spec =

@@ -7,7 +7,7 @@ use Rattle.numbers.specs.Ranges.{objects}
 use Rattle.model.specs.Words.{permission}
 use Rattle.model.specs.Questions.{ask, role_ops, holds}
 use Rattle.state.specs.View.{view}
-use Rattle.reviews.proofs.Walking.{walked, told-walk}
+use Rattle.reviews.proofs.Walking.{walked, told_walk}
 use Rattle.reviews.proofs.role_ops.Statement.{statement}
 use Rattle.reviews.proofs.role_ops.Tie as tie
 
@@ -15,7 +15,7 @@ returns : tie.Need-returns
 unfolding ask role_ops
 returns c =
     let a = c.before.before.before.before.before.before.before.before.before.before.args in
-    told-walk _ (ap (λ (b : Bool). b || leb objects a.obj) (sym c.before.before.before.before.before.before.role_beyond.ensures) ∙ sym c.before.before.before.before.before.either.ensures) (ap not (sym c.before.before.before.before.has_role.ensures)) (walked _ c.before.before.before.before.before.before.before.before.with.ensures.is c.before.before.before.before.before.before.before.reach.ensures) (λ roles. members 16 (λ op. holds (view a.state.now) roles (permission op a.obj))) c.before.before.review-ops.ensures
+    told_walk _ (ap (λ (b : Bool). b || leb objects a.obj) (sym c.before.before.before.before.before.before.role_beyond.ensures) ∙ sym c.before.before.before.before.before.either.ensures) (ap not (sym c.before.before.before.before.has_role.ensures)) (walked _ c.before.before.before.before.before.before.before.before.with.ensures.is c.before.before.before.before.before.before.before.reach.ensures) (λ roles. members 16 (λ op. holds (view a.state.now) roles (permission op a.obj))) c.before.before.review-ops.ensures
 
 pub role-ops-spec : {M : Type 1} → statement M
 role-ops-spec =

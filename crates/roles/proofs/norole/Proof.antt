@@ -12,7 +12,7 @@ use Rattle.model.specs.Words.{shed}
 use Rattle.model.specs.commands.Naming.{role_beyond, role_missing}
 use Rattle.model.specs.commands.Users.{norole, without_role, in_set}
 use Rattle.state.specs.View.{view, told}
-use Rattle.roles.proofs.Gone.{few, role-gone}
+use Rattle.roles.proofs.Gone.{few, role_gone}
 use Rattle.roles.proofs.norole.Statement.{statement}
 use Rattle.roles.proofs.norole.Tie as tie
 
@@ -66,7 +66,7 @@ stored c =
     let u = swept.before.before.before.before.before in
     let c1 = to-1 (to-2 (to-3 t)) in
     let s = to_start c1 in
-    role-gone s.args.state.now _ _ _ _ (name s) _ _ swept.shed.result (within c1) t.before.before.juniors_table.ensures u.before.before.assigned_table.ensures t.strip.ensures u.strip2.ensures swept.shed.ensures
+    role_gone s.args.state.now _ _ _ _ (name s) _ _ swept.shed.result (within c1) t.before.before.juniors_table.ensures u.before.before.assigned_table.ensures t.strip.ensures u.strip2.ensures swept.shed.ensures
     _ _ _ swept.before.before.before.before.before.before.before.before.before.count.ensures.0 c.before.before.before.put-without.ensures c.put_all_active.ensures
 
 returns : tie.Need-returns

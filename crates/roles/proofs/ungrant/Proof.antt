@@ -4,7 +4,7 @@ use mathlib.Core.Path.{sym, ap, ◌∙◌}
 use Prim.Native.Nat.{ℕ, ◌-◌, ◌<◌, ◌^◌}
 use native.Mathlib.Omega.{arith}
 use Rattle.state.specs.View.{view}
-use Rattle.roles.proofs.Grants.{held, not-held}
+use Rattle.roles.proofs.Grants.{held, not_held}
 use Rattle.roles.proofs.ungrant.Statement.{statement}
 use Rattle.roles.proofs.ungrant.Tie as tie
 
@@ -23,7 +23,7 @@ returns-2 : tie.Need-returns-2
 returns-2 c =
     let s = c.before.before.before.before in
     let small : c.before.before.holders_of.result < 2 ^ 64 = omega arith in
-    not-held (view s.args.state.now) s.args.p s.args.r.number c.before.before.holders_of.result c.before.before.holders_of.ensures small (sym c.before.has.ensures ∙ c.if1.false)
+    not_held (view s.args.state.now) s.args.p s.args.r.number c.before.before.holders_of.result c.before.before.holders_of.ensures small (sym c.before.has.ensures ∙ c.if1.false)
 
 pub ungrant-spec : {M : Type 1} → statement M
 ungrant-spec =

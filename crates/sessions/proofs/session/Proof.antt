@@ -22,7 +22,7 @@ use Rattle.state.specs.Stores.{in_range}
 use Rattle.state.specs.View.{view}
 use Rattle.state.proofs.Stored.{in-range}
 use Rattle.sessions.specs.Answering.{told_opened}
-use Rattle.sweeps.proofs.Free.{full-free}
+use Rattle.sweeps.proofs.Free.{full_free}
 use Rattle.sessions.proofs.session.Statement.{statement}
 use Rattle.sessions.proofs.session.Tie as tie
 
@@ -127,7 +127,7 @@ clear-5 c = found-5 c.before ∙ c.if5.false
 
 found-6 : (c : tie.After-session-beyond) → full (to_start (to-1 (to-2 (to-3 (to-4 c.before.before.before))))) ≡ c.session_beyond.result
 unfolding sessions_open
-found-6 c = full-free (m (to_start (to-1 (to-2 (to-3 (to-4 c.before.before.before)))))).sessions ∙ ap (λ (x : Session). leb 64 x.number) (sym c.before.lowest_free.ensures) ∙ sym c.session_beyond.ensures
+found-6 c = full_free (m (to_start (to-1 (to-2 (to-3 (to-4 c.before.before.before)))))).sessions ∙ ap (λ (x : Session). leb 64 x.number) (sym c.before.lowest_free.ensures) ∙ sym c.session_beyond.ensures
 
 clear-6 : (c : tie.Else6) → full (to_start (to-1 (to-2 (to-3 (to-4 (to-5 c)))))) ≡ false
 clear-6 c = found-6 c.before ∙ c.if6.false

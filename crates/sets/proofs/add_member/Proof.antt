@@ -15,7 +15,7 @@ use Rattle.state.specs.Stores.{set_stored}
 use Rattle.state.specs.View.{view, told}
 use Rattle.sets.specs.Asking.{rule_refusals}
 use Rattle.state.proofs.Stored.{within}
-use Rattle.sets.proofs.Laws.{members-placed, last-refused, last_done}
+use Rattle.sets.proofs.Laws.{members-placed, last_refused, last_done}
 use Rattle.sets.proofs.add_member.Statement.{statement}
 use Rattle.sets.proofs.add_member.Tie as tie
 
@@ -101,7 +101,7 @@ returns-4 c =
     let c2 = c3.before.before in
     let s = to_start (to-1 (to_set c2)) in
     rw (clear-1 (to-1 (to_set c2)), clear-2 c2, found-3 c3.before ∙ c3.if3.false)
-    (last-refused (rules s) (m s) (after s) c.before.before.rule-refusal.result (asked c.before.before) _ c.before.is_done.ensures c.if4.true)
+    (last_refused (rules s) (m s) (after s) c.before.before.rule-refusal.result (asked c.before.before) _ c.before.is_done.ensures c.if4.true)
 
 -- the store: the larger set's members
 stored : (c : tie.After-put-members) → let s = to_start (to-1 (to_set c.before.before.before.before.before.before.before.before.before)) in view c.put_members.new.0 ≡ after s

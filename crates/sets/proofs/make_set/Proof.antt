@@ -16,7 +16,7 @@ use Rattle.state.specs.Stores.{set_stored}
 use Rattle.state.specs.View.{view, told}
 use Rattle.sets.specs.Asking.{rule_refusals}
 use Rattle.state.proofs.Stored.{placed, within}
-use Rattle.sets.proofs.Laws.{last-refused, last_done}
+use Rattle.sets.proofs.Laws.{last_refused, last_done}
 use Rattle.sets.proofs.make_set.Statement.{statement}
 use Rattle.sets.proofs.make_set.Tie as tie
 
@@ -141,7 +141,7 @@ returns-6 c =
     let c2 = to-2 c3 in
     let s = from-5 c5 in
     rw (clear-1 (to-1 c2), clear-2 c2, clear-3 c3, clear-4 c4, clear-5 c5)
-    (last-refused (rules s) (m s) (after s) ruled.rule-refusal.result (asked ruled) _ c.before.is_done.ensures c.if6.true)
+    (last_refused (rules s) (m s) (after s) ruled.rule-refusal.result (asked ruled) _ c.before.is_done.ensures c.if6.true)
 
 -- the store: the new set
 stored : (c : tie.After-put-set) → let s = from-5 (to-5 c.before.before.before.before) in view c.put_set.new.0 ≡ after s

@@ -15,7 +15,7 @@ use Rattle.state.specs.Stores.{set_stored}
 use Rattle.state.specs.View.{view, told}
 use Rattle.sets.specs.Asking.{rule_refusals}
 use Rattle.state.proofs.Stored.{placed}
-use Rattle.sets.proofs.Laws.{last-refused, last_done}
+use Rattle.sets.proofs.Laws.{last_refused, last_done}
 use Rattle.sets.proofs.set_cardinality.Statement.{statement}
 use Rattle.sets.proofs.set_cardinality.Tie as tie
 
@@ -96,7 +96,7 @@ returns-4 c =
     let at = to_set c2 in
     let s = to_start (to-1 at) in
     rw (clear-1 (to-1 at), found-2 at ∙ c2.if2.left, found-3 ruled.before.before.before ∙ ruled.before.before.if3.false)
-    (last-refused (rules s) (m s) (after s) ruled.rule-refusal.result (asked ruled) _ c.before.is_done.ensures c.if4.true)
+    (last_refused (rules s) (m s) (after s) ruled.rule-refusal.result (asked ruled) _ c.before.is_done.ensures c.if4.true)
 
 -- the store: the set with the cardinality
 stored : (c : tie.After-put-set) → let s = to_start (to-1 (to_set (to-2 c.before.before.before.before))) in view c.put_set.new.0 ≡ after s

@@ -11,7 +11,7 @@ use Rattle.roleset.proofs.BoundedLaws.{some-start}
 use Rattle.hierarchy.specs.Lines.{table_of}
 use Rattle.model.specs.Words.{breaks}
 use Rattle.state.specs.View.{view}
-use Rattle.sweeps.proofs.Asking.{breaking, passed-walk, passed-idle, asks-walk}
+use Rattle.sweeps.proofs.Asking.{breaking, passed_walk, passed_idle, asks_walk}
 use Rattle.sweeps.proofs.ask_each_of_set.Statement.{statement}
 use Rattle.sweeps.proofs.ask_each_of_set.Tie as tie
 
@@ -38,19 +38,19 @@ returns : tie.Need-returns invariant-loop decreases-loop
 returns c =
     let at = c.before.before.before.before.before.before in
     let s = at.before.before in
-    λ idle. asks-walk (rule s) (lines s) (table_of (own s)) (length (own s)) at.loop.k (table_of (own s) at.loop.k) c.before.before.reach.result c.before.before.before.before.before.loop-test.true refl c.before.before.reach.ensures.is (sym c.before.breaks.ensures ∙ c.if2.true)
+    λ idle. asks_walk (rule s) (lines s) (table_of (own s)) (length (own s)) at.loop.k (table_of (own s) at.loop.k) c.before.before.reach.result c.before.before.before.before.before.loop-test.true refl c.before.before.reach.ensures.is (sym c.before.breaks.ensures ∙ c.if2.true)
 
 loop-again : tie.Need-loop-preserved invariant-loop decreases-loop
 loop-again c =
     let at = c.before.before.before.before.before.before in
     let s = at.before.before in
-    (omega arith, λ idle. passed-walk (rule s) (lines s) (table_of (own s)) at.loop.k (table_of (own s) at.loop.k) c.before.before.reach.result refl c.before.before.reach.ensures.is (sym c.before.breaks.ensures ∙ c.if2.false) (at.loop.invariant.1 idle))
+    (omega arith, λ idle. passed_walk (rule s) (lines s) (table_of (own s)) at.loop.k (table_of (own s) at.loop.k) c.before.before.reach.result refl c.before.before.reach.ensures.is (sym c.before.breaks.ensures ∙ c.if2.false) (at.loop.invariant.1 idle))
 
 loop-again-2 : tie.Need-loop-preserved-2 invariant-loop decreases-loop
 loop-again-2 c =
     let at = c.before.before.before in
     let s = at.before.before in
-    (omega arith, λ idle. passed-idle (rule s) (lines s) (table_of (own s)) at.loop.k (table_of (own s) at.loop.k) refl c.if1.false idle (at.loop.invariant.1 idle))
+    (omega arith, λ idle. passed_idle (rule s) (lines s) (table_of (own s)) at.loop.k (table_of (own s) at.loop.k) refl c.if1.false idle (at.loop.invariant.1 idle))
 
 returns-2 : tie.Need-returns-2 invariant-loop decreases-loop
 returns-2 c =

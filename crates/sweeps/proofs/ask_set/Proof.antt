@@ -10,7 +10,7 @@ use Rattle.model.specs.declared.Kind.TheVariants.{Static, Dynamic}
 use Rattle.separation.proofs.Breaking.{breaks-any}
 use Rattle.state.specs.View.{view}
 use Rattle.sweeps.specs.Sweeps.{own_roles}
-use Rattle.sweeps.proofs.Asking.{breaking, set-broken, asks-any, asked-some, table-of, asked-of-table}
+use Rattle.sweeps.proofs.Asking.{breaking, set-broken, asks_any, asked-some, table-of, asked_of_table}
 use Rattle.sweeps.proofs.ask_set.Statement.{statement}
 use Rattle.sweeps.proofs.ask_set.Tie as tie
 
@@ -35,7 +35,7 @@ says s e = e ∙ sym (set-broken s.args.kind (view s.args.state.now) s.args.set)
 returns : tie.Need-returns
 returns c =
     let s = c.before.before in
-    says s (asks-any (rule s) (lines s) (own s) (all s) (asked-some s.args.kind) (λ held. breaks-any _ held (sym c.before.breaks.ensures ∙ c.if1.true)))
+    says s (asks_any (rule s) (lines s) (own s) (all s) (asked-some s.args.kind) (λ held. breaks-any _ held (sym c.before.breaks.ensures ∙ c.if1.true)))
 
 -- having no role does not break it
 idle : (c : tie.Else1) → rule c.before.before 0 ≡ false
@@ -45,13 +45,13 @@ returns-2 : tie.Need-returns-2
 returns-2 c =
     let none = c.before.before.before.before in
     let s = none.before.before in
-    says s (asked-of-table (rule s) (lines s) (own s) (all s) _ _ (table-of Static s.args.kind (view s.args.state.now) _ c.before.before.enum_told.given.1 c.before.assigned.ensures) (idle none) c.ask-each-of-set.ensures)
+    says s (asked_of_table (rule s) (lines s) (own s) (all s) _ _ (table-of Static s.args.kind (view s.args.state.now) _ c.before.before.enum_told.given.1 c.before.assigned.ensures) (idle none) c.ask-each-of-set.ensures)
 
 returns-3 : tie.Need-returns-3
 returns-3 c =
     let none = c.before.before.before.before in
     let s = none.before.before in
-    says s (asked-of-table (rule s) (lines s) (own s) (all s) _ _ (table-of Dynamic s.args.kind (view s.args.state.now) _ c.before.before.enum-told2.given.1 c.before.active.ensures) (idle none) c.ask-each-of-set2.ensures)
+    says s (asked_of_table (rule s) (lines s) (own s) (all s) _ _ (table-of Dynamic s.args.kind (view s.args.state.now) _ c.before.before.enum-told2.given.1 c.before.active.ensures) (idle none) c.ask-each-of-set2.ensures)
 
 pub ask-set-spec : {M : Type 1} → statement M
 ask-set-spec =

@@ -8,12 +8,12 @@ use Rattle.hierarchy.specs.Lines.{table_of}
 use Rattle.hierarchy.specs.Walks.{reach}
 use Rattle.state.specs.View.{part}
 use Rattle.state.proofs.Slots.{part_none}
-use Rattle.sweeps.proofs.SweepSteps.{keeps-live, keeps-dead}
+use Rattle.sweeps.proofs.SweepSteps.{keeps_live, keeps_dead}
 use Rattle.sweeps.proofs.left_to.Statement.{statement}
 use Rattle.sweeps.proofs.left_to.Tie as tie
 
 returns : tie.Need-returns
-returns c = let args = c.before.before.args in keeps-dead _ _ args.session (not-true _ c.if1.true)
+returns c = let args = c.before.before.args in keeps_dead _ _ args.session (not-true _ c.if1.true)
 
 -- the owner's roles
 owned : (c : tie.Joined2) → let args = c.before.before.before.args in c.if2.held ≡ part args.assigned.now 0 256 args.session.owner
@@ -28,7 +28,7 @@ returns-2 : tie.Need-returns-2
 returns-2 c =
     let at = c.before.before in
     let args = at.before.before.before.args in
-    keeps-live (table_of args.juniors.now) (part args.assigned.now 0 256) args.session c.before.reach.result _ (not-false _ at.before.if1.false) (c.before.reach.ensures.is ∙ ap (reach (table_of args.juniors.now)) (owned at)) c.common.ensures.is
+    keeps_live (table_of args.juniors.now) (part args.assigned.now 0 256) args.session c.before.reach.result _ (not-false _ at.before.if1.false) (c.before.reach.ensures.is ∙ ap (reach (table_of args.juniors.now)) (owned at)) c.common.ensures.is
 
 pub left-to-spec : {M : Type 1} → statement M
 left-to-spec = tie.close (tie.spec returns (λ c. search rules) (λ c. search rules) (λ c κs. search rules) (λ c κs. search rules) returns-2)

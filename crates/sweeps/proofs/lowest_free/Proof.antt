@@ -8,7 +8,7 @@ use Rattle.numbers.specs.declared.Session as numbered
 use Rattle.model.specs.Model.{Session}
 use Rattle.model.specs.commands.Sessions.{free_from}
 use Rattle.state.specs.View.{view}
-use Rattle.sweeps.proofs.Free.{look-on, look-found, look-end}
+use Rattle.sweeps.proofs.Free.{look_on, look_found, look_end}
 use Rattle.sweeps.proofs.lowest_free.Statement.{statement}
 use Rattle.sweeps.proofs.lowest_free.Tie as tie
 
@@ -36,18 +36,18 @@ session n = record { number = n }
 returns : tie.Need-returns invariant-loop decreases-loop
 returns c =
     let at = c.before.before.before.before in
-    ap session (sym (look-found (sessions at) at.loop.k (omega arith) (found c.before.before ∙ not-true _ c.if1.true)) ∙ at.loop.invariant.1)
+    ap session (sym (look_found (sessions at) at.loop.k (omega arith) (found c.before.before ∙ not-true _ c.if1.true)) ∙ at.loop.invariant.1)
 
 loop-again : tie.Need-loop-preserved invariant-loop decreases-loop
 loop-again c =
     let at = c.before.before.before.before in
-    (omega arith, sym (look-on (sessions at) at.loop.k (omega arith) (found c.before.before ∙ not-false _ c.if1.false)) ∙ at.loop.invariant.1)
+    (omega arith, sym (look_on (sessions at) at.loop.k (omega arith) (found c.before.before ∙ not-false _ c.if1.false)) ∙ at.loop.invariant.1)
 
 returns-2 : tie.Need-returns-2 invariant-loop decreases-loop
 returns-2 c =
     let at = c.before in
     let whole : at.loop.k ≡ 64 = omega arith in
-    ap session (sym (look-end (sessions at) at.loop.k whole) ∙ at.loop.invariant.1)
+    ap session (sym (look_end (sessions at) at.loop.k whole) ∙ at.loop.invariant.1)
 
 pub lowest-free-spec : {M : Type 1} → statement M
 lowest-free-spec = tie.close (tie.spec invariant-loop decreases-loop loop-holds (λ c κs. search rules) returns (λ c. search rules) (λ c. search rules) loop-again returns-2)

@@ -7,7 +7,7 @@ use Rattle.hierarchy.specs.Lines.{table_of}
 use Rattle.model.specs.Model.{Session}
 use Rattle.model.specs.Words.{shedded}
 use Rattle.state.specs.View.{part, view}
-use Rattle.sweeps.proofs.Sweeping.{Swept, swept-start, swept-store, zeros}
+use Rattle.sweeps.proofs.Sweeping.{Swept, swept_start, swept_store, zeros}
 use Rattle.sweeps.proofs.shed.Statement.{statement}
 use Rattle.sweeps.proofs.shed.Tie as tie
 
@@ -18,7 +18,7 @@ abbrev decreases-loop : tie.decreases-loop
 decreases-loop juniors assigned state active₀ k₀ active k = 64 - k
 
 loop-holds : tie.Need-loop-init invariant-loop decreases-loop
-loop-holds c = (omega arith, swept-start _ _ 64 _ (omega arith) (zeros 64))
+loop-holds c = (omega arith, swept_start _ _ 64 _ (omega arith) (zeros 64))
 
 loop-again : tie.Need-loop-preserved invariant-loop decreases-loop
 loop-again c =
@@ -26,7 +26,7 @@ loop-again c =
     let args = at.before.args in
     let j = table_of args.juniors.now in
     let a = part args.assigned.now 0 256 in
-    (omega arith, swept-store _ _ 64 at.loop.k at.loop.active _ (omega arith) (c.left-to.ensures ∙ ap (λ (s : Session). (shedded j a s).active) c.before.session_at.ensures) at.loop.invariant.1)
+    (omega arith, swept_store _ _ 64 at.loop.k at.loop.active _ (omega arith) (c.left-to.ensures ∙ ap (λ (s : Session). (shedded j a s).active) c.before.session_at.ensures) at.loop.invariant.1)
 
 returns : tie.Need-returns invariant-loop decreases-loop
 returns c =

@@ -11,8 +11,8 @@ use Rattle.roleset.specs.Bounded.{bit, tally}
 use Rattle.roleset.specs.Roles.{has, without}
 use Rattle.roleset.proofs.BoundedLaws.{tally-le, tally-step}
 use Rattle.hierarchy.specs.Lines.{table_of}
-use Rattle.sweeps.proofs.Strips.{strip-at, strip-length}
-use Rattle.sweeps.proofs.Sweeping.{Swept, swept-start, swept-store}
+use Rattle.sweeps.proofs.Strips.{strip_at, strip_length}
+use Rattle.sweeps.proofs.Sweeping.{Swept, swept_start, swept_store}
 use Rattle.sweeps.proofs.strip.Statement.{statement}
 use Rattle.sweeps.proofs.strip.Tie as tie
 
@@ -24,7 +24,7 @@ decreases-loop table₀ r n₀ k₀ table n k = length table₀ - k
 
 loop-holds : tie.Need-loop-init invariant-loop decreases-loop
 unfolding tally
-loop-holds c = (omega arith, swept-start _ _ _ _ refl (λ k. refl), refl)
+loop-holds c = (omega arith, swept_start _ _ _ _ refl (λ k. refl), refl)
 
 add-n : tie.Need-overflow-add-n invariant-loop decreases-loop
 add-n c =
@@ -43,7 +43,7 @@ loop-again c =
     let f : ℕ → Bool = λ j. has (table_of first j) r in
     let had : f k ≡ joined.before.has.result = ap (λ (s : ℕ). has s r) (sym here) ∙ sym joined.before.has.ensures in (
       omega arith,
-      swept-store _ _ (length first) k at.loop.table c.without.result l (c.without.ensures.is ∙ ap (λ (s : ℕ). without s r) here) at.loop.invariant.1,
+      swept_store _ _ (length first) k at.loop.table c.without.result l (c.without.ensures.is ∙ ap (λ (s : ℕ). without s r) here) at.loop.invariant.1,
       ⊎_elim
           (λ w. omega (arith, tally-step k f, ap bit (had ∙ w.0.taken), w.1, at.loop.invariant.2))
           (λ w. omega (arith, tally-step k f, ap bit (had ∙ w.0.left), w.1, at.loop.invariant.2))
@@ -61,7 +61,7 @@ returns c =
     let s = at.loop.invariant.1 in
     let whole : at.loop.k ≡ length first = omega (arith, s.long) in
     record {
-      stripped = ext_get_or 0 at.loop.table _ (s.long ∙ sym (strip-length first r)) (λ k p. s.done k (omega (arith, s.long)) ∙ sym (strip-at first r k));
+      stripped = ext_get_or 0 at.loop.table _ (s.long ∙ sym (strip_length first r)) (λ k p. s.done k (omega (arith, s.long)) ∙ sym (strip_at first r k));
       had = rw whole at at.loop.invariant.2;
     }
 

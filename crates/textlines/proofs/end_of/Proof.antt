@@ -5,7 +5,7 @@ use Prim.Native.Nat.{◌+◌, ◌≤◌, ◌<◌, ◌-◌}
 use native.Mathlib.Omega.{arith}
 use lib.ListN.{length}
 use Rattle.textlines.specs.Parts.{part_at}
-use Rattle.textlines.proofs.Laws.{part-stops, part-goes-on, part_none}
+use Rattle.textlines.proofs.Laws.{part_stops, part_goes_on, part_none}
 use Rattle.textlines.proofs.end_of.Statement.{statement}
 use Rattle.textlines.proofs.end_of.Tie as tie
 
@@ -21,13 +21,13 @@ loop-holds c = (omega arith, refl)
 returns : tie.Need-returns invariant-loop decreases-loop
 returns c =
     let l : c.before.before.before.loop.end < length c.before.before.before.before.args.s.now = omega arith in
-    let e = ap length (part-stops c.before.before.before.before.args.stop c.before.before.before.before.args.s.now c.before.before.before.loop.end l c.if1.true) in
+    let e = ap length (part_stops c.before.before.before.before.args.stop c.before.before.before.before.args.s.now c.before.before.before.loop.end l c.if1.true) in
     omega (arith, e, c.before.before.before.loop.invariant.1)
 
 loop-again : tie.Need-loop-preserved invariant-loop decreases-loop
 loop-again c =
     let l : c.before.before.before.loop.end < length c.before.before.before.before.args.s.now = omega arith in
-    let e = ap length (part-goes-on c.before.before.before.before.args.stop c.before.before.before.before.args.s.now c.before.before.before.loop.end l c.if1.false) in
+    let e = ap length (part_goes_on c.before.before.before.before.args.stop c.before.before.before.before.args.s.now c.before.before.before.loop.end l c.if1.false) in
     (search rules, omega (arith, e, c.before.before.before.loop.invariant.1))
 
 returns-2 : tie.Need-returns-2 invariant-loop decreases-loop

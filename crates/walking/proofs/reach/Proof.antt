@@ -5,7 +5,7 @@ use Rattle.state.specs.Places.{juniors_at}
 use Rattle.state.specs.View.{part, view}
 use Rattle.hierarchy.specs.Walks.{reach}
 use Rattle.hierarchy.proofs.Fronts.{walk-begun}
-use Rattle.hierarchy.proofs.WalkLaws.{reach-reaches}
+use Rattle.hierarchy.proofs.WalkLaws.{reach_reaches}
 use Rattle.walking.proofs.reach.Statement.{statement}
 use Rattle.walking.proofs.reach.Tie as tie
 
@@ -13,7 +13,7 @@ returns : tie.Need-returns
 unfolding reach view
 returns c =
     let lines = part c.before.args.state.now juniors_at 64 in
-    reach-reaches lines c.before.args.from c.walk_from.result (c.walk_from.ensures ∙ walk-begun lines 64 c.before.args.from)
+    reach_reaches lines c.before.args.from c.walk_from.result (c.walk_from.ensures ∙ walk-begun lines 64 c.before.args.from)
 
 pub reach-spec : {M : Type 1} → statement M
 reach-spec = tie.close (tie.spec (λ c κs. search rules) returns)

@@ -6,7 +6,7 @@ use native.Mathlib.Omega.{arith}
 use lib.ListN.{length, take, drop}
 use Rattle.words.specs.Bytes.{same}
 use Rattle.words.specs.Rows.{letters}
-use Rattle.words.proofs.Rows.{left, text-longer, text-ended, letter-equal, letter-differs}
+use Rattle.words.proofs.Rows.{left, text_longer, text_ended, letter_equal, letter_differs}
 use Rattle.words.proofs.is_word.Statement.{statement}
 use Rattle.words.proofs.is_word.Tie as tie
 
@@ -25,14 +25,14 @@ returns c =
     let s = c.before.before.before.before.before.before.args in
     let i = c.before.before.before.before.loop.i in
     let p : i < length s.text.now = omega arith in
-    sym (c.before.before.before.before.loop.invariant.1 ∙ letter-differs s.text.now (take 14 s.row) i p (λ e. c.if1.true (e ∙ sym c.before.before.letter.ensures)))
+    sym (c.before.before.before.before.loop.invariant.1 ∙ letter_differs s.text.now (take 14 s.row) i p (λ e. c.if1.true (e ∙ sym c.before.before.letter.ensures)))
 
 returns-2 : tie.Need-returns-2 invariant-loop decreases-loop
 returns-2 c =
     let s = c.before.before.before.before.before.before.before.args in
     let i = c.before.before.before.before.before.loop.i in
     let p : i < length s.text.now = omega arith in
-    sym (c.before.before.before.before.before.loop.invariant.1 ∙ text-longer s.text.now (take 14 s.row) i p (sym c.before.before.before.letter.ensures ∙ c.if2.true))
+    sym (c.before.before.before.before.before.loop.invariant.1 ∙ text_longer s.text.now (take 14 s.row) i p (sym c.before.before.before.letter.ensures ∙ c.if2.true))
 
 loop-again : tie.Need-loop-preserved invariant-loop decreases-loop
 loop-again c =
@@ -40,14 +40,14 @@ loop-again c =
     let i = c.before.before.before.before.before.loop.i in
     let p : i < length s.text.now = omega arith in
     let here = c.before.before.before.letter.ensures in
-    (search rules, c.before.before.before.before.before.loop.invariant.1 ∙ letter-equal s.text.now (take 14 s.row) i p (c.before.if1.false ∙ here) (λ e. c.if2.false (here ∙ e)))
+    (search rules, c.before.before.before.before.before.loop.invariant.1 ∙ letter_equal s.text.now (take 14 s.row) i p (c.before.if1.false ∙ here) (λ e. c.if2.false (here ∙ e)))
 
 returns-3 : tie.Need-returns-3 invariant-loop decreases-loop
 returns-3 c =
     let s = c.before.before.before.before.args in
     let i = c.before.before.loop.i in
     let p : length s.text.now ≤ i = omega arith in
-    rw c.letter2.ensures (sym (c.before.before.loop.invariant.1 ∙ text-ended s.text.now (take 14 s.row) i p))
+    rw c.letter2.ensures (sym (c.before.before.loop.invariant.1 ∙ text_ended s.text.now (take 14 s.row) i p))
 
 pub is-word-spec : {M : Type 1} → statement M
 is-word-spec =

@@ -8,7 +8,7 @@ use lib.ListN.{get_or, take, length-take, get_or-eq_default}
 use Rattle.text.specs.Putting.{Put}
 use Rattle.text.proofs.Putting.{put_then, put-none, put-length}
 use Rattle.words.specs.Rows.{letters}
-use Rattle.words.proofs.Rows.{left, row-letters, so_far, one_more, all-put}
+use Rattle.words.proofs.Rows.{left, row-letters, so_far, one_more, all_put}
 use Rattle.words.proofs.put_word.Statement.{statement}
 use Rattle.words.proofs.put_word.Tie as tie
 
@@ -27,7 +27,7 @@ same_length c = put-length c.before.before.before.loop.invariant.0
 
 returns : tie.Need-returns invariant-loop decreases-loop
 returns c =
-    let e = all-put (take 14 c.before.before.before.before.row_of.result) c.before.before.before.loop.i (sym c.before.letter.ensures ∙ c.if1.true) in
+    let e = all_put (take 14 c.before.before.before.before.row_of.result) c.before.before.before.loop.i (sym c.before.letter.ensures ∙ c.if1.true) in
     rw (e ∙ c.before.before.before.loop.invariant.1 ∙ ap letters c.before.before.before.before.row_of.ensures ∙ row-letters c.before.before.before.before.before.before.args.k) at c.before.before.before.loop.invariant.0
 
 loop-again : tie.Need-loop-preserved invariant-loop decreases-loop
@@ -43,7 +43,7 @@ same-length-2 c = put-length c.before.loop.invariant.0
 returns-2 : tie.Need-returns-2 invariant-loop decreases-loop
 returns-2 c =
     let l : List ℕ = take 14 c.before.before.row_of.result in
-    let e = all-put l c.before.loop.i (get_or-eq_default l 32 (omega (arith, length-take 14 c.before.before.row_of.result))) in
+    let e = all_put l c.before.loop.i (get_or-eq_default l 32 (omega (arith, length-take 14 c.before.before.row_of.result))) in
     rw (e ∙ c.before.loop.invariant.1 ∙ ap letters c.before.before.row_of.ensures ∙ row-letters c.before.before.before.before.args.k) at c.before.loop.invariant.0
 
 pub put-word-spec : {M : Type 1} → statement M

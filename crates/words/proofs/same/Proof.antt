@@ -5,7 +5,7 @@ use Prim.Native.Nat.{◌≤◌, ◌<◌, ◌-◌}
 use native.Mathlib.Omega.{arith}
 use lib.ListN.{length, drop}
 use Rattle.words.specs.Bytes.{same}
-use Rattle.words.proofs.Laws.{same_length, turn-differs, turn-equal, all-passed}
+use Rattle.words.proofs.Laws.{same_length, turn_differs, turn_equal, all-passed}
 use Rattle.words.proofs.same.Statement.{statement}
 use Rattle.words.proofs.same.Tie as tie
 
@@ -25,13 +25,13 @@ returns-2 : tie.Need-returns-2 invariant-loop decreases-loop
 returns-2 c =
     let p : c.before.before.before.before.loop.i < length c.before.before.before.before.before.before.args.a.now = omega arith in
     let q : c.before.before.before.before.loop.i < length c.before.before.before.before.before.before.args.b.now = omega arith in
-    sym (c.before.before.before.before.loop.invariant.2 ∙ turn-differs c.before.before.before.before.before.before.args.a.now c.before.before.before.before.before.before.args.b.now c.before.before.before.before.loop.i p q c.if2.true)
+    sym (c.before.before.before.before.loop.invariant.2 ∙ turn_differs c.before.before.before.before.before.before.args.a.now c.before.before.before.before.before.before.args.b.now c.before.before.before.before.loop.i p q c.if2.true)
 
 loop-again : tie.Need-loop-preserved invariant-loop decreases-loop
 loop-again c =
     let p : c.before.before.before.before.loop.i < length c.before.before.before.before.before.before.args.a.now = omega arith in
     let q : c.before.before.before.before.loop.i < length c.before.before.before.before.before.before.args.b.now = omega arith in
-    (search rules, search rules, c.before.before.before.before.loop.invariant.2 ∙ turn-equal c.before.before.before.before.before.before.args.a.now c.before.before.before.before.before.before.args.b.now c.before.before.before.before.loop.i p q c.if2.false)
+    (search rules, search rules, c.before.before.before.before.loop.invariant.2 ∙ turn_equal c.before.before.before.before.before.before.args.a.now c.before.before.before.before.before.before.args.b.now c.before.before.before.before.loop.i p q c.if2.false)
 
 returns-3 : tie.Need-returns-3 invariant-loop decreases-loop
 returns-3 c =

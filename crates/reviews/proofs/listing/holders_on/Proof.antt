@@ -4,7 +4,7 @@ use Prim.Native.Nat.{◌-◌}
 use native.Mathlib.Omega.{arith}
 use Rattle.model.specs.Words.{permission}
 use Rattle.state.specs.View.{view}
-use Rattle.reviews.proofs.Filling.{Filled, fill_start, fill-next, fill_end}
+use Rattle.reviews.proofs.Filling.{Filled, fill_start, fill_next, fill_end}
 use Rattle.reviews.proofs.listing.holders_on.Statement.{statement}
 use Rattle.reviews.proofs.listing.holders_on.Tie as tie
 
@@ -18,7 +18,7 @@ loop-holds : tie.Need-loop-init invariant-loop decreases-loop
 loop-holds c = fill_start (omega arith)
 
 loop-again : tie.Need-loop-preserved invariant-loop decreases-loop
-loop-again c = fill-next (omega arith) c.holders_of.ensures c.before.before.loop.invariant
+loop-again c = fill_next (omega arith) c.holders_of.ensures c.before.before.loop.invariant
 
 returns : tie.Need-returns invariant-loop decreases-loop
 returns c = fill_end (omega arith) c.before.loop.invariant

@@ -6,7 +6,7 @@ use borrow.Author.Tests.{eqb-true}
 use Rattle.numbers.specs.Answers.{number_of}
 use Rattle.model.specs.Sheet.{verdict}
 use Rattle.reviews.specs.Reviewing.{refusals, meeting}
-use Rattle.reviews.proofs.Settling.{done-room, lists-done, lists-refused}
+use Rattle.reviews.proofs.Settling.{done-room, lists_done, lists_refused}
 use Rattle.reviews.proofs.listing.review.Statement.{statement}
 use Rattle.reviews.proofs.listing.review.Tie as tie
 
@@ -22,12 +22,12 @@ write-requires c κs =
 returns : tie.Need-returns
 returns c =
     let a = c.before.before.before.before.before.before.before.before.before.before.args in
-    lists-done a.beyond a.missing (meeting a.roles a.table.now) a.out.now _ _ (answered c.before.before.before.before.before.before) (sym c.before.before.before.before.before.is_done.ensures ∙ c.before.before.before.before.if1.true) c.before.before.before.before.before.before.before.count.ensures c.before.before.write.ensures
+    lists_done a.beyond a.missing (meeting a.roles a.table.now) a.out.now _ _ (answered c.before.before.before.before.before.before) (sym c.before.before.before.before.before.is_done.ensures ∙ c.before.before.before.before.if1.true) c.before.before.before.before.before.before.before.count.ensures c.before.before.write.ensures
 
 returns-2 : tie.Need-returns-2
 returns-2 c =
     let a = c.before.before.before.before.before.before.args in
-    lists-refused a.beyond a.missing (meeting a.roles a.table.now) a.out.now _ _ (answered c.before.before) (sym c.before.is_done.ensures ∙ c.if1.false) refl refl
+    lists_refused a.beyond a.missing (meeting a.roles a.table.now) a.out.now _ _ (answered c.before.before) (sym c.before.is_done.ensures ∙ c.if1.false) refl refl
 
 pub review-spec : {M : Type 1} → statement M
 review-spec =

@@ -6,7 +6,7 @@ use Prim.Native.Nat.{◌≤◌}
 use lib.ListN.{length}
 use borrow.Author.Tests.{eqb-true}
 use Rattle.numbers.specs.Answers.{number_of}
-use Rattle.reviews.proofs.Settling.{done-room, lists-done, lists-refused}
+use Rattle.reviews.proofs.Settling.{done-room, lists_done, lists_refused}
 use Rattle.reviews.proofs.Writing.{over-next}
 use Rattle.reviews.proofs.listing.review_one.Statement.{statement}
 use Rattle.reviews.proofs.listing.review_one.Tie as tie
@@ -19,10 +19,10 @@ slice-write-out : tie.Need-slice-write-out
 slice-write-out c = room c
 
 returns : tie.Need-returns
-returns c = lists-done c.before.before.before.before.args.beyond c.before.before.before.before.args.missing (c.before.before.before.before.args.number ∷ []) c.before.before.before.before.args.out.now _ _ c.before.before.refusal.ensures (sym c.before.is_done.ensures ∙ c.if1.true) refl (over-next [] c.before.before.before.before.args.out.now c.before.before.before.before.args.number (room c))
+returns c = lists_done c.before.before.before.before.args.beyond c.before.before.before.before.args.missing (c.before.before.before.before.args.number ∷ []) c.before.before.before.before.args.out.now _ _ c.before.before.refusal.ensures (sym c.before.is_done.ensures ∙ c.if1.true) refl (over-next [] c.before.before.before.before.args.out.now c.before.before.before.before.args.number (room c))
 
 returns-2 : tie.Need-returns-2
-returns-2 c = lists-refused c.before.before.before.before.args.beyond c.before.before.before.before.args.missing (c.before.before.before.before.args.number ∷ []) c.before.before.before.before.args.out.now _ _ c.before.before.refusal.ensures (sym c.before.is_done.ensures ∙ c.if1.false) refl refl
+returns-2 c = lists_refused c.before.before.before.before.args.beyond c.before.before.before.before.args.missing (c.before.before.before.before.args.number ∷ []) c.before.before.before.before.args.out.now _ _ c.before.before.refusal.ensures (sym c.before.is_done.ensures ∙ c.if1.false) refl refl
 
 pub review-one-spec : {M : Type 1} → statement M
 review-one-spec =

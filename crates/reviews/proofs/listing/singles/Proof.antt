@@ -3,7 +3,7 @@ use borrow.Author.Rules.{rules}
 use Prim.Native.Nat.{◌-◌}
 use native.Mathlib.Omega.{arith}
 use Rattle.roleset.specs.Roles.{none, with}
-use Rattle.reviews.proofs.Filling.{Filled, fill_start, fill-next, fill_end}
+use Rattle.reviews.proofs.Filling.{Filled, fill_start, fill_next, fill_end}
 use Rattle.reviews.proofs.listing.singles.Statement.{statement}
 use Rattle.reviews.proofs.listing.singles.Tie as tie
 
@@ -17,7 +17,7 @@ loop-holds : tie.Need-loop-init invariant-loop decreases-loop
 loop-holds c = fill_start (omega arith)
 
 loop-again : tie.Need-loop-preserved invariant-loop decreases-loop
-loop-again c = fill-next (omega arith) c.with.ensures.is c.before.before.loop.invariant
+loop-again c = fill_next (omega arith) c.with.ensures.is c.before.before.loop.invariant
 
 returns : tie.Need-returns invariant-loop decreases-loop
 returns c = fill_end (omega arith) c.before.loop.invariant

@@ -7,7 +7,7 @@ use Rattle.roleset.specs.Bounded.{bit}
 use Rattle.model.specs.Model.{RoleSet}
 use Rattle.model.specs.commands.Sets.{sets_of}
 use Rattle.state.specs.View.{view}
-use Rattle.reviews.proofs.Filling.{Filled, fill_start, fill-next, fill_end}
+use Rattle.reviews.proofs.Filling.{Filled, fill_start, fill_next, fill_end}
 use Rattle.reviews.proofs.listing.there.Statement.{statement}
 use Rattle.reviews.proofs.listing.there.Tie as tie
 
@@ -21,7 +21,7 @@ loop-holds : tie.Need-loop-init invariant-loop decreases-loop
 loop-holds c = fill_start (omega arith)
 
 loop-again : tie.Need-loop-preserved invariant-loop decreases-loop
-loop-again c = fill-next (omega arith) (ap (λ (x : RoleSet). bit x.there) c.before.set_named.ensures) c.before.before.before.loop.invariant
+loop-again c = fill_next (omega arith) (ap (λ (x : RoleSet). bit x.there) c.before.set_named.ensures) c.before.before.before.loop.invariant
 
 returns : tie.Need-returns invariant-loop decreases-loop
 returns c = fill_end (omega arith) c.before.loop.invariant

@@ -8,7 +8,7 @@ use native.Mathlib.Omega.{arith}
 use lib.ListN.{length}
 use Rattle.roleset.specs.Bounded.{members}
 use Rattle.reviews.specs.Reviewing.{touched, meeting}
-use Rattle.reviews.proofs.Writing.{Written, over, written_start, written-stay, written-few, written-length, written-fits, written_next}
+use Rattle.reviews.proofs.Writing.{Written, over, written_start, written_stay, written_few, written_length, written_fits, written_next}
 use Rattle.reviews.proofs.listing.write.Statement.{statement}
 use Rattle.reviews.proofs.listing.write.Tie as tie
 
@@ -22,17 +22,17 @@ loop-holds : tie.Need-loop-init invariant-loop decreases-loop
 loop-holds c = (omega arith, written_start _ _)
 
 mul-out : tie.Need-overflow-mul-out invariant-loop decreases-loop
-mul-out c = let at = c.before.before.before.before.loop in omega (arith, written-few _ _ at.k at.n at.out at.invariant.1)
+mul-out c = let at = c.before.before.before.before.loop in omega (arith, written_few _ _ at.k at.n at.out at.invariant.1)
 
 slice-write-out : tie.Need-slice-write-out invariant-loop decreases-loop
 unfolding meeting
 slice-write-out c =
     let a = c.before.before.before.before.before.before.before.args in
     let at = c.before.before.before.before.loop in
-    written-fits (touched a.roles a.table.now) a.out.now (length a.table.now) c.before.before.before.before.before.before.before.requires.1 at.k at.n at.out c.before.before.before.loop-test.true (sym c.before.meet.ensures ∙ c.if1.true) at.invariant.1
+    written_fits (touched a.roles a.table.now) a.out.now (length a.table.now) c.before.before.before.before.before.before.before.requires.1 at.k at.n at.out c.before.before.before.loop-test.true (sym c.before.meet.ensures ∙ c.if1.true) at.invariant.1
 
 add-n : tie.Need-overflow-add-n invariant-loop decreases-loop
-add-n c = let at = c.before.before.before.before.loop in omega (arith, written-few _ _ at.k at.n at.out at.invariant.1)
+add-n c = let at = c.before.before.before.before.loop in omega (arith, written_few _ _ at.k at.n at.out at.invariant.1)
 
 loop-again : tie.Need-loop-preserved invariant-loop decreases-loop
 unfolding meeting
@@ -43,7 +43,7 @@ loop-again c =
     let met = sym c.before.meet.ensures in
     ⊎_elim
     (λ w. (omega arith, rw (w.1, w.2) (written_next f a.out.now (length a.table.now) c.before.before.before.before.before.before.before.requires.1 at.k at.n at.out c.before.before.before.loop-test.true (met ∙ w.0.taken) at.invariant.1)))
-    (λ w. (omega arith, rw (w.1, w.2) (written-stay f a.out.now at.k at.n at.out (met ∙ w.0.left) at.invariant.1)))
+    (λ w. (omega arith, rw (w.1, w.2) (written_stay f a.out.now at.k at.n at.out (met ∙ w.0.left) at.invariant.1)))
     c.if1.branch
 
 same_length : tie.Need-same-length invariant-loop decreases-loop
@@ -51,7 +51,7 @@ unfolding meeting
 same_length c =
     let a = c.before.before.before.before.args in
     let at = c.before.loop in
-    written-length (touched a.roles a.table.now) a.out.now (length a.table.now) c.before.before.before.before.requires.1 at.k at.n at.out at.invariant.0 at.invariant.1
+    written_length (touched a.roles a.table.now) a.out.now (length a.table.now) c.before.before.before.before.requires.1 at.k at.n at.out at.invariant.0 at.invariant.1
 
 returns : tie.Need-returns invariant-loop decreases-loop
 unfolding meeting

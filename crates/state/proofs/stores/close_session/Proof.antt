@@ -6,7 +6,7 @@ use Prim.Native.Nat.{ℕ, ◌+◌}
 use lib.ListN.{length, length-set}
 use Rattle.state.specs.Places.{owners_at}
 use Rattle.state.specs.View.{view}
-use Rattle.state.proofs.Stored.{in-range, beyond, session-stored}
+use Rattle.state.proofs.Stored.{in-range, beyond, session_stored}
 use Rattle.state.proofs.stores.close_session.Statement.{statement}
 use Rattle.state.proofs.stores.close_session.Tie as tie
 
@@ -19,7 +19,7 @@ returns c = let at = c.before.before.args in sym (beyond 64 at.x.number (view at
 returns-2 : tie.Need-returns-2
 returns-2 c =
     let at = c.before.before.before.args in
-    session-stored at.state.now at.x.number (long c) (omega arith) 0 0 ∙ sym (in-range 64 at.x.number (view at.state.now) _ (omega arith))
+    session_stored at.state.now at.x.number (long c) (omega arith) 0 0 ∙ sym (in-range 64 at.x.number (view at.state.now) _ (omega arith))
 
 pub close-session-spec : {M : Type 1} → statement M
 close-session-spec = tie.close (tie.spec (λ c. search rules) returns (λ c. search rules) (λ c. search rules) (λ c. search rules) (λ c. search rules) (λ c. search rules) (λ c. omega (arith, long c, length-set c.before.before.before.args.state.now (owners_at + c.before.before.before.args.x.number) 0)) returns-2)

@@ -7,7 +7,7 @@ use lib.ListN.{length, length-set}
 use Rattle.model.specs.commands.Sessions.{active_set}
 use Rattle.state.specs.Places.{owners_at}
 use Rattle.state.specs.View.{view}
-use Rattle.state.proofs.Stored.{in-range, beyond, active-stored}
+use Rattle.state.proofs.Stored.{in-range, beyond, active_stored}
 use Rattle.state.proofs.stores.put_active.Statement.{statement}
 use Rattle.state.proofs.stores.put_active.Tie as tie
 
@@ -21,7 +21,7 @@ returns-2 : tie.Need-returns-2
 unfolding active_set view
 returns-2 c =
     let at = c.before.before.before.args in
-    active-stored at.state.now at.x.number (long c) (omega arith) at.active ∙ sym (in-range 64 at.x.number (view at.state.now) _ (omega arith))
+    active_stored at.state.now at.x.number (long c) (omega arith) at.active ∙ sym (in-range 64 at.x.number (view at.state.now) _ (omega arith))
 
 pub put-active-spec : {M : Type 1} → statement M
 put-active-spec = tie.close (tie.spec (λ c. search rules) returns (λ c. search rules) (λ c. search rules) (λ c. search rules) returns-2)

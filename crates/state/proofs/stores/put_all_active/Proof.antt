@@ -7,7 +7,7 @@ use lib.ListN.{length, length-set}
 use Rattle.state.specs.Places.{owners_at, active_at, places}
 use Rattle.state.specs.View.{view, paired, session_of}
 use Rattle.state.proofs.Slots.{Filled, fill_start, fill-store, fill_end, wider, same}
-use Rattle.state.proofs.Stored.{sessions-changed}
+use Rattle.state.proofs.Stored.{sessions_changed}
 use Rattle.state.proofs.stores.put_all_active.Statement.{statement}
 use Rattle.state.proofs.stores.put_all_active.Tie as tie
 
@@ -34,7 +34,7 @@ returns c =
     let l = at.before.before.args.state.now in
     let whole : at.loop.k ≡ 64 = omega arith in
     let filled = rw whole at at.loop.invariant.2 in
-    sessions-changed l at.loop.all (wider filled.within owners_at 128 (omega arith) (omega arith)) _ (ap₂ (paired session_of) (same filled.within owners_at 64 refl) (fill_end active_at 64 at.before.before.args.kept.now l at.loop.all filled))
+    sessions_changed l at.loop.all (wider filled.within owners_at 128 (omega arith) (omega arith)) _ (ap₂ (paired session_of) (same filled.within owners_at 64 refl) (fill_end active_at 64 at.before.before.args.kept.now l at.loop.all filled))
 
 pub put-all-active-spec : {M : Type 1} → statement M
 put-all-active-spec = tie.close (tie.spec invariant-loop decreases-loop loop-holds (λ c. search rules) (λ c. search rules) (λ c. search rules) (λ c. search rules) (λ c. search rules) (λ c. search rules) (λ c. search rules) loop-again returns)

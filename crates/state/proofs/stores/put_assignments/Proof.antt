@@ -8,7 +8,7 @@ use Rattle.model.specs.Model.{Model, put, with_assignments}
 use Rattle.state.specs.Places.{assigned_at, assignment_count_at, places}
 use Rattle.state.specs.View.{view}
 use Rattle.state.proofs.Slots.{Filled, fill_start, fill-store, fill_end, set-within, part-store}
-use Rattle.state.proofs.Stored.{assigned-changed, assignments-counted}
+use Rattle.state.proofs.Stored.{assigned_changed, assignments_counted}
 use Rattle.state.proofs.stores.put_assignments.Statement.{statement}
 use Rattle.state.proofs.stores.put_assignments.Tie as tie
 
@@ -36,8 +36,8 @@ returns c =
     let l = start.state.now in
     let whole : at.loop.k ≡ 256 = omega arith in
     let filled = rw whole at at.loop.invariant.2 in
-    assignments-counted at.loop.all _ (set-within at.loop.all assignment_count_at 1 0 start.standing (omega arith)) start.standing (ap (λ (f : ℕ → ℕ). f 0) (part-store at.loop.all assignment_count_at 1 0 start.standing (omega arith) (omega (arith, at.loop.invariant.1))))
-    ∙ ap (λ (m : Model). with_assignments m m.assigned start.standing) (assigned-changed l at.loop.all filled.within _ (fill_end assigned_at 256 start.assigned.now l at.loop.all filled))
+    assignments_counted at.loop.all _ (set-within at.loop.all assignment_count_at 1 0 start.standing (omega arith)) start.standing (ap (λ (f : ℕ → ℕ). f 0) (part-store at.loop.all assignment_count_at 1 0 start.standing (omega arith) (omega (arith, at.loop.invariant.1))))
+    ∙ ap (λ (m : Model). with_assignments m m.assigned start.standing) (assigned_changed l at.loop.all filled.within _ (fill_end assigned_at 256 start.assigned.now l at.loop.all filled))
 
 pub put-assignments-spec : {M : Type 1} → statement M
 put-assignments-spec = tie.close (tie.spec invariant-loop decreases-loop loop-holds (λ c. search rules) (λ c. search rules) (λ c. search rules) (λ c. search rules) (λ c. search rules) (λ c. search rules) (λ c. search rules) loop-again (λ c. search rules) returns)

@@ -4,7 +4,7 @@ use mathlib.Core.Path.{◌≡◌, sym, ◌∙◌}
 use native.Mathlib.Omega.{arith}
 use lib.ListN.{length}
 use Rattle.state.specs.View.{view}
-use Rattle.state.proofs.Stored.{in-range, beyond, grant-stored}
+use Rattle.state.proofs.Stored.{in-range, beyond, grant_stored}
 use Rattle.state.proofs.stores.put_holders.Statement.{statement}
 use Rattle.state.proofs.stores.put_holders.Tie as tie
 
@@ -15,7 +15,7 @@ returns-2 : tie.Need-returns-2
 returns-2 c =
     let at = c.before.before.args in
     let long : length at.state.now ≡ 4616 = c.all.given.0.1 in
-    grant-stored at.state.now long at.p at.roles at.standing (omega arith) ∙ sym (in-range 4096 at.p (view at.state.now) _ (omega arith))
+    grant_stored at.state.now long at.p at.roles at.standing (omega arith) ∙ sym (in-range 4096 at.p (view at.state.now) _ (omega arith))
 
 pub put-holders-spec : {M : Type 1} → statement M
 put-holders-spec = tie.close (tie.spec returns (λ c. search rules) (λ c. search rules) (λ c. search rules) (λ c. search rules) returns-2)

@@ -8,7 +8,7 @@ use Rattle.model.specs.Model.{Model, put, with_lines}
 use Rattle.state.specs.Places.{juniors_at, line_count_at, places}
 use Rattle.state.specs.View.{view}
 use Rattle.state.proofs.Slots.{Filled, fill_start, fill-store, fill_end, set-within, part-store}
-use Rattle.state.proofs.Stored.{juniors-changed, lines-counted}
+use Rattle.state.proofs.Stored.{juniors_changed, lines_counted}
 use Rattle.state.proofs.stores.put_lines.Statement.{statement}
 use Rattle.state.proofs.stores.put_lines.Tie as tie
 
@@ -36,8 +36,8 @@ returns c =
     let l = start.state.now in
     let whole : at.loop.k ≡ 64 = omega arith in
     let filled = rw whole at at.loop.invariant.2 in
-    lines-counted at.loop.all _ (set-within at.loop.all line_count_at 1 0 start.standing (omega arith)) start.standing (ap (λ (f : ℕ → ℕ). f 0) (part-store at.loop.all line_count_at 1 0 start.standing (omega arith) (omega (arith, at.loop.invariant.1))))
-    ∙ ap (λ (m : Model). with_lines m m.juniors start.standing) (juniors-changed l at.loop.all filled.within _ (fill_end juniors_at 64 start.juniors.now l at.loop.all filled))
+    lines_counted at.loop.all _ (set-within at.loop.all line_count_at 1 0 start.standing (omega arith)) start.standing (ap (λ (f : ℕ → ℕ). f 0) (part-store at.loop.all line_count_at 1 0 start.standing (omega arith) (omega (arith, at.loop.invariant.1))))
+    ∙ ap (λ (m : Model). with_lines m m.juniors start.standing) (juniors_changed l at.loop.all filled.within _ (fill_end juniors_at 64 start.juniors.now l at.loop.all filled))
 
 pub put-lines-spec : {M : Type 1} → statement M
 put-lines-spec = tie.close (tie.spec invariant-loop decreases-loop loop-holds (λ c. search rules) (λ c. search rules) (λ c. search rules) (λ c. search rules) (λ c. search rules) (λ c. search rules) (λ c. search rules) loop-again (λ c. search rules) returns)

@@ -6,7 +6,7 @@ use Prim.Native.Nat.{ℕ, ◌+◌, ◌≤◌}
 use lib.ListN.{length, length-set}
 use Rattle.state.specs.Places.{places}
 use Rattle.state.specs.View.{view}
-use Rattle.state.proofs.Stored.{in-range, beyond, sets-fit, members-stored}
+use Rattle.state.proofs.Stored.{in-range, beyond, sets-fit, members_stored}
 use Rattle.state.proofs.stores.put_members.Statement.{statement}
 use Rattle.state.proofs.stores.put_members.Tie as tie
 
@@ -23,7 +23,7 @@ returns c = let at = c.before.before.args in sym (beyond 16 at.name.number (view
 returns-2 : tie.Need-returns-2
 returns-2 c =
     let at = c.before.before.before.before.args in
-    rw c.before.sets_from.ensures (members-stored at.kind at.state.now at.name.number (long c) (omega arith) at.roles) ∙ sym (in-range 16 at.name.number (view at.state.now) _ (omega arith))
+    rw c.before.sets_from.ensures (members_stored at.kind at.state.now at.name.number (long c) (omega arith) at.roles) ∙ sym (in-range 16 at.name.number (view at.state.now) _ (omega arith))
 
 pub put-members-spec : {M : Type 1} → statement M
 put-members-spec = tie.close (tie.spec (λ c. search rules) returns (λ c κs. search rules) (λ c. omega (arith, within c.before)) (λ c. omega (arith, within c.before)) (λ c. omega (arith, within c.before)) (λ c. omega (arith, long c, within c.before)) returns-2)

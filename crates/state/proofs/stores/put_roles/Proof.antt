@@ -8,7 +8,7 @@ use Rattle.model.specs.Model.{put}
 use Rattle.state.specs.Places.{roles_at}
 use Rattle.state.specs.View.{view}
 use Rattle.state.proofs.Slots.{set-within, part-store}
-use Rattle.state.proofs.Stored.{roles-changed}
+use Rattle.state.proofs.Stored.{roles_changed}
 use Rattle.state.proofs.stores.put_roles.Statement.{statement}
 use Rattle.state.proofs.stores.put_roles.Tie as tie
 
@@ -18,7 +18,7 @@ returns c =
     let l = c.before.args.state.now in
     let x = c.before.args.roles in
     let long : length l ≡ 4616 = c.all.given.0.1 in
-    roles-changed l _ (set-within l roles_at 1 0 x (omega arith)) x (ap (λ (f : ℕ → ℕ). f 0) (part-store l roles_at 1 0 x (omega arith) (omega arith)))
+    roles_changed l _ (set-within l roles_at 1 0 x (omega arith)) x (ap (λ (f : ℕ → ℕ). f 0) (part-store l roles_at 1 0 x (omega arith) (omega arith)))
 
 pub put-roles-spec : {M : Type 1} → statement M
 put-roles-spec = tie.close (tie.spec (λ c. search rules) returns)

@@ -8,7 +8,7 @@ use Rattle.model.specs.Model.{RoleSet}
 use Rattle.state.specs.Stores.{set_stored}
 use Rattle.state.specs.Places.{places}
 use Rattle.state.specs.View.{view}
-use Rattle.state.proofs.Stored.{in-range, beyond, sets-fit, set-stored, one-more-set}
+use Rattle.state.proofs.Stored.{in-range, beyond, sets-fit, set_stored, one-more-set}
 use Rattle.state.proofs.stores.put_set.Statement.{statement}
 use Rattle.state.proofs.stores.put_set.Tie as tie
 
@@ -25,7 +25,7 @@ returns c = let at = c.before.before.args in sym (beyond 16 at.name.number (view
 returns-2 : tie.Need-returns-2
 returns-2 c =
     let at = c.before.before.before.before.args in
-    rw c.before.sets_from.ensures (set-stored at.kind at.state.now at.name.number (long c) (omega arith) (at.card + 1) at.roles) ∙ ap (λ (s : RoleSet). set_stored at.kind (view at.state.now) at.name.number s) (one-more-set at.card at.roles) ∙ sym (in-range 16 at.name.number (view at.state.now) _ (omega arith))
+    rw c.before.sets_from.ensures (set_stored at.kind at.state.now at.name.number (long c) (omega arith) (at.card + 1) at.roles) ∙ ap (λ (s : RoleSet). set_stored at.kind (view at.state.now) at.name.number s) (one-more-set at.card at.roles) ∙ sym (in-range 16 at.name.number (view at.state.now) _ (omega arith))
 
 pub put-set-spec : {M : Type 1} → statement M
 put-set-spec = tie.close (tie.spec (λ c. search rules) returns (λ c κs. search rules) (λ c. search rules) (λ c. omega (arith, within c.before)) (λ c. omega (arith, within c.before)) (λ c. omega (arith, long c, within c.before)) (λ c. omega (arith, within c.before)) (λ c. omega (arith, within c.before)) (λ c. omega (arith, within c.before)) (λ c. omega (arith, long c, within c.before, length-set c.before.before.before.before.args.state.now (c.before.sets_from.result + c.before.before.before.before.args.name.number) (c.before.before.before.before.args.card + 1))) returns-2)

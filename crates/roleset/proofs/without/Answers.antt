@@ -1,0 +1,10 @@
+-- Below 64 the role's bit is cleared; a number beyond changes nothing. Assumes nothing.
+use borrow.Author.Rules.{rules}
+use Rattle.roleset.proofs.Machine.{without-made, without-beyond}
+use Rattle.roleset.proofs.without.Goals as goal
+
+pub returns-then-r-lt64 : goal.returns-then-r-lt64
+returns-then-r-lt64 c = without-made c.before.args.s c.before.args.r c.before.ranges.s.fits c.if-r-lt64.true
+
+pub returns-else-r-lt64 : goal.returns-else-r-lt64
+returns-else-r-lt64 c = without-beyond c.before.args.s c.before.args.r c.before.ranges.s.fits c.if-r-lt64.false
