@@ -16,7 +16,7 @@ use state::reads::{holders_of, session_at};
 use walking::reach;
 
 // What `check` answers: yes or no, and how many effective roles it looked at; no and 0 on a refusal.
-#[derive(Drop)]
+#[derive(Clone, Copy)]
 pub struct Checked {
     pub answer: Answer,
     pub yes: bool,
@@ -24,7 +24,7 @@ pub struct Checked {
 }
 
 // Whose a session is, as the state has it: in a state of the engine's own a user's number, in any other any number; 0 on a refusal.
-#[derive(Drop)]
+#[derive(Clone, Copy)]
 pub struct Owned {
     pub answer: Answer,
     pub owner: u64,

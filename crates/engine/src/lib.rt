@@ -15,7 +15,7 @@ use sessions::Opened;
 use state::PLACES;
 
 // What a step hands back: the answer, whether the command has a result, and that result, the session that `session` opened (0 where there is none).
-#[derive(Drop)]
+#[derive(Clone, Copy)]
 pub struct Stepped {
     pub answer: Answer,
     pub result: bool,

@@ -3,7 +3,7 @@
 ghost use Rattle.lists.specs.Reading.{Reads};
 
 // What a list of roles holds: whether it is strictly ascending, whether some number is beyond the roles' range, and the set of its roles.
-#[derive(Drop)]
+#[derive(Clone, Copy)]
 pub struct Listed {
     pub ascending: bool,
     pub beyond: bool,

@@ -7,7 +7,7 @@ use model::{Command, Kind, Question};
 use numbers::{Role, Session, SetName, User};
 
 // A command to obey, a question to ask, or nothing: there is no such word.
-#[derive(Drop)]
+#[derive(Clone, Copy)]
 pub enum Meant {
     Do(Command),
     Ask(Question),

@@ -4,14 +4,14 @@
 use numbers::{Role, Session, SetName, User};
 
 // The two kinds of separation set.
-#[derive(Drop)]
+#[derive(Clone, Copy)]
 pub enum Kind {
     Static,
     Dynamic,
 }
 
 // An SSD or DSD set: roles and a cardinality. One that is not there has no roles and the cardinality 0.
-#[derive(Drop)]
+#[derive(Clone, Copy)]
 pub struct RoleSet {
     pub there: bool,
     pub card: u64,
@@ -19,7 +19,7 @@ pub struct RoleSet {
 }
 
 // A session: its owner and its active roles. One that is not live has the owner 0 and no roles.
-#[derive(Drop)]
+#[derive(Clone, Copy)]
 pub struct SessionRecord {
     pub live: bool,
     pub owner: u64,
@@ -27,7 +27,7 @@ pub struct SessionRecord {
 }
 
 // Every command. A list of roles, where the command takes one, is passed beside it.
-#[derive(Drop)]
+#[derive(Clone, Copy)]
 pub enum Command {
     AddUser(User),
     AddRole(Role),
@@ -52,7 +52,7 @@ pub enum Command {
 }
 
 // Every question.
-#[derive(Drop)]
+#[derive(Clone, Copy)]
 pub enum Question {
     Check(Session, u16, u16),
     AssignedUsers(Role),

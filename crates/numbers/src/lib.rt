@@ -6,29 +6,29 @@ ghost use Rattle.numbers.specs.Answers.{number_of, answer_of};
 ghost use Rattle.numbers.specs.Ranges.{users, roles, sessions, sets, activation_beyond};
 
 // User, role, session and set numbers all start at 0, so each has a type of its own: one given where another belongs does not type-check. Each holds any 16-bit number, since a number beyond its range is refused by an answer.
-#[derive(Drop)]
+#[derive(Clone, Copy)]
 pub struct User {
     pub number: u16,
 }
 
-#[derive(Drop)]
+#[derive(Clone, Copy)]
 pub struct Role {
     pub number: u16,
 }
 
-#[derive(Drop)]
+#[derive(Clone, Copy)]
 pub struct Session {
     pub number: u16,
 }
 
 // The name of an SSD or DSD set.
-#[derive(Drop)]
+#[derive(Clone, Copy)]
 pub struct SetName {
     pub number: u16,
 }
 
 // The answer sheet, in the order of the numbers. `number_of` has each number, and the paper's sentence for it.
-#[derive(Drop)]
+#[derive(Clone, Copy)]
 pub enum Answer {
     Done,
     BeyondRange,
@@ -73,7 +73,7 @@ pub fn number_of(a: Answer) -> u16
 }
 
 // What a number names: an answer, or none.
-#[derive(Drop)]
+#[derive(Clone, Copy)]
 pub enum Named {
     Nothing,
     Is(Answer),

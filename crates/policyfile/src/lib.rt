@@ -12,7 +12,7 @@ use state::PLACES;
 use state::stores::put_all;
 
 // What saving hands back: its answer, and the length of the file where it was saved.
-#[derive(Drop)]
+#[derive(Clone, Copy)]
 pub struct Saved {
     pub answer: Answer,
     pub length: usize,

@@ -18,21 +18,21 @@ use state::stores::{
 };
 
 // The two sections of pairs.
-#[derive(Drop)]
+#[derive(Clone, Copy)]
 pub enum Pairs {
     Lines,
     Assignments,
 }
 
 // A list of roles, and the place past it.
-#[derive(Drop)]
+#[derive(Clone, Copy)]
 pub struct Roles {
     pub at: usize,
     pub roles: u64,
 }
 
 // Two numbers and a list of roles, and the place past them.
-#[derive(Drop)]
+#[derive(Clone, Copy)]
 pub struct Entry {
     pub at: usize,
     pub first: u16,

@@ -11,14 +11,14 @@ use textlines::Tally;
 pub const LONGEST: usize = 32768;
 
 // How far the program has run: the lines that were answered, and whether the total was handed out, after which nothing is.
-#[derive(Drop)]
+#[derive(Clone, Copy)]
 pub struct Run {
     pub progress: Progress,
     pub over: bool,
 }
 
 // What a call hands out stands at the front of the buffer and ends at `len`; how far the program has run then.
-#[derive(Drop)]
+#[derive(Clone, Copy)]
 pub struct Printed {
     pub len: usize,
     pub run: Run,

@@ -6,7 +6,7 @@ ghost use Rattle.reading.specs.Form.{render, shaped, parse};
 ghost use Rattle.reading.specs.Holding.{blank, held, gathered};
 
 // A line: the number of its word, how many numbers follow it, and these. All zero where the text is no line.
-#[derive(Drop)]
+#[derive(Clone, Copy)]
 pub struct Line {
     pub ok: bool,
     pub word: u16,

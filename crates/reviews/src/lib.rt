@@ -16,7 +16,7 @@ use walking::reach;
 mod listing;
 
 // What a review hands back: its answer, and how many results stand in the buffer.
-#[derive(Drop)]
+#[derive(Clone, Copy)]
 pub struct Review {
     pub answer: Answer,
     pub count: u16,

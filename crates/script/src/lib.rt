@@ -15,7 +15,7 @@ use state::PLACES;
 use textlines::Tally;
 
 // The text of an answer stands at the front of the buffer and ends at `len`; whether the answer was 0.
-#[derive(Drop)]
+#[derive(Clone, Copy)]
 pub struct Answered {
     pub len: usize,
     pub ok: bool,
@@ -103,13 +103,13 @@ pub fn answer_line(state: &mut [u64; PLACES], text: &[u8], buf: &mut [u8]) -> An
 }
 
 // How far a script has run: the place past the lines that were answered, and their count.
-#[derive(Drop)]
+#[derive(Clone, Copy)]
 pub struct Progress {
     pub at: usize,
     pub tally: Tally,
 }
 
-#[derive(Drop)]
+#[derive(Clone, Copy)]
 pub struct Turned {
     pub len: usize,
     pub next: Progress,

@@ -19,7 +19,7 @@ use state::stores::{close_session, open_session, put_active};
 use walking::reach;
 
 // The session that was opened; session 0 on a refusal.
-#[derive(Drop)]
+#[derive(Clone, Copy)]
 pub struct Opened {
     pub answer: Answer,
     pub session: Session,

@@ -1,5 +1,6 @@
 // A text in parts, read one after another, and the count of a script's lines.
 #![tactic(auto)]
+
 ghost use Rattle.std.specs.Prelude.{◌≡◌, ◌+◌, ◌≤◌, length};
 ghost use Rattle.textlines.specs.Parts.{part_at, place_past};
 ghost use Rattle.textlines.specs.Tallies.{counted, one_more};
@@ -70,7 +71,7 @@ pub fn next_from<'a, 'b>(s: &'a [u8], at: &'b mut usize, stop: u8) -> &'a [u8]
 }
 
 // How many lines were answered 0, and how many otherwise.
-#[derive(Drop)]
+#[derive(Clone, Copy)]
 pub struct Tally {
     pub done: u16,
     pub others: u16,

@@ -1,0 +1,15 @@
+-- No byte that was passed is a stop byte. Assumes nothing.
+use borrow.Author.Rules.{rules}
+use mathlib.Core.Path.{◌≡◌, refl, ap}
+use Prim.Native.Nat.{◌+◌, ◌≤◌, ◌<◌, ◌-◌}
+use native.Mathlib.Omega.{arith}
+use lib.ListN.{length}
+use Rattle.textlines.specs.Parts.{part_at}
+use Rattle.textlines.proofs.Laws.{part_stops, part_goes_on, part_none}
+use Rattle.textlines.proofs.end_of.Given as goal
+
+abbrev pub invariant-loop-end : goal.invariant-loop-end
+invariant-loop-end l = (l.end ≤ length l.s) × (l.end + length (part_at l.stop l.s l.end) ≡ l.at + length (part_at l.stop l.s l.at))
+
+abbrev pub decreases-loop-end : goal.decreases-loop-end
+decreases-loop-end l = length l.s - l.end
