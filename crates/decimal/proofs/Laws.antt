@@ -112,7 +112,7 @@ module _ (n : ℕ) (h : n < 65536) where
 -- the first digit of five
 five : (n : ℕ) → n < 65536 → taken_from 0 (digit 10000 n ∷ digit 1000 n ∷ digit 100 n ∷ digit 10 n ∷ digit 1 n ∷ []) ≡ n
 unfolding taken_from
-five n h = ap (λ (v : ℕ). taken_from v (digit 1000 n ∷ digit 100 n ∷ digit 10 n ∷ digit 1 n ∷ [])) (first n h) ∙ from-thousands n h
+five n h = ap (λ (v : ℕ). taken_from v (digit 1000 n ∷ digit 100 n ∷ digit 10 n ∷ digit 1 n ∷ [])) (first n h) ∙ from_thousands n h
 
 -- "at most 65,535": every such number is read back from its decimal form
 pub value-decimal : (n : ℕ) → n < 65536 → value (decimal n) ≡ n
@@ -122,15 +122,15 @@ value-decimal n h = go (dec_lt n 10) (dec_lt n 100) (dec_lt n 1000) (dec_lt n 10
     go : Dec (n < 10) → Dec (n < 100) → Dec (n < 1000) → Dec (n < 10000) → value (lead 10000 n ++ (lead 1000 n ++ (lead 100 n ++ (lead 10 n ++ (digit 1 n ∷ []))))) ≡ n
     go (yes a) b c d =
         let z : n / 10 ≡ 0 = omega arith in
-        rw (lead-gone 10000 n (omega arith), lead-gone 1000 n (omega arith), lead-gone 100 n (omega arith), lead-gone 10 n a) (ap (λ (v : ℕ). taken_from v (digit 1 n ∷ [])) (sym z) ∙ from-units n h)
+        rw (lead-gone 10000 n (omega arith), lead-gone 1000 n (omega arith), lead-gone 100 n (omega arith), lead-gone 10 n a) (ap (λ (v : ℕ). taken_from v (digit 1 n ∷ [])) (sym z) ∙ from_units n h)
     go (no a) (yes b) c d =
         let z : n / 100 ≡ 0 = omega arith in
-        rw (lead-gone 10000 n (omega arith), lead-gone 1000 n (omega arith), lead-gone 100 n b, lead-there 10 n (omega arith)) (ap (λ (v : ℕ). taken_from v (digit 10 n ∷ digit 1 n ∷ [])) (sym z) ∙ from-tens n h)
+        rw (lead-gone 10000 n (omega arith), lead-gone 1000 n (omega arith), lead-gone 100 n b, lead-there 10 n (omega arith)) (ap (λ (v : ℕ). taken_from v (digit 10 n ∷ digit 1 n ∷ [])) (sym z) ∙ from_tens n h)
     go (no a) (no b) (yes c) d =
         let z : n / 1000 ≡ 0 = omega arith in
-        rw (lead-gone 10000 n (omega arith), lead-gone 1000 n c, lead-there 100 n (omega arith), lead-there 10 n (omega arith)) (ap (λ (v : ℕ). taken_from v (digit 100 n ∷ digit 10 n ∷ digit 1 n ∷ [])) (sym z) ∙ from-hundreds n h)
+        rw (lead-gone 10000 n (omega arith), lead-gone 1000 n c, lead-there 100 n (omega arith), lead-there 10 n (omega arith)) (ap (λ (v : ℕ). taken_from v (digit 100 n ∷ digit 10 n ∷ digit 1 n ∷ [])) (sym z) ∙ from_hundreds n h)
     go (no a) (no b) (no c) (yes d) =
         let z : n / 10000 ≡ 0 = omega arith in
-        rw (lead-gone 10000 n d, lead-there 1000 n (omega arith), lead-there 100 n (omega arith), lead-there 10 n (omega arith)) (ap (λ (v : ℕ). taken_from v (digit 1000 n ∷ digit 100 n ∷ digit 10 n ∷ digit 1 n ∷ [])) (sym z) ∙ from-thousands n h)
+        rw (lead-gone 10000 n d, lead-there 1000 n (omega arith), lead-there 100 n (omega arith), lead-there 10 n (omega arith)) (ap (λ (v : ℕ). taken_from v (digit 1000 n ∷ digit 100 n ∷ digit 10 n ∷ digit 1 n ∷ [])) (sym z) ∙ from_thousands n h)
     go (no a) (no b) (no c) (no d) =
         rw (lead-there 10000 n (omega arith), lead-there 1000 n (omega arith), lead-there 100 n (omega arith), lead-there 10 n (omega arith)) (five n h)

@@ -1,5 +1,6 @@
 // Decimal numbers put into a lent buffer, and numbers taken from a text.
 #![tactic(auto)]
+
 ghost use Rattle.std.specs.Prelude.{◌≡◌, ◌<◌};
 ghost use Rattle.text.specs.Putting.{Put};
 ghost use Rattle.decimal.specs.Decimal.{decimal, lead, numbered, value};

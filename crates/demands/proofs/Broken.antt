@@ -98,8 +98,8 @@ two-above h = omega arith
 
 pub static-exact : (m : Model) → Shape m → (would_break Static m ≡ true) ↔ StaticBroken m
 unfolding static_broken
-static-exact m x = broken-exact 256 m.ssd (authorised m) (Authorised m) (λ u. reach_small m.juniors (m.assigned u)) (authorises m x) (nobody-beyond m x) (λ name. (x.ssd name).named) (λ name t. two-above ((x.ssd name).at_least t))
+static-exact m x = broken_exact 256 m.ssd (authorised m) (Authorised m) (λ u. reach_small m.juniors (m.assigned u)) (authorises m x) (nobody-beyond m x) (λ name. (x.ssd name).named) (λ name t. two-above ((x.ssd name).at_least t))
 
 pub dynamic-exact : (m : Model) → Shape m → (would_break Dynamic m ≡ true) ↔ DynamicBroken m
 unfolding dynamic_broken
-dynamic-exact m x = broken-exact 64 m.dsd (counted m) (Effective m) (counted-small m) (λ s. counts m x m.sessions s (x.sessions s).active) (λ s r l h. clash (has (counted m s) r) ((counts m x m.sessions s (x.sessions s).active r).1 h) (none-counted-beyond m x m.juniors m.line_count s l r)) (λ name. (x.dsd name).named) (λ name t. two-above ((x.dsd name).at_least t))
+dynamic-exact m x = broken_exact 64 m.dsd (counted m) (Effective m) (counted-small m) (λ s. counts m x m.sessions s (x.sessions s).active) (λ s r l h. clash (has (counted m s) r) ((counts m x m.sessions s (x.sessions s).active r).1 h) (none-counted-beyond m x m.juniors m.line_count s l r)) (λ name. (x.dsd name).named) (λ name t. two-above ((x.dsd name).at_least t))

@@ -177,16 +177,16 @@ module _ (m : Model) (s : Sound m) (k : ℕ) where
   module _ (p : ℕ) where
     pub looked_most : looked m k p ≤ 64
     unfolding looked
-    looked_most = at-most-64 (effective m k) (m.holders p) effective-small effective_stated
+    looked_most = at_most_64 (effective m k) (m.holders p) effective_small effective_stated
 
     seen : HowMany (λ j. Effective m k j × ((r : ℕ) → Effective m k r → has (m.holders p) r ≡ true → j ≤ r)) (looked m k p)
     unfolding looked
-    seen = how-far (effective m k) (m.holders p) effective-small effective_stated
+    seen = how_far (effective m k) (m.holders p) effective_small effective_stated
 
     -- on yes
     pub looked_up_to : Granted m k p → LookedUpTo m k p (looked m k p)
     looked_up_to g =
-        let x = first_holder (effective m k) (m.holders p) effective-small effective_stated g.role g.effective g.holds in
+        let x = first_holder (effective m k) (m.holders p) effective_small effective_stated g.role g.effective g.holds in
         record {
           role = x.0;
           holder = record { effective = x.1; holds = x.2; lowest = x.3 };
@@ -229,7 +229,7 @@ module _ (m : Model) (s : Sound m) (k : ℕ) where
     pub looked_none : (looked m k p ≡ 0) ↔ ((r : ℕ) → has (m.sessions k).active r ≡ false)
     unfolding looked
     looked_none =
-        let none = none-there (effective m k) (m.holders p) effective-small effective_stated in
+        let none = none_there (effective m k) (m.holders p) effective_small effective_stated in
         ((λ e r. never (has (m.sessions k).active r) (λ h. none.0 e r (record { exists = (s.shape.sessions k).active.exist r h; through = inl h }))), λ h. none.1 (λ j e. idle h e.through))
       where
         idle : ((r : ℕ) → has (m.sessions k).active r ≡ false) → {j : ℕ} → InOrBelow m (m.sessions k).active j → ⊥

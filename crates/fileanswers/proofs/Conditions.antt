@@ -149,4 +149,4 @@ module _ (m : Model) (f : Formed m) where
   dynamic_says fine = broken_exact 64 m.dsd (counted m) (Effective m) (counted-small m) (effective-formed m f) effective_live (λ name. (f.dsd name).named) (at_least fine Dynamic)
 
   abbrev pub asked : Asked m
-  asked = record { circle = circular m.juniors; circle_says = circle-says; cardinality = bad_set m.ssd || bad_set m.dsd; cardinality_says = cardinality-says; owner = unauthorised m; owner_says = owner-says; static = some 256 (static_broken m); static_says = static_says; dynamic = some 64 (dynamic_broken m); dynamic_says = dynamic_says }
+  asked = record { circle = circular m.juniors; circle_says = circle_says; cardinality = bad_set m.ssd || bad_set m.dsd; cardinality_says = cardinality_says; owner = unauthorised m; owner_says = owner_says; static = some 256 (static_broken m); static_says = static_says; dynamic = some 64 (dynamic_broken m); dynamic_says = dynamic_says }

@@ -171,16 +171,16 @@ module _ (f : Sections) (x : OfTheForm f) where
   a_grant = every-elim (λ g. (Listed g.0 f.roles) × (g.1 < 16) × (g.2 < 256)) f.grants x.grants.each
 
   lines_say : (s j : ℕ) → (has (row_in f.lines s) j ≡ true) ↔ Memᴰ (s, j) f.lines
-  lines_say s = row-in f.lines s (λ j m. role_small f x j (a-line (s, j) m).1)
+  lines_say s = row-in f.lines s (λ j m. role_small f x j (a_line (s, j) m).1)
 
   assignments_say : (u r : ℕ) → (has (row_in f.assignments u) r ≡ true) ↔ Memᴰ (u, r) f.assignments
-  assignments_say u = row-in f.assignments u (λ r m. role_small f x r (an-assignment (u, r) m).1)
+  assignments_say u = row-in f.assignments u (λ r m. role_small f x r (an_assignment (u, r) m).1)
 
   holders_say : (p r : ℕ) → (has (holders_in f.grants p) r ≡ true) ↔ Memᴰ (r, p / 256, p % 256) f.grants
-  holders_say p = holders-in f.grants p (λ r m. role_small f x r (a-grant (r, p / 256, p % 256) m).0)
+  holders_say p = holders-in f.grants p (λ r m. role_small f x r (a_grant (r, p / 256, p % 256) m).0)
 
   permissions_small : (p r : ℕ) → has (holders_in f.grants p) r ≡ true → p < 4096
-  permissions_small p r e = omega (arith, (a-grant (r, p / 256, p % 256) ((holders_say p r).0 e)).1)
+  permissions_small p r e = omega (arith, (a_grant (r, p / 256, p % 256) ((holders_say p r).0 e)).1)
 
   grants_say : (r op obj : ℕ) → op < 16 → obj < 256 → (has (holders_in f.grants (op * 256 + obj)) r ≡ true) ↔ Memᴰ (r, op, obj) f.grants
   grants_say r op obj a b =
@@ -229,7 +229,7 @@ module _ (f : Sections) (x : OfTheForm f) where
   built_says =
       record {
         users = users_say;
-        roles = roles-say;
+        roles = roles_say;
         lines = lines_say;
         assignments = assignments_say;
         grants = grants_say;
@@ -245,7 +245,7 @@ module _ (f : Sections) (x : OfTheForm f) where
   -- ---- it may stand in a file
 
   existing : (l : List ℕ) → RoleList f l → Existing (model_of f) (roles_in l)
-  existing l g = record { small = those-small (λ r. any (eqb r) l); exist = λ r e. (roles-say r).1 (every-elim (λ k. Listed k f.roles) l g.each r ((list_says l g r).0 e)) }
+  existing l g = record { small = those-small (λ r. any (eqb r) l); exist = λ r e. (roles_say r).1 (every-elim (λ k. Listed k f.roles) l g.each r ((list_says l g r).0 e)) }
 
   set_form : (l : List SetEntry) → Good 16 (FineSet f) (λ a b. a.name < b.name) l → (n : ℕ) → SetForm (model_of f) n (sets_in l n)
   unfolding Found
@@ -255,7 +255,7 @@ module _ (f : Sections) (x : OfTheForm f) where
       go (inl q) =
           let fine = every-elim (FineSet f) l g.each q.0 q.1 in
           subst (SetForm (model_of f) n) (sym q.3) (record { absent = λ e. absurd (let z : ◌≡◌ {A = ℕ} 0 1 = cc in omega arith); named = λ e. omega (arith, fine.name, q.2); small = fine.cardinality; members = existing q.0.members fine.members })
-      go (inr q) = subst (SetForm (model_of f) n) (sym q) (record { absent = λ e. refl; named = λ e. absurd (let z : ◌≡◌ {A = ℕ} 0 1 = cc in omega arith); small = omega arith; members = none-existing })
+      go (inr q) = subst (SetForm (model_of f) n) (sym q) (record { absent = λ e. refl; named = λ e. absurd (let z : ◌≡◌ {A = ℕ} 0 1 = cc in omega arith); small = omega arith; members = none_existing })
         where
           none_existing : Existing (model_of f) 0
           none_existing = record { small = omega arith; exist = λ r e. clash (has 0 r) e (has-none r) }
@@ -288,12 +288,12 @@ module _ (f : Sections) (x : OfTheForm f) where
       record {
         users = λ u e. user_small f x u ((users_say u).0 e);
         roles = those-small (λ r. any (eqb r) f.roles);
-        seniors = λ s j e. (roles-say s).1 (a-line (s, j) ((lines_say s j).0 e)).0;
-        juniors = λ s. record { small = those-small (λ r. any (pair_test s r) f.lines); exist = λ j e. (roles-say j).1 (a-line (s, j) ((lines_say s j).0 e)).1 };
-        assignees = λ u r e. (users_say u).1 (an-assignment (u, r) ((assignments_say u r).0 e)).0;
-        assigned = λ u. record { small = those-small (λ r. any (pair_test u r) f.assignments); exist = λ r e. (roles-say r).1 (an-assignment (u, r) ((assignments_say u r).0 e)).1 };
+        seniors = λ s j e. (roles_say s).1 (a_line (s, j) ((lines_say s j).0 e)).0;
+        juniors = λ s. record { small = those-small (λ r. any (pair_test s r) f.lines); exist = λ j e. (roles_say j).1 (a_line (s, j) ((lines_say s j).0 e)).1 };
+        assignees = λ u r e. (users_say u).1 (an_assignment (u, r) ((assignments_say u r).0 e)).0;
+        assigned = λ u. record { small = those-small (λ r. any (pair_test u r) f.assignments); exist = λ r e. (roles_say r).1 (an_assignment (u, r) ((assignments_say u r).0 e)).1 };
         permissions = permissions_small;
-        holders = λ p. record { small = those-small (λ r. any (grant_test (p / 256) (p % 256) r) f.grants); exist = λ r e. (roles-say r).1 (a-grant (r, p / 256, p % 256) ((holders_say p r).0 e)).0 };
+        holders = λ p. record { small = those-small (λ r. any (grant_test (p / 256) (p % 256) r) f.grants); exist = λ r e. (roles_say r).1 (a_grant (r, p / 256, p % 256) ((holders_say p r).0 e)).0 };
         ssd = set_form f.ssd x.ssd;
         dsd = set_form f.dsd x.dsd;
         sessions = session_form;

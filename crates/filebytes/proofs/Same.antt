@@ -57,7 +57,7 @@ module _ (f : Sections) (x : OfTheForm f) where
   user_small = every-elim (λ u. u < 256) f.users x.users.each
 
   pub member_listed : (l : List ℕ) → RoleList f l → (r : ℕ) → Listed r l → r < 64
-  member_listed l g r m = role-small r (every-elim (λ k. Listed k f.roles) l g.each r m)
+  member_listed l g r m = role_small r (every-elim (λ k. Listed k f.roles) l g.each r m)
 
   roles_same : (s : ℕ) (l : List ℕ) → RoleList f l → ((r : ℕ) → (has s r ≡ true) ↔ Listed r l) → members 64 (has s) ≡ l
   roles_same s l g = numbers-same 64 (has s) l g.order (member_listed l g)
@@ -81,19 +81,19 @@ module _ (f : Sections) (x : OfTheForm f) where
           (fine.number, (say e m).live, λ j. record { number = e.number; owner = (say e m).owner j; active = same j })
 
   pub lines_same : (table : ℕ → ℕ) → ((s j : ℕ) → (has (table s) j ≡ true) ↔ Memᴰ (s, j) f.lines) → map pair_of (members 4096 (pair_in table)) ≡ f.lines
-  lines_same table = pairs-same 64 table f.lines x.lines.order (λ p m. let y = every-elim _ f.lines x.lines.each p m in (role-small p.0 y.0, role-small p.1 y.1))
+  lines_same table = pairs-same 64 table f.lines x.lines.order (λ p m. let y = every-elim _ f.lines x.lines.each p m in (role_small p.0 y.0, role_small p.1 y.1))
 
   pub assignments_same : (table : ℕ → ℕ) → ((u r : ℕ) → (has (table u) r ≡ true) ↔ Memᴰ (u, r) f.assignments) → map pair_of (members 16384 (pair_in table)) ≡ f.assignments
-  assignments_same table = pairs-same 256 table f.assignments x.assignments.order (λ p m. let y = every-elim _ f.assignments x.assignments.each p m in (user-small p.0 y.0, role-small p.1 y.1))
+  assignments_same table = pairs-same 256 table f.assignments x.assignments.order (λ p m. let y = every-elim _ f.assignments x.assignments.each p m in (user_small p.0 y.0, role_small p.1 y.1))
 
   pub holders_same : (table : ℕ → ℕ) → ((r op obj : ℕ) → op < 16 → obj < 256 → (has (table (op * 256 + obj)) r ≡ true) ↔ Memᴰ (r, op, obj) f.grants) → map grant_of (members 262144 (grant_in table)) ≡ f.grants
-  holders_same table = grants-same table f.grants x.grants.order (λ g m. let y = every-elim _ f.grants x.grants.each g m in (role-small g.0 y.0, y.1, y.2))
+  holders_same table = grants-same table f.grants x.grants.order (λ g m. let y = every-elim _ f.grants x.grants.each g m in (role_small g.0 y.0, y.1, y.2))
 
   -- Whichever policy holds what the sections list, its sections are these.
   pub sections_same : (m : Model) → Says f m → sections_of m ≡ f
   sections_same m s =
-      let e1 = numbers-same 256 m.users f.users x.users.order user-small s.users in
-      let e2 = numbers-same 64 (has m.roles) f.roles x.roles.order role-small s.roles in
+      let e1 = numbers-same 256 m.users f.users x.users.order user_small s.users in
+      let e2 = numbers-same 64 (has m.roles) f.roles x.roles.order role_small s.roles in
       let e3 = lines_same m.juniors s.lines in
       let e4 = assignments_same m.assigned s.assignments in
       let e5 = holders_same m.holders s.grants in

@@ -43,7 +43,7 @@ module _ (f : Sections) (form : OfTheForm f) (bytes : List ℕ) (written : bytes
 
   -- what loading them tells is what their policy breaks
   load_tells : (before : Model) (told : Told) → Loads before bytes told → told ≡ settle (rules_broken (model_of f)) before [] (model_of f)
-  load_tells before told l = load-file before (model_of f) told (built_formed f form) (subst (λ (b : List ℕ). Loads before b told) (sym written ∙ sym built-file.written) l)
+  load_tells before told l = load-file before (model_of f) told (built_formed f form) (subst (λ (b : List ℕ). Loads before b told) (sym written ∙ sym built_file.written) l)
 
   -- and it is refused where they break one
   load_refused : (n : ℕ) → verdict (rules_broken (model_of f)) ≡ n → (n ≡ 0 → ⊥) → (before : Model) (told : Told) → Loads before bytes told → told ≡ refused n before
@@ -98,7 +98,7 @@ unfolding some every tally has pack those union common subset is_empty count jun
 wide-broken = refl
 
 pub wide-file : (m : Model) × FileOf m (bytes_in wide_file)
-wide-file = (model_of wide_sections, subst (FileOf (model_of wide_sections)) wide-written (built-file wide_sections wide_form (bytes_in wide_file) wide-written))
+wide-file = (model_of wide_sections, subst (FileOf (model_of wide_sections)) wide-written (built_file wide_sections wide_form (bytes_in wide_file) wide-written))
 
 pub wide-number : (m : Model) → FileOf m (bytes_in wide_file) → ((m.ssd 3).there ≡ true) × ((m.ssd 3).card ≡ 258)
 wide-number m x =
@@ -127,7 +127,7 @@ unfolding some every tally has pack those union common subset is_empty count jun
 seniors-broken = refl
 
 seniors-built : FileOf (model_of seniors_sections) (bytes_in seniors_file)
-seniors-built = subst (FileOf (model_of seniors_sections)) seniors-written (built-file seniors_sections seniors-form (bytes_in seniors_file) seniors-written)
+seniors-built = subst (FileOf (model_of seniors_sections)) seniors-written (built_file seniors_sections seniors-form (bytes_in seniors_file) seniors-written)
 
 pub seniors-file : (m : Model) × FileOf m (bytes_in seniors_file)
 seniors-file = (model_of seniors_sections, seniors-built)

@@ -56,7 +56,7 @@ module _ (lines : ℕ → ℕ) (small : Small lines) where
   -- and all of these, with a circle or without.
   pub above_complete : (r s : ℕ) → r < 64 → AtOrAbove lines s r → has (at_or_above lines r) s ≡ true
   unfolding at_or_above
-  above_complete r s l a = reach_complete (turned lines) (with none r) turned-within s (one-under r s l (turn_at a))
+  above_complete r s l a = reach_complete (turned lines) (with none r) turned_within s (one-under r s l (turn_at a))
 
   -- A walk from a set meets r exactly where the set and the roles at or above r have a role in common.
   pub reach_above : (from r : ℕ) → r < 64 → has (reach lines from) r ≡ not (is_empty (common from (at_or_above lines r)))

@@ -103,6 +103,7 @@ module _ (lines : ℕ → ℕ) where
 
   -- The walk finds every role that it meets.
   pub walk_finds : {n s r : ℕ} (front : ℕ) → s < 64 → has front s ≡ true → Met lines n s r → has (walk lines n front) r ≡ true
+  walk_finds {n = zero} front l h x12 = elim x12 [ ]
   walk_finds {n = suc n} {s} {r} front l h (here e) = rw (walk_on n front (not-empty front s l h)) (union_left front (walk lines n (juniors_of lines front)) r (rw e at l) (rw e at h))
   walk_finds {n = suc n} {s} {r} front l h (next {k = k} p lk m) = rw (walk_on n front (not-empty front s l h)) (union_right front (walk lines n (juniors_of lines front)) r (met_small lk m) (walk_finds (juniors_of lines front) lk (junior_of front s k l lk h p) m))
 

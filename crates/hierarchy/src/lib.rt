@@ -1,5 +1,6 @@
 // What roles inherit through direct lines, over `juniors: [u64; 64]`: bit j of place s is the line (s, j).
 #![tactic(auto)]
+
 ghost use Rattle.std.specs.Prelude.{◌≡◌, ℕ, ◌<◌, length};
 ghost use Rattle.roleset.specs.Roles.{union};
 ghost use Rattle.hierarchy.specs.Lines.{table_of};

@@ -51,7 +51,7 @@ module _ (m : Model) (script l : List ℕ) (r : Run) (before after : List ℕ) (
   piece_within = omega (arith, put-within t.puts.text (omega arith), put-length t.puts.text)
 
   piece_long : length (take x.len after) ≡ x.len
-  piece_long = length-take-le x.len after piece-within
+  piece_long = length-take-le x.len after piece_within
 
   splits : drop count (run_from m script) ≡ take x.len after ++ left script next x.run
   splits = h.rest ∙ sym goes.joins
@@ -64,9 +64,9 @@ module _ (m : Model) (script l : List ℕ) (r : Run) (before after : List ℕ) (
   hands_on =
       record {
         few = goes.few;
-        rest = sym (drop-drop x.len count (run_from m script)) ∙ rw splits (drop_at (take x.len after) (left script next x.run) x.len piece-long);
+        rest = sym (drop-drop x.len count (run_from m script)) ∙ rw splits (drop_at (take x.len after) (left script next x.run) x.len piece_long);
         leaves = goes.leaves ∙ h.leaves;
-        within = omega (arith, h.within, length-drop count (run_from m script), ap length splits, length-append (take x.len after) (left script next x.run), piece-long);
+        within = omega (arith, h.within, length-drop count (run_from m script), ap length splits, length-append (take x.len after) (left script next x.run), piece_long);
         small = omega (arith, h.small, goes.short, goes.fewer);
       }
 

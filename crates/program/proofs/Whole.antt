@@ -221,8 +221,8 @@ joined {script} few (goes l r before after x next rest end e room t runs) =
 -- and leave what the script leaves of it.
 pub whole_from : (script out l end : List ℕ) (r : Run) → r ≡ at_start → Runs script l r out end → (out ≡ run_from (view l) script) × (view end ≡ after_script (view l) script)
 whole_from script out l end r b runs =
-    let j = joined (starts-few script l r b) runs in
-    (j.0 ∙ left-all script l r b, j.1 ∙ last-all script l r b)
+    let j = joined (starts_few script l r b) runs in
+    (j.0 ∙ left_all script l r b, j.1 ∙ last_all script l r b)
 
 pub whole : (script out l end : List ℕ) (r : Run) → Begins l r → Runs script l r out end → out ≡ run_script script
 unfolding run_script

@@ -136,7 +136,7 @@ accepted text e = rw (e, parse)
 -- A text that is the line with this word and these numbers is read as that line.
 pub written-parsed : (text : List ℕ) (k : ℕ) (ns : List ℕ) → Written text k ns → parse text ≡ line k ns
 written-parsed text k ns w =
-    accepted text (rw (k-is, ns-is) whole) ∙ ap₂ line k-is ns-is
+    accepted text (rw (k_is, ns_is) whole) ∙ ap₂ line k_is ns_is
   where
     k_is : word_in text ≡ k
     k_is = ap word_in (sym w.is) ∙ word_back k ns w.known

@@ -96,7 +96,7 @@ module _ (n r : ℕ) (f : ℕ → ℕ) (k : ℕ) where
 pub grants-more : (n r : ℕ) (m now after : Model) → n < 4096 → now ≡ so_far n r m → after ≡ in_range 4096 n now (ungranted now n r) → after ≡ so_far (n + 1) r m
 grants-more n r m now after h is e =
     e ∙ in-range 4096 n now _ h ∙ ap (λ (x : Model). ungranted x n r) is ∙
-    ap₂ (with_grants m) (fun_ext (step-at n r m.holders))
+    ap₂ (with_grants m) (fun_ext (step_at n r m.holders))
     (ap (λ (x : ℕ). m.grant_count - holding n m.holders r - bit (has x r)) (same_past n r m.holders n (omega arith)) ∙ omega (arith, tally-step n (λ k. has (m.holders k) r)))
 
 -- past the last permission there are no grants

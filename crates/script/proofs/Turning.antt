@@ -147,10 +147,10 @@ module _ (script l : List ℕ) (p : Progress) (before after : List ℕ) (x : Tur
   others_is = ap (λ (c : Tally). c.others) t.tally ∙ count-others p.tally (told_at script l p) (omega arith)
 
   pub turn_prints : take x.len after ++ to_print script next x.next ≡ to_print script l p
-  turn_prints = rw (stands, t.state, done-is, others-is, t.place) (sym (one_line script (view l) p.tally.done p.tally.others p.at h))
+  turn_prints = rw (stands, t.state, done_is, others_is, t.place) (sym (one_line script (view l) p.tally.done p.tally.others p.at h))
 
   pub turn_counts : x.next.tally.done + x.next.tally.others ≤ x.next.at
-  turn_counts = omega (arith, done-is, others-is, counted-once p.tally.done p.tally.others (told_at script l p), t.place, past_more line_feed script p.at h)
+  turn_counts = omega (arith, done_is, others_is, counted-once p.tally.done p.tally.others (told_at script l p), t.place, past_more line_feed script p.at h)
 
   pub turn_leaves : to_leave script next x.next ≡ to_leave script l p
-  turn_leaves = rw (t.state, t.place) (sym (one-line-after script (view l) p.tally.done p.tally.others p.at h))
+  turn_leaves = rw (t.state, t.place) (sym (one_line_after script (view l) p.tally.done p.tally.others p.at h))

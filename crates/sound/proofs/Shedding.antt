@@ -95,7 +95,7 @@ module _ (m m' : Model) where
     pub shed_sound : Sound (shed (left m m'))
     unfolding shed assignments grants lines_standing
     shed_sound =
-        fewer_sound m s (shed (left m m')) shed-shape
+        fewer_sound m s (shed (left m m')) shed_shape
         (record { assigned = t.counted.assigned; granted = t.counted.granted; lined = t.counted.lined })
         t.lines t.assigned_before t.held_before
         (λ k r. shedded-all (λ y. has y.active r ≡ true → has (m.sessions k).active r ≡ true) m'.juniors m'.assigned (m.sessions k) (λ l h. (common-member (m.sessions k).active (reach m'.juniors (m'.assigned (m.sessions k).owner)) r h).1) (λ l h. h))
@@ -110,17 +110,17 @@ fewer m juniors assigned lines assignments = with_assignments (with_lines m juni
 -- Where only lines and assignments are taken away, what is left names existing roles.
 same-roles-left : (m : Model) (juniors assigned : ℕ → ℕ) (n k : ℕ) → Sound m → ((a : ℕ) → juniors a < 2 ^ 64) → ((u : ℕ) → assigned u < 2 ^ 64) → ((a j : ℕ) → line juniors a j ≡ true → line m.juniors a j ≡ true) → ((u r : ℕ) → has (assigned u) r ≡ true → has (m.assigned u) r ≡ true) → n ≡ standing 64 juniors → k ≡ standing 256 assigned → Stripped m (fewer m juniors assigned n k)
 unfolding assignments grants lines_standing
-same-roles-left m juniors assigned n k s small-juniors small-assigned lines assigned-before line-count assignment-count =
+same-roles-left m juniors assigned n k s small-juniors small-assigned lines assigned_before line-count assignment-count =
     record {
       small = x.roles;
       seniors = λ a j e. x.seniors a j (lines a j e);
       juniors_left = λ a. record { small = small-juniors a; exist = λ r e. (x.juniors a).exist r (lines a r e) };
-      assigned_left = λ u. record { small = small-assigned u; exist = λ r e. (x.assigned u).exist r (assigned-before u r e) };
+      assigned_left = λ u. record { small = small-assigned u; exist = λ r e. (x.assigned u).exist r (assigned_before u r e) };
       holders_left = λ p. existing_in m base (λ r e. e) (x.holders p);
       ssd_left = λ n. set_in m base (λ r e. e) (x.ssd n);
       dsd_left = λ n. set_in m base (λ r e. e) (x.dsd n);
       lines = lines;
-      assigned_before = assigned-before;
+      assigned_before = assigned_before;
       held_before = λ p r e. e;
       counted = record { assigned = assignment-count; granted = s.counted.granted; lined = line-count };
     }
@@ -139,7 +139,7 @@ deassign-sound m u r s =
     let range = or_no (leb 256 u) (leb 64 r) c.0 in
     let new : ℕ → ℕ = put m.assigned u (without (m.assigned u) r) in
     let less : m.assignment_count - 1 ≡ standing 256 new = omega (arith, s.counted.assigned, one_less 256 m.assigned u r (leb-false 256 u range.0) (leb-false 64 r range.1) (not-false (has (m.assigned u) r) c.1.1.0)) in
-    shed-sound m (deassigned m u r) s
+    shed_sound m (deassigned m u r) s
     (same-roles-left m m.juniors new m.line_count (m.assignment_count - 1) s (λ a. (s.shape.juniors a).small) (small_at m.assigned u r (λ k. (s.shape.assigned k).small)) (λ a j e. e) (fewer-at m.assigned u r) s.counted.lined less))
 
 -- `disinherit senior junior` keeps a sound model sound.
@@ -150,7 +150,7 @@ disinherit-sound m senior junior s =
     let range = or_no (leb 64 senior) (leb 64 junior) c.0 in
     let new : ℕ → ℕ = put m.juniors senior (without (m.juniors senior) junior) in
     let less : m.line_count - 1 ≡ standing 64 new = omega (arith, s.counted.lined, one_less 64 m.juniors senior junior (leb-false 64 senior range.0) (leb-false 64 junior range.1) (not-false (has (m.juniors senior) junior) c.1.1.0)) in
-    shed-sound m (unlined m senior junior) s
+    shed_sound m (unlined m senior junior) s
     (same-roles-left m new m.assigned (m.line_count - 1) m.assignment_count s (small_at m.juniors senior junior (λ k. (s.shape.juniors k).small)) (λ u. (s.shape.assigned u).small) (fewer-at m.juniors senior junior) (λ u r e. e) less s.counted.assigned))
 
 -- A role stands in a set of a table exactly where it is a member of one, whatever its name.
@@ -213,4 +213,4 @@ pub norole-sound : (m : Model) (r : ℕ) → Sound m → Sound (norole m r).afte
 unfolding norole without_role
 norole-sound m r s =
     kept Sound _ m _ _ refl s (λ c. let n = or_no (in_set m.ssd r) (in_set m.dsd r) c.1.1.0 in
-    shed-sound m (without_role m r) s (role-stripped m r s (leb-false 64 r c.0) n.0 n.1))
+    shed_sound m (without_role m r) s (role-stripped m r s (leb-false 64 r c.0) n.0 n.1))

@@ -117,8 +117,8 @@ shed-stays m k = shedded-all (λ y. (y.live ≡ (m.sessions k).live) × (y.owner
 -- "every session keeps exactly those active roles for which its owner is still authorised"
 pub shed-exact : (m : Model) (k r : ℕ) → (m.sessions k).live ≡ true → (has ((shed m).sessions k).active r ≡ true) ↔ ((has (m.sessions k).active r ≡ true) × (has (authorised m (m.sessions k).owner) r ≡ true))
 unfolding shed
-shed-exact m k r live = shedded-all (λ y. (has y.active r ≡ true) ↔ ((has (m.sessions k).active r ≡ true) × (has held-by-owner r ≡ true))) m.juniors m.assigned (m.sessions k)
-    (λ e. ((λ h. let b = common-member (m.sessions k).active held-by-owner r h in (b.1, b.2)), (λ p. common-intro (m.sessions k).active held-by-owner r (member-small held-by-owner r (reach_small m.juniors (m.assigned (m.sessions k).owner)) p.1) p.0 p.1)))
+shed-exact m k r live = shedded-all (λ y. (has y.active r ≡ true) ↔ ((has (m.sessions k).active r ≡ true) × (has held_by_owner r ≡ true))) m.juniors m.assigned (m.sessions k)
+    (λ e. ((λ h. let b = common-member (m.sessions k).active held_by_owner r h in (b.1, b.2)), (λ p. common-intro (m.sessions k).active held_by_owner r (member-small held_by_owner r (reach_small m.juniors (m.assigned (m.sessions k).owner)) p.1) p.0 p.1)))
     (λ e. clash (m.sessions k).live live e)
   where
     held_by_owner : ℕ

@@ -336,7 +336,7 @@ of_c =
     record {
       marruskil_start = λ c. c.met;
       marruskil_obey = λ c h. (obey (view c.given.0.now) c.given.1.0.now, line-tells (reachable h) c.given.1.0.now, (obeyed-at c.met).0, (obeyed-at c.met).1);
-      marruskil_check = λ c h. checked-at (demand2.access (view c.given.0.now) (reachable h) c.given.1.0 c.given.1.1.0 c.given.1.1.1.0) c.met;
+      marruskil_check = λ c h. checked_at (demand2.access (view c.given.0.now) (reachable h) c.given.1.0 c.given.1.1.0 c.given.1.1.1.0) c.met;
       marruskil_load = λ c. c.met;
       marruskil_save = λ c. saved-at c.met;
     }

@@ -1,5 +1,6 @@
 // The words of a script: which word a text is, a word put into a buffer, and how many numbers each takes.
 #![tactic(auto)]
+
 ghost use Rattle.std.specs.Prelude.{◌≡◌, take, get_or};
 ghost use Rattle.text.specs.Putting.{Put};
 ghost use Rattle.words.specs.Bytes.{same};

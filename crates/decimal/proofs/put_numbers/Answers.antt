@@ -1,0 +1,28 @@
+-- The numbers that were put so far stand in the buffer. Assumes nothing.
+use borrow.Author.Rules.{rules}
+use Prim.Native.Nat.{◌≤◌, ◌<◌, ◌-◌}
+use native.Mathlib.Omega.{arith}
+use lib.ListN.{length, take}
+use lib.Seq.{take_all}
+use Rattle.text.specs.Putting.{Put}
+use Rattle.text.proofs.Putting.{put_then, put-none, put-length}
+use Rattle.decimal.specs.Decimal.{numbered}
+use Rattle.decimal.proofs.Laws.{numbered_next}
+use Rattle.decimal.proofs.put_numbers.Goals as goal
+
+pub loop-i-init : goal.loop-i-init
+unfolding numbered
+loop-i-init c = (omega arith, put-none _ _)
+
+pub loop-i-preserved : goal.loop-i-preserved
+loop-i-preserved c =
+    let l : c.before.before.before.before.before.before.before.before.before.before.loop-i.i < length c.before.before.before.before.before.before.before.before.before.before.before.before.before.args.numbers.now = omega arith in
+    (search rules, rw (numbered_next c.before.before.before.before.before.before.before.before.before.before.before.before.before.args.numbers.now c.before.before.before.before.before.before.before.before.before.before.loop-i.i l) (put_then c.before.before.before.before.before.before.before.before.before.before.loop-i.invariant.1 (put_then c.before.before.before.before.before.before.before.put-digits.ensures c.before.before.put_number-next.ensures)))
+
+pub shape_of-buf : goal.shape_of-buf
+shape_of-buf c = put-length c.before.loop-i.invariant.1
+
+pub returns : goal.returns
+returns c =
+    let l : length c.before.before.before.before.args.numbers.now ≤ c.before.loop-i.i = omega arith in
+    rw (take_all c.before.loop-i.i c.before.before.before.before.args.numbers.now l) at c.before.loop-i.invariant.1

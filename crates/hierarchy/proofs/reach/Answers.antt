@@ -1,0 +1,14 @@
+-- It is the walk with 64 roles allowed, begun with none met. Assumes nothing.
+use borrow.Author.Rules.{rules}
+use mathlib.Core.Path.{◌∙◌}
+use Rattle.hierarchy.specs.Lines.{table_of}
+use Rattle.hierarchy.specs.Walks.{reach}
+use Rattle.hierarchy.proofs.Fronts.{walk-begun}
+use Rattle.hierarchy.proofs.WalkLaws.{reach_reaches}
+use Rattle.hierarchy.proofs.reach.Goals as goal
+
+pub returns : goal.returns
+unfolding reach
+returns c =
+    let lines = table_of c.args.juniors.now in
+    reach_reaches lines c.args.from c.walk_from.result (c.walk_from.ensures ∙ walk-begun lines 64 c.args.from)

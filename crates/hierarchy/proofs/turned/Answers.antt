@@ -1,0 +1,24 @@
+-- Place k holds the seniors of k among the roles passed. Assumes nothing.
+use mathlib.Core.Path.{◌≡◌, refl, sym, ◌∙◌}
+use Prim.Native.Nat.{ℕ, ◌-◌, ◌<◌, ◌≤◌}
+use native.Mathlib.Omega.{arith}
+use lib.ListN.{length}
+use Rattle.hierarchy.specs.Lines.{table_of}
+use Rattle.hierarchy.proofs.Marking.{seniors_below, seniors-begin, seniors-step, seniors-end, zeros}
+use Rattle.hierarchy.proofs.turned.Goals as goal
+
+pub loop-s-init : goal.loop-s-init
+loop-s-init c = (refl, omega arith, λ k l. zeros k l ∙ sym (seniors-begin (table_of c.args.juniors.now) k))
+
+pub mark-requires : goal.mark-requires
+mark-requires c = c.loop-s.invariant.0
+
+pub loop-s-preserved : goal.loop-s-preserved
+loop-s-preserved c =
+    let lines = table_of c.args.juniors.now in
+    (c.mark.ensures.size, omega arith, λ k l. c.mark.ensures.each k l ∙ rw (c.loop-s.invariant.2 k l) (seniors-step lines c.loop-s.s k))
+
+pub returns : goal.returns
+returns c = λ k l.
+    let full : c.loop-s.s ≡ 64 = omega arith in
+    c.loop-s.invariant.2 k l ∙ rw full (seniors-end (table_of c.args.juniors.now) k)

@@ -1,0 +1,16 @@
+-- At each turn, comparing what is left of the text and of the letters decides. Assumes nothing.
+use borrow.Author.Rules.{rules}
+use mathlib.Core.Path.{◌≡◌, refl, sym, ◌∙◌}
+use Prim.Native.Nat.{◌≤◌, ◌<◌, ◌-◌}
+use native.Mathlib.Omega.{arith}
+use lib.ListN.{length, take, drop}
+use Rattle.words.specs.Bytes.{same}
+use Rattle.words.specs.Rows.{letters}
+use Rattle.words.proofs.Rows.{left, text_longer, text_ended, letter_equal, letter_differs}
+use Rattle.words.proofs.is_word.Given as goal
+
+abbrev pub invariant-loop-i : goal.invariant-loop-i
+invariant-loop-i l = (l.i ≤ length l.text) × (same l.text (letters l.row) ≡ same (drop l.i l.text) (left (take 14 l.row) l.i))
+
+abbrev pub decreases-loop-i : goal.decreases-loop-i
+decreases-loop-i l = length l.text - l.i

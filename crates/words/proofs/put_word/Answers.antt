@@ -1,0 +1,40 @@
+-- The letters put so far and those left are the word. Assumes nothing.
+use borrow.Author.Rules.{rules}
+use mathlib.Core.List.{List, ◌++◌}
+use mathlib.Core.Path.{◌≡◌, refl, sym, ap, ◌∙◌}
+use Prim.Native.Nat.{ℕ, ◌+◌, ◌-◌}
+use native.Mathlib.Omega.{arith}
+use lib.ListN.{get_or, take, length-take, get_or-eq_default}
+use Rattle.text.specs.Putting.{Put}
+use Rattle.text.proofs.Putting.{put_then, put-none, put-length}
+use Rattle.words.specs.Rows.{letters}
+use Rattle.words.proofs.Rows.{left, row-letters, so_far, one_more, all_put}
+use Rattle.words.proofs.put_word.Goals as goal
+
+pub loop-i-init : goal.loop-i-init
+unfolding letters
+loop-i-init c = (put-none _ _, refl)
+
+pub shape_of-buf-then-here-eq32 : goal.shape_of-buf-then-here-eq32
+shape_of-buf-then-here-eq32 c = put-length c.before.before.before.loop-i.invariant.0
+
+pub returns-then-here-eq32 : goal.returns-then-here-eq32
+returns-then-here-eq32 c =
+    let e = all_put (take 14 c.before.before.before.before.row_of-row.result) c.before.before.before.loop-i.i (sym c.before.letter-here.ensures ∙ c.if-here-eq32.true) in
+    rw (e ∙ c.before.before.before.loop-i.invariant.1 ∙ ap letters c.before.before.before.before.row_of-row.ensures ∙ row-letters c.before.before.before.before.before.before.args.k) at c.before.before.before.loop-i.invariant.0
+
+pub loop-i-preserved : goal.loop-i-preserved
+loop-i-preserved c =
+    let l : List ℕ = take 14 c.before.before.before.before.before.before.before.before.row_of-row.result in
+    let i : ℕ = c.before.before.before.before.before.before.before.loop-i.i in
+    let n : get_or l i 32 ≡ 32 → ⊥ = λ e. c.before.before.before.before.if-here-eq32.false (c.before.before.before.before.before.letter-here.ensures ∙ e) in
+    (rw (one_more l i n, ← c.before.before.before.before.before.letter-here.ensures) (put_then c.before.before.before.before.before.before.before.loop-i.invariant.0 c.before.before.put-next.ensures), so_far l i n ∙ c.before.before.before.before.before.before.before.loop-i.invariant.1)
+
+pub shape_of-buf : goal.shape_of-buf
+shape_of-buf c = put-length c.before.loop-i.invariant.0
+
+pub returns : goal.returns
+returns c =
+    let l : List ℕ = take 14 c.before.before.row_of-row.result in
+    let e = all_put l c.before.loop-i.i (get_or-eq_default l 32 (omega (arith, length-take 14 c.before.before.row_of-row.result))) in
+    rw (e ∙ c.before.loop-i.invariant.1 ∙ ap letters c.before.before.row_of-row.ensures ∙ row-letters c.before.before.before.before.args.k) at c.before.loop-i.invariant.0
