@@ -5,7 +5,7 @@ use Rattle.decimal.proofs.Laws.{lead-there, lead-gone}
 use Rattle.decimal.proofs.put_lead.Goals as goal
 
 pub returns-then-place-n : goal.returns-then-place-n
-returns-then-place-n c = rw (lead-there c.before.before.before.before.before.before.args.place c.before.before.before.before.before.before.args.n c.before.before.before.before.if-place-n.true) c.before.before.put.ensures
+returns-then-place-n c = rw (lead-there c.args.place c.args.n c.if-place-n.true) c.put.ensures
 
 pub returns : goal.returns
-returns c = rw (lead-gone c.before.before.args.place c.before.before.args.n c.if-place-n.false) (put-none _ _)
+returns c = rw (lead-gone c.args.place c.args.n c.if-place-n.false) (put-none _ _)

@@ -10,5 +10,5 @@ use Rattle.decimal.proofs.put_number.Goals as goal
 pub returns : goal.returns
 unfolding decimal
 returns c =
-    let units : c.before.before.before.before.before.before.before.before.before.before.before.before.before.before.before.before.before.before.before.before.before.args.n / 1 ≡ c.before.before.before.before.before.before.before.before.before.before.before.before.before.before.before.before.before.before.before.before.before.args.n = omega arith in
-    rw units (put_then c.before.before.before.before.before.before.before.before.before.before.before.before.before.before.before.before.before.before.put_lead-b.ensures (put_then c.before.before.before.before.before.before.before.before.before.before.before.before.before.before.put_lead-c.ensures (put_then c.before.before.before.before.before.before.before.before.before.before.put_lead-d.ensures (put_then c.before.before.before.before.before.before.put_lead-e.ensures c.before.before.put.ensures))))
+    let units : c.args.n / 1 ≡ c.args.n = omega arith in
+    rw units (put_then c.put_lead-b.ensures (put_then c.put_lead-c.ensures (put_then c.put_lead-d.ensures (put_then c.put_lead-e.ensures c.put.ensures))))

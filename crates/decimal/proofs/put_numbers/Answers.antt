@@ -16,13 +16,13 @@ loop-i-init c = (omega arith, put-none _ _)
 
 pub loop-i-preserved : goal.loop-i-preserved
 loop-i-preserved c =
-    let l : c.before.before.before.before.before.before.before.before.before.before.loop-i.i < length c.before.before.before.before.before.before.before.before.before.before.before.before.before.args.numbers.now = omega arith in
-    (search rules, rw (numbered_next c.before.before.before.before.before.before.before.before.before.before.before.before.before.args.numbers.now c.before.before.before.before.before.before.before.before.before.before.loop-i.i l) (put_then c.before.before.before.before.before.before.before.before.before.before.loop-i.invariant.1 (put_then c.before.before.before.before.before.before.before.put-digits.ensures c.before.before.put_number-next.ensures)))
+    let l : c.loop-i.i < length c.args.numbers.now = omega arith in
+    (search rules, rw (numbered_next c.args.numbers.now c.loop-i.i l) (put_then c.loop-i.invariant.1 (put_then c.put-digits.ensures c.put_number-next.ensures)))
 
 pub shape_of-buf : goal.shape_of-buf
-shape_of-buf c = put-length c.before.loop-i.invariant.1
+shape_of-buf c = put-length c.loop-i.invariant.1
 
 pub returns : goal.returns
 returns c =
-    let l : length c.before.before.before.before.args.numbers.now ≤ c.before.loop-i.i = omega arith in
-    rw (take_all c.before.loop-i.i c.before.before.before.before.args.numbers.now l) at c.before.loop-i.invariant.1
+    let l : length c.args.numbers.now ≤ c.loop-i.i = omega arith in
+    rw (take_all c.loop-i.i c.args.numbers.now l) at c.loop-i.invariant.1

@@ -15,11 +15,11 @@ loop-i-init c = ((omega arith, omega arith), refl)
 pub loop-i-preserved : goal.loop-i-preserved
 unfolding taken_from
 loop-i-preserved c =
-    let l : c.before.before.loop-i.i < length c.before.before.before.args.text.now = omega arith in
-    ((search rules, search rules), rw (drop-cons c.before.before.before.args.text.now c.before.before.loop-i.i 0 l, ← add-one) at c.before.before.loop-i.invariant.1)
+    let l : c.loop-i.i < length c.args.text.now = omega arith in
+    ((search rules, search rules), rw (drop-cons c.args.text.now c.loop-i.i 0 l, ← add-one) at c.loop-i.invariant.1)
 
 pub returns : goal.returns
 unfolding taken_from
 returns c =
-    let l : length c.before.before.args.text.now ≤ c.before.loop-i.i = omega arith in
-    rw (drop_of_length-le c.before.before.args.text.now l) at c.before.loop-i.invariant.1
+    let l : length c.args.text.now ≤ c.loop-i.i = omega arith in
+    rw (drop_of_length-le c.args.text.now l) at c.loop-i.invariant.1

@@ -5,4 +5,4 @@ use Rattle.words.proofs.Rows.{row-mark}
 use Rattle.words.proofs.has_list.Goals as goal
 
 pub returns : goal.returns
-returns c = rw c.row_of-row.ensures (row-mark (word_of c.before.args.k))
+returns c = rw c.row_of-row.ensures (row-mark (word_of c.args.k))

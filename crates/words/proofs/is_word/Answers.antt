@@ -15,29 +15,29 @@ loop-i-init c = (omega arith, refl)
 
 pub returns-then-text-i : goal.returns-then-text-i
 returns-then-text-i c =
-    let s = c.before.before.before.before.before.before.args in
-    let i = c.before.before.before.before.loop-i.i in
+    let s = c.args in
+    let i = c.loop-i.i in
     let p : i < length s.text.now = omega arith in
-    sym (c.before.before.before.before.loop-i.invariant.1 ∙ letter_differs s.text.now (take 14 s.row) i p (λ e. c.if-text-i.true (e ∙ sym c.before.before.letter-here.ensures)))
+    sym (c.loop-i.invariant.1 ∙ letter_differs s.text.now (take 14 s.row) i p (λ e. c.if-text-i.true (e ∙ sym c.letter-here.ensures)))
 
 pub returns-then-here-eq32 : goal.returns-then-here-eq32
 returns-then-here-eq32 c =
-    let s = c.before.before.before.before.before.before.before.args in
-    let i = c.before.before.before.before.before.loop-i.i in
+    let s = c.args in
+    let i = c.loop-i.i in
     let p : i < length s.text.now = omega arith in
-    sym (c.before.before.before.before.before.loop-i.invariant.1 ∙ text_longer s.text.now (take 14 s.row) i p (sym c.before.before.before.letter-here.ensures ∙ c.if-here-eq32.true))
+    sym (c.loop-i.invariant.1 ∙ text_longer s.text.now (take 14 s.row) i p (sym c.letter-here.ensures ∙ c.if-here-eq32.true))
 
 pub loop-i-preserved : goal.loop-i-preserved
 loop-i-preserved c =
-    let s = c.before.before.before.before.before.before.before.args in
-    let i = c.before.before.before.before.before.loop-i.i in
+    let s = c.args in
+    let i = c.loop-i.i in
     let p : i < length s.text.now = omega arith in
-    let here = c.before.before.before.letter-here.ensures in
-    (search rules, c.before.before.before.before.before.loop-i.invariant.1 ∙ letter_equal s.text.now (take 14 s.row) i p (c.before.if-text-i.false ∙ here) (λ e. c.if-here-eq32.false (here ∙ e)))
+    let here = c.letter-here.ensures in
+    (search rules, c.loop-i.invariant.1 ∙ letter_equal s.text.now (take 14 s.row) i p (c.if-text-i.false ∙ here) (λ e. c.if-here-eq32.false (here ∙ e)))
 
 pub returns : goal.returns
 returns c =
-    let s = c.before.before.before.before.args in
-    let i = c.before.before.loop-i.i in
+    let s = c.args in
+    let i = c.loop-i.i in
     let p : length s.text.now ≤ i = omega arith in
-    rw c.letter.ensures (sym (c.before.before.loop-i.invariant.1 ∙ text_ended s.text.now (take 14 s.row) i p))
+    rw c.letter.ensures (sym (c.loop-i.invariant.1 ∙ text_ended s.text.now (take 14 s.row) i p))

@@ -10,8 +10,8 @@ use Rattle.words.proofs.letter.Goals as goal
 
 pub returns-then-i-lt14 : goal.returns-then-i-lt14
 returns-then-i-lt14 c =
-    let whole : c.before.args.i < length c.before.args.row = omega arith in
-    get_d-within c.before.args.row c.before.args.i 0 32 whole ∙ sym (get_or-take 14 c.before.args.row c.before.args.i 32 c.if-i-lt14.true)
+    let whole : c.args.i < length c.args.row = omega arith in
+    get_d-within c.args.row c.args.i 0 32 whole ∙ sym (get_or-take 14 c.args.row c.args.i 32 c.if-i-lt14.true)
 
 pub returns-else-i-lt14 : goal.returns-else-i-lt14
-returns-else-i-lt14 c = sym (get_or-eq_default (take 14 c.before.args.row) 32 (omega (arith, length-take 14 c.before.args.row)))
+returns-else-i-lt14 c = sym (get_or-eq_default (take 14 c.args.row) 32 (omega (arith, length-take 14 c.args.row)))

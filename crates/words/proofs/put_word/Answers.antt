@@ -16,25 +16,25 @@ unfolding letters
 loop-i-init c = (put-none _ _, refl)
 
 pub shape_of-buf-then-here-eq32 : goal.shape_of-buf-then-here-eq32
-shape_of-buf-then-here-eq32 c = put-length c.before.before.before.loop-i.invariant.0
+shape_of-buf-then-here-eq32 c = put-length c.loop-i.invariant.0
 
 pub returns-then-here-eq32 : goal.returns-then-here-eq32
 returns-then-here-eq32 c =
-    let e = all_put (take 14 c.before.before.before.before.row_of-row.result) c.before.before.before.loop-i.i (sym c.before.letter-here.ensures ∙ c.if-here-eq32.true) in
-    rw (e ∙ c.before.before.before.loop-i.invariant.1 ∙ ap letters c.before.before.before.before.row_of-row.ensures ∙ row-letters c.before.before.before.before.before.before.args.k) at c.before.before.before.loop-i.invariant.0
+    let e = all_put (take 14 c.row_of-row.result) c.loop-i.i (sym c.letter-here.ensures ∙ c.if-here-eq32.true) in
+    rw (e ∙ c.loop-i.invariant.1 ∙ ap letters c.row_of-row.ensures ∙ row-letters c.args.k) at c.loop-i.invariant.0
 
 pub loop-i-preserved : goal.loop-i-preserved
 loop-i-preserved c =
-    let l : List ℕ = take 14 c.before.before.before.before.before.before.before.before.row_of-row.result in
-    let i : ℕ = c.before.before.before.before.before.before.before.loop-i.i in
-    let n : get_or l i 32 ≡ 32 → ⊥ = λ e. c.before.before.before.before.if-here-eq32.false (c.before.before.before.before.before.letter-here.ensures ∙ e) in
-    (rw (one_more l i n, ← c.before.before.before.before.before.letter-here.ensures) (put_then c.before.before.before.before.before.before.before.loop-i.invariant.0 c.before.before.put-next.ensures), so_far l i n ∙ c.before.before.before.before.before.before.before.loop-i.invariant.1)
+    let l : List ℕ = take 14 c.row_of-row.result in
+    let i : ℕ = c.loop-i.i in
+    let n : get_or l i 32 ≡ 32 → ⊥ = λ e. c.if-here-eq32.false (c.letter-here.ensures ∙ e) in
+    (rw (one_more l i n, ← c.letter-here.ensures) (put_then c.loop-i.invariant.0 c.put-next.ensures), so_far l i n ∙ c.loop-i.invariant.1)
 
 pub shape_of-buf : goal.shape_of-buf
-shape_of-buf c = put-length c.before.loop-i.invariant.0
+shape_of-buf c = put-length c.loop-i.invariant.0
 
 pub returns : goal.returns
 returns c =
-    let l : List ℕ = take 14 c.before.before.row_of-row.result in
-    let e = all_put l c.before.loop-i.i (get_or-eq_default l 32 (omega (arith, length-take 14 c.before.before.row_of-row.result))) in
-    rw (e ∙ c.before.loop-i.invariant.1 ∙ ap letters c.before.before.row_of-row.ensures ∙ row-letters c.before.before.before.before.args.k) at c.before.loop-i.invariant.0
+    let l : List ℕ = take 14 c.row_of-row.result in
+    let e = all_put l c.loop-i.i (get_or-eq_default l 32 (omega (arith, length-take 14 c.row_of-row.result))) in
+    rw (e ∙ c.loop-i.invariant.1 ∙ ap letters c.row_of-row.ensures ∙ row-letters c.args.k) at c.loop-i.invariant.0

@@ -9,8 +9,8 @@ use Rattle.words.proofs.row_of.Goals as goal
 
 pub returns-then-k-lt-WORD_COUNT : goal.returns-then-k-lt-WORD_COUNT
 unfolding words row
-returns-then-k-lt-WORD_COUNT c = row_at c.before.before.args.k c.before.if-k-lt-WORD_COUNT.true
+returns-then-k-lt-WORD_COUNT c = row_at c.args.k c.if-k-lt-WORD_COUNT.true
 
 pub returns-else-k-lt-WORD_COUNT : goal.returns-else-k-lt-WORD_COUNT
 unfolding row
-returns-else-k-lt-WORD_COUNT c = sym (ap row (past-last c.before.args.k c.if-k-lt-WORD_COUNT.false))
+returns-else-k-lt-WORD_COUNT c = sym (ap row (past-last c.args.k c.if-k-lt-WORD_COUNT.false))

@@ -9,11 +9,11 @@ use Rattle.words.proofs.takes.Goals as goal
 pub returns-then-has_list : goal.returns-then-has_list
 unfolding takes
 returns-then-has_list c =
-    let listed : (word_of c.before.before.before.args.k).listed ≡ true = sym c.before.has_list.ensures ∙ c.if-has_list.true in
-    rw c.before.before.before_list-before.ensures (sym (fits (word_of c.before.before.before.args.k) c.before.before.before.args.n true listed))
+    let listed : (word_of c.args.k).listed ≡ true = sym c.has_list.ensures ∙ c.if-has_list.true in
+    rw c.before_list-before.ensures (sym (fits (word_of c.args.k) c.args.n true listed))
 
 pub returns-else-has_list : goal.returns-else-has_list
 unfolding takes
 returns-else-has_list c =
-    let listed : (word_of c.before.before.before.args.k).listed ≡ false = sym c.before.has_list.ensures ∙ c.if-has_list.false in
-    rw c.before.before.before_list-before.ensures (sym (fits (word_of c.before.before.before.args.k) c.before.before.before.args.n false listed))
+    let listed : (word_of c.args.k).listed ≡ false = sym c.has_list.ensures ∙ c.if-has_list.false in
+    rw c.before_list-before.ensures (sym (fits (word_of c.args.k) c.args.n false listed))
