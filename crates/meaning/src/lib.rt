@@ -1,5 +1,6 @@
 // What a line asks for: the command or question that its word names, with its numbers. A list of roles is passed beside it.
 #![tactic(auto)]
+
 ghost use Rattle.std.specs.Prelude.{◌≡◌};
 ghost use Rattle.meaning.specs.Meaning.{meant};
 

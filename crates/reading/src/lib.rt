@@ -1,5 +1,6 @@
 // Reading a script's line: its word and numbers are gathered leniently, written again, and compared with the text.
 #![tactic(auto)]
+
 ghost use Rattle.std.specs.Prelude.{◌≡◌, ◌≤◌, length};
 ghost use Rattle.words.specs.Bytes.{same};
 ghost use Rattle.reading.specs.Form.{render, shaped, parse};

@@ -106,6 +106,7 @@ rising-ordered place [] a = refl
 rising-ordered place (r ∷ rest) a = and_right (ltb place (rank r.number)) (rising (rank r.number) rest) a
 
 pub rising-each : (place : ℕ) (rs : List Refusal) → rising place rs ≡ true → (r : Refusal) → Memᴰ r rs → place < rank r.number
+rising-each place [] a r x'' = elim x'' [ ]
 rising-each place (x ∷ rest) a r (Memᴰ.head e) = subst (λ (y : Refusal). place < rank y.number) (sym e) (ltb-true place (rank x.number) (and_left (ltb place (rank x.number)) (rising (rank x.number) rest) a))
 rising-each place (x ∷ rest) a r (Memᴰ.tail m) =
     let h = ltb-true place (rank x.number) (and_left (ltb place (rank x.number)) (rising (rank x.number) rest) a) in
@@ -114,6 +115,7 @@ rising-each place (x ∷ rest) a r (Memᴰ.tail m) =
 
 -- "Where several apply, 14 comes first and then the lowest number": in a list in that order no refusal that applies comes before the answer.
 pub verdict-lowest : (rs : List Refusal) → ordered rs ≡ true → (r : Refusal) → Memᴰ r rs → r.holds ≡ true → rank (verdict rs) ≤ rank r.number
+verdict-lowest [] a r m h = elim m [ ]
 verdict-lowest (x ∷ rest) a r m h = go x.holds refl m (verdict-lowest rest (rising-ordered (rank x.number) rest a) r)
   where
     go : (b : Bool) → x.holds ≡ b → Memᴰ r (x ∷ rest) → (Memᴰ r rest → r.holds ≡ true → rank (verdict rest) ≤ rank r.number) → rank (verdict (x ∷ rest)) ≤ rank r.number

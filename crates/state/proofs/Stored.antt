@@ -155,8 +155,8 @@ pub set_at : (kind : Kind) (l : List ℕ) (n : ℕ) → set_of (part l (sets_at 
 set_at kind l n = ap (λ (f : ℕ → RoleSet). f n) (sets-viewed kind l)
 
 module _ (kind : Kind) (l : List ℕ) (n : ℕ) (long : length l ≡ places) (h : n < 16) where
-  pub set_stored : (card roles : ℕ) → view (set (set l (sets_at kind + n) card) (sets_at kind + 16 + n) roles) ≡ set_stored kind (view l) n (set_of card roles)
-  set_stored card roles =
+  pub set_stored_lem : (card roles : ℕ) → view (set (set l (sets_at kind + n) card) (sets_at kind + 16 + n) roles) ≡ set_stored kind (view l) n (set_of card roles)
+  set_stored_lem card roles =
       let b = common_stored set_of (sets_at kind) 16 l n h (omega (arith, sets-fit kind)) card roles in
       sets-changed kind l _ b.0 _ (b.1 ∙ ap (λ (f : ℕ → RoleSet). put f n (set_of card roles)) (sets-viewed kind l))
 

@@ -1,5 +1,6 @@
 // The engine's state: one array of numbers, lent. What it means is the model `view` (specs/View); where each part stands is said once more here, for the code (specs/Places has the picture).
 #![tactic(auto)]
+
 pub mod naming;
 pub mod parts;
 pub mod reads;

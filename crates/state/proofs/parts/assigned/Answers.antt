@@ -1,0 +1,16 @@
+-- A part as it stands. Assumes nothing.
+use borrow.Author.Rules.{rules}
+use mathlib.Core.Path.{◌≡◌, refl}
+use native.Mathlib.Omega.{arith}
+use lib.ListN.{length}
+use Rattle.state.specs.Places.{assigned_at}
+use Rattle.state.specs.View.{view}
+use Rattle.state.proofs.Slots.{part_length}
+use Rattle.state.proofs.parts.assigned.Goals as goal
+
+pub returns : goal.returns
+unfolding view
+returns c =
+    let l = c.args.state.now in
+    let long : length l ≡ 4616 = omega arith in
+    record { long = part_length l assigned_at 256 (omega arith); each = refl }

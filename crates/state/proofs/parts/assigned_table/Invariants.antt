@@ -1,0 +1,16 @@
+-- The places passed hold the numbers of the part. Assumes nothing.
+use borrow.Author.Rules.{rules}
+use mathlib.Core.Path.{◌≡◌, refl, ◌∙◌}
+use native.Mathlib.Omega.{arith}
+use Prim.Native.Nat.{ℕ, ◌+◌, ◌-◌, ◌≤◌, ◌<◌}
+use lib.ListN.{get_or, length, length-set}
+use Rattle.state.specs.Places.{assigned_at}
+use Rattle.state.specs.View.{view}
+use Rattle.state.proofs.Slots.{copy-store, copy-end}
+use Rattle.state.proofs.parts.assigned_table.Given as goal
+
+abbrev pub invariant-loop-k : goal.invariant-loop-k
+invariant-loop-k l = (l.k ≤ 256) × (length l.table ≡ 256) × ((j : ℕ) → j < l.k → get_or l.table j 0 ≡ get_or l.state (assigned_at + j) 0)
+
+abbrev pub decreases-loop-k : goal.decreases-loop-k
+decreases-loop-k l = 256 - l.k

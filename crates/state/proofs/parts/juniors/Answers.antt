@@ -1,0 +1,16 @@
+-- A part as it stands. Assumes nothing.
+use borrow.Author.Rules.{rules}
+use mathlib.Core.Path.{◌≡◌, refl}
+use native.Mathlib.Omega.{arith}
+use lib.ListN.{length}
+use Rattle.state.specs.Places.{juniors_at}
+use Rattle.state.specs.View.{view}
+use Rattle.state.proofs.Slots.{part_length}
+use Rattle.state.proofs.parts.juniors.Goals as goal
+
+pub returns : goal.returns
+unfolding view
+returns c =
+    let l = c.args.state.now in
+    let long : length l ≡ 4616 = omega arith in
+    record { long = part_length l juniors_at 64 (omega arith); each = refl }

@@ -1,0 +1,11 @@
+-- The one number of its part, asked for a bit. Assumes nothing.
+use borrow.Author.Rules.{rules}
+use native.Mathlib.Omega.{arith}
+use Rattle.state.specs.Places.{roles_at}
+use Rattle.state.specs.View.{view}
+use Rattle.state.proofs.Slots.{part_at}
+use Rattle.state.proofs.reads.has_role.Goals as goal
+
+pub returns : goal.returns
+unfolding view
+returns c = rw (part_at c.args.state.now roles_at 1 0 (omega arith)) c.has.ensures

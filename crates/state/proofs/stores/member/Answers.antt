@@ -1,0 +1,10 @@
+-- The set with the member, or without it. Assumes nothing.
+use borrow.Author.Rules.{rules}
+use mathlib.Core.Path.{◌≡◌}
+use Rattle.state.proofs.stores.member.Goals as goal
+
+pub returns-then-there : goal.returns-then-there
+returns-then-there c = rw c.if-there.true c.with.ensures.is
+
+pub returns-else-there : goal.returns-else-there
+returns-else-there c = rw c.if-there.false c.without.ensures.is

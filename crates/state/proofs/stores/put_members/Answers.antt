@@ -1,0 +1,38 @@
+-- The numbers of one set are stored; beyond the part nothing is. Assumes nothing.
+use borrow.Author.Rules.{rules}
+use mathlib.Core.Path.{◌≡◌, sym, ◌∙◌}
+use native.Mathlib.Omega.{arith}
+use Prim.Native.Nat.{ℕ, ◌+◌, ◌≤◌}
+use lib.ListN.{length, length-set}
+use Rattle.state.specs.Places.{places}
+use Rattle.state.specs.View.{view}
+use Rattle.state.proofs.Stored.{in-range, beyond, sets-fit, members_stored}
+use Rattle.state.proofs.stores.put_members.Goals as goal
+use Rattle.state.proofs.stores.put_members.Goals.{After-all-1, After-sets_from-from}
+
+-- the sets of the kind stand within the state
+within : (c : After-sets_from-from) → c.sets_from-from.result + 32 ≤ places
+within c = rw c.sets_from-from.ensures (sets-fit c.args.kind)
+
+long : (c : After-all-1) → length c.args.state.now ≡ places
+long c = c.all-1.given.0.1
+
+pub returns-then-at-ge16 : goal.returns-then-at-ge16
+returns-then-at-ge16 c = let at = c.args in sym (beyond 16 at.name.number (view at.state.now) _ (omega arith))
+
+pub returns : goal.returns
+returns c =
+    let at = c.args in
+    rw c.sets_from-from.ensures (members_stored at.kind at.state.now at.name.number (long (goal.at.returns c).After-all-1) (omega arith) at.roles) ∙ sym (in-range 16 at.name.number (view at.state.now) _ (omega arith))
+
+pub overflow_add-all : goal.overflow_add-all
+overflow_add-all c = omega (arith, within (goal.at.overflow_add-all c).After-sets_from-from)
+
+pub overflow_add-all-2 : goal.overflow_add-all-2
+overflow_add-all-2 c = omega (arith, within (goal.at.overflow_add-all-2 c).After-sets_from-from)
+
+pub offset_bounds-all-from : goal.offset_bounds-all-from
+offset_bounds-all-from c = omega (arith, within (goal.at.offset_bounds-all-from c).After-sets_from-from)
+
+pub bounds-all-from : goal.bounds-all-from
+bounds-all-from c = omega (arith, long (goal.at.bounds-all-from c).After-all-1, within (goal.at.bounds-all-from c).After-sets_from-from)
