@@ -103,6 +103,7 @@ module _ {A B : Type 0} (key : A → ℕ) (make : A → B) (d : B) where
       go false e (inr q) = inr (at_later a l n e ∙ q)
 
   one_key : (l : List A) → Ascending (λ a b. key a < key b) l → (a b : A) → Memᴰ a l → Memᴰ b l → key a ≡ key b → a ≡ b
+  one_key [] p a b x4 _ k = elim x4 [ ]
   one_key (x ∷ l) p a b (Memᴰ.head e) (Memᴰ.head h) k = e ∙ sym h
   one_key (x ∷ l) p a b (Memᴰ.head e) (Memᴰ.tail j) k = let s : key a ≡ key x = ap key e in absurd (omega (arith, every-elim (λ y. key x < key y) l p.0 b j))
   one_key (x ∷ l) p a b (Memᴰ.tail i) (Memᴰ.head h) k = let s : key b ≡ key x = ap key h in absurd (omega (arith, every-elim (λ y. key x < key y) l p.0 a i))
@@ -110,6 +111,7 @@ module _ {A B : Type 0} (key : A → ℕ) (make : A → B) (d : B) where
 
   key_in : (l : List A) → (a : A) → Memᴰ a l → (b : A) × (Memᴰ b l) × (key b ≡ key a) × (at_key l (key a) ≡ make b)
   unfolding at_key
+  key_in [] a m = elim m [ ]
   key_in (x ∷ l) a m = go (eqb (key x) (key a)) refl m (key_in l a)
     where
       go : (b : Bool) → eqb (key x) (key a) ≡ b → Memᴰ a (x ∷ l) → (Memᴰ a l → (b : A) × (Memᴰ b l) × (key b ≡ key a) × (at_key l (key a) ≡ make b)) → (b : A) × (Memᴰ b (x ∷ l)) × (key b ≡ key a) × (at_key (x ∷ l) (key a) ≡ make b)

@@ -18,6 +18,7 @@ every-intro P [] h = tt
 every-intro P (a ∷ l) h = (h a (Memᴰ.head refl), every-intro P l (λ b m. h b (Memᴰ.tail m)))
 
 pub every-elim : {A : Type 0} (P : A → Type 0) (l : List A) → Every P l → (a : A) → Memᴰ a l → P a
+every-elim {A = A} P [] p a x'' = elim x'' [ ]
 every-elim P (b ∷ l) p a (Memᴰ.head e) = subst P (sym e) p.0
 every-elim P (b ∷ l) p a (Memᴰ.tail m) = every-elim P l p.1 a m
 
@@ -36,6 +37,7 @@ every_map P Q g f (a ∷ l) p = (f a p.0, every_map P Q g f l p.1)
 -- ---- membership in a list that is made from another
 
 pub in_map : {A B : Type 0} (g : A → B) (a : A) (l : List A) → Memᴰ a l → Memᴰ (g a) (map g l)
+in_map {A = A} {B = B} g a [] x' = elim x' [ ]
 in_map g a (b ∷ l) (Memᴰ.head e) = Memᴰ.head (ap g e)
 in_map g a (b ∷ l) (Memᴰ.tail m) = Memᴰ.tail (in_map g a l m)
 
@@ -149,6 +151,7 @@ any-in {A} test (a ∷ l) e = go (or_cases (test a) (any test l) e) (any-in test
 
 pub in-any : {A : Type 0} (test : A → Bool) (l : List A) (a : A) → Memᴰ a l → test a ≡ true → any test l ≡ true
 unfolding any
+in-any {A = A} test [] a x'' h = elim x'' [ ]
 in-any test (b ∷ l) a (Memᴰ.head e) h = or_left (test b) (any test l) (ap test (sym e) ∙ h)
 in-any test (b ∷ l) a (Memᴰ.tail m) h = or_right (test b) (any test l) (in-any test l a m h)
 

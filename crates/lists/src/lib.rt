@@ -1,5 +1,6 @@
 // Lists of roles, as commands are given them. A list may be of any length and in any order; one that is not strictly ascending is answered 14.
 #![tactic(auto)]
+
 ghost use Rattle.lists.specs.Reading.{Reads};
 
 // What a list of roles holds: whether it is strictly ascending, whether some number is beyond the roles' range, and the set of its roles.

@@ -1,5 +1,6 @@
 // The separation rule, for a set of roles and a cardinality: what SSD and DSD share.
 #![tactic(auto)]
+
 ghost use Rattle.std.specs.Prelude.{◌≡◌};
 ghost use Rattle.model.specs.Words.{breaks, breaks_some};
 ghost use Rattle.model.specs.commands.Sets.{bad_cardinality, sets_of};

@@ -1,5 +1,6 @@
 // The walk over the lines of the lent state. A plain reference to the array, and not to a part of it: so the compiler makes a loop of the walk.
 #![tactic(auto)]
+
 ghost use Rattle.std.specs.Prelude.{◌≡◌};
 ghost use Rattle.roleset.specs.Roles.{union};
 ghost use Rattle.hierarchy.specs.Walks.{juniors_of, walk, Reaches};

@@ -6,6 +6,7 @@ use lib.ListN.{get_or-eq_default}
 use Rattle.words.specs.ScriptWords.{word_count}
 use Rattle.meaning.specs.Meaning.{Row, meant, meanings}
 use Rattle.meaning.specs.declared.Meant.TheVariants.{Nothing}
+use Rattle.std.proofs.Common.{rules}
 use Rattle.meaning.proofs.meaning.Goals as goal
 
 -- w is none of the first n numbers
@@ -191,4 +192,4 @@ returns-in-41 c = rw c.in-41.is
 
 pub returns-in_default : goal.returns-in_default
 unfolding meant meanings
-returns-in_default c = sym (past-last _ _ _ _ (past word_count _ c.in_default.rest))
+returns-in_default c = sym (past-last _ _ _ _ (past word_count c.args.word (search rules)))

@@ -6,8 +6,7 @@ use mathlib.Core.Path.{◌≡◌, refl, sym, ap, ◌∙◌}
 use Prim.Native.Nat.{ℕ}
 use lib.Dec.{leb, ltb}
 use Rattle.roleset.specs.Roles.{count}
-use Rattle.separation.proofs.bad_cardinality.Statement.{statement}
-use Rattle.separation.proofs.bad_cardinality.Tie as tie
+use Rattle.separation.proofs.bad_cardinality.Goals as goal
 
 fewer : (a n : ℕ) → ltb a n ≡ not (leb n a)
 fewer a n = go (ltb a n) refl
@@ -16,13 +15,10 @@ fewer a n = go (ltb a n) refl
     go true e = e ∙ sym (ap not (lt-leb n a (ltb-true a n e)))
     go false e = e ∙ sym (ap not (le-leb n a (ltb-false a n e)))
 
-returns : tie.Need-returns
-returns c = rw (lt-ltb c.before.args.n 2 c.if1.true)
+pub returns-then-n-lt2 : goal.returns-then-n-lt2
+returns-then-n-lt2 c = rw (lt-ltb c.args.n 2 c.if-n-lt2.true)
 
-returns-2 : tie.Need-returns-2
-returns-2 c =
-    let start = c.before.before.args in
-    rw (le-ltb start.n 2 c.before.if1.false) (ap not c.at_least.ensures ∙ sym (fewer (count start.roles) start.n))
-
-pub bad-cardinality-spec : {M : Type 1} → statement M
-bad-cardinality-spec = tie.close (tie.spec (λ c κs. search rules) returns returns-2)
+pub returns-else-n-lt2 : goal.returns-else-n-lt2
+returns-else-n-lt2 c =
+    let start = c.args in
+    rw (le-ltb start.n 2 c.if-n-lt2.false) (ap not c.at_least.ensures ∙ sym (fewer (count start.roles) start.n))
