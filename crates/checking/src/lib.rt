@@ -1,5 +1,6 @@
 // The question `check`, and whose a session is.
 #![tactic(auto)]
+
 ghost use Rattle.std.specs.Prelude.{not, ◌≡◌, length};
 ghost use Rattle.roleset.specs.Bounded.{members};
 ghost use Rattle.roleset.specs.Roles.{has, common, is_empty};

@@ -1,5 +1,6 @@
 // The commands `grant` and `revoke`.
 #![tactic(auto)]
+
 ghost use Rattle.std.specs.Prelude.{◌≡◌};
 ghost use Rattle.model.specs.commands.Assigning.{grant, revoke};
 ghost use Rattle.state.specs.View.{view, told};

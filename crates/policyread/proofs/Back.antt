@@ -40,9 +40,9 @@ fold-part {B} {get} {into} part f m t (k ∷ ks) =
     ∙ fold-part part f m (f t k) ks
 
 module _ (bytes : List ℕ) where
-  pub users_read : (m : Model) (f : ℕ → Bool) → ((k : ℕ) → f k ≡ true → k < 256) → (at : ℕ) (rest : List ℕ) → Stands bytes at (users_part f) rest → read_section bytes 256 (read_user bytes) at (with_users m (λ u. false)) ≡ (at + length (users_part f), with_users m f)
+  pub users_read_lem : (m : Model) (f : ℕ → Bool) → ((k : ℕ) → f k ≡ true → k < 256) → (at : ℕ) (rest : List ℕ) → Stands bytes at (users_part f) rest → read_section bytes 256 (read_user bytes) at (with_users m (λ u. false)) ≡ (at + length (users_part f), with_users m f)
   unfolding read_user
-  users_read m f small at rest s =
+  users_read_lem m f small at rest s =
       section_back bytes two (λ (x : Model) (k : ℕ). with_users x (put x.users k (f k))) (read_user bytes) (λ k. (k < 256) × (f k ≡ true)) one 256 (omega arith) (members 256 f) (members-most 256 f) (each_member 256 f) at (with_users m (λ u. false)) rest s
       ∙ ap (λ (x : Model). (at + length (users_part f), x)) (fold-part part (λ (t : ℕ → Bool) (k : ℕ). put t k (f k)) m (λ u. false) (members 256 f) ∙ ap (with_users m) (records_back false f f 256 (λ k x. x) small))
     where
@@ -54,9 +54,9 @@ module _ (bytes : List ℕ) where
           ap (λ (i : ℕ). (at + 2, user_added a i)) (word_back k (omega (arith, p.0)) s)
           ∙ ap (λ (x : Model). (at + 2, x)) (in-range 256 k a _ p.0 ∙ ap (λ (b : Bool). with_users a (put a.users k b)) (sym p.1))
 
-  pub roles_read : (r at : ℕ) (rest : List ℕ) → r < 2 ^ 64 → Stands bytes at (role_list r) rest → read_roles bytes at ≡ (at + length (role_list r), r)
+  pub roles_read_lem : (r at : ℕ) (rest : List ℕ) → r < 2 ^ 64 → Stands bytes at (role_list r) rest → read_roles bytes at ≡ (at + length (role_list r), r)
   unfolding read_roles read_role
-  roles_read r at rest h s =
+  roles_read_lem r at rest h s =
       section_back bytes two with (read_role bytes) (λ k. (k < 64) × (has r k ≡ true)) one 64 (omega arith) (members 64 (has r)) (members-most 64 (has r)) (each_member 64 (has r)) at 0 rest s
       ∙ ap (λ (x : ℕ). (at + length (role_list r), x)) (roles-back r h)
     where
@@ -90,15 +90,15 @@ module _ (bytes : List ℕ) where
           ap₂ (λ (i r : ℕ). (at + 4, pair_added pairs a i r)) (word_back (k / 64) (omega arith) (stands-left (two (k / 64)) (two (k % 64)) s)) (word_back (k % 64) (omega arith) (stands-right (two (k / 64)) (two (k % 64)) s))
           ∙ ap (λ (x : Model). (at + 4, x)) (stored a (k / 64) (k % 64))
 
-  pub lines_read : (table : ℕ → ℕ) → ((i : ℕ) → table i < 2 ^ 64) → ((i : ℕ) → 64 ≤ i → table i ≡ 0) → length (members 4096 (pair_in table)) ≤ 512 → (m : Model) (at : ℕ) (rest : List ℕ) → Stands bytes at (lines_part table) rest → read_section bytes 512 (read_pair Lines bytes) at (with_lines m (λ i. 0) 0) ≡ (at + length (lines_part table), with_lines m table 0)
-  lines_read = pairs_read Lines (λ m. m.juniors) (λ m t. with_lines m t 0) (record { got = λ m t. refl; over = λ m t u. refl }) 64 (λ m i r. refl) 512 (omega arith) (omega arith)
+  pub lines_read_lem : (table : ℕ → ℕ) → ((i : ℕ) → table i < 2 ^ 64) → ((i : ℕ) → 64 ≤ i → table i ≡ 0) → length (members 4096 (pair_in table)) ≤ 512 → (m : Model) (at : ℕ) (rest : List ℕ) → Stands bytes at (lines_part table) rest → read_section bytes 512 (read_pair Lines bytes) at (with_lines m (λ i. 0) 0) ≡ (at + length (lines_part table), with_lines m table 0)
+  lines_read_lem = pairs_read Lines (λ m. m.juniors) (λ m t. with_lines m t 0) (record { got = λ m t. refl; over = λ m t u. refl }) 64 (λ m i r. refl) 512 (omega arith) (omega arith)
 
-  pub assignments_read : (table : ℕ → ℕ) → ((i : ℕ) → table i < 2 ^ 64) → ((i : ℕ) → 256 ≤ i → table i ≡ 0) → length (members 16384 (pair_in table)) ≤ 2048 → (m : Model) (at : ℕ) (rest : List ℕ) → Stands bytes at (assigned_part table) rest → read_section bytes 2048 (read_pair Assignments bytes) at (with_assignments m (λ i. 0) 0) ≡ (at + length (assigned_part table), with_assignments m table 0)
-  assignments_read = pairs_read Assignments (λ m. m.assigned) (λ m t. with_assignments m t 0) (record { got = λ m t. refl; over = λ m t u. refl }) 256 (λ m i r. refl) 2048 (omega arith) (omega arith)
+  pub assignments_read_lem : (table : ℕ → ℕ) → ((i : ℕ) → table i < 2 ^ 64) → ((i : ℕ) → 256 ≤ i → table i ≡ 0) → length (members 16384 (pair_in table)) ≤ 2048 → (m : Model) (at : ℕ) (rest : List ℕ) → Stands bytes at (assigned_part table) rest → read_section bytes 2048 (read_pair Assignments bytes) at (with_assignments m (λ i. 0) 0) ≡ (at + length (assigned_part table), with_assignments m table 0)
+  assignments_read_lem = pairs_read Assignments (λ m. m.assigned) (λ m t. with_assignments m t 0) (record { got = λ m t. refl; over = λ m t u. refl }) 256 (λ m i r. refl) 2048 (omega arith) (omega arith)
 
-  pub grants_read : (table : ℕ → ℕ) → ((i : ℕ) → table i < 2 ^ 64) → ((i : ℕ) → 4096 ≤ i → table i ≡ 0) → length (members 262144 (grant_in table)) ≤ 2048 → (m : Model) (at : ℕ) (rest : List ℕ) → Stands bytes at (grants_part table) rest → read_section bytes 2048 (read_grant bytes) at (with_grants m (λ i. 0) 0) ≡ (at + length (grants_part table), with_grants m table 0)
+  pub grants_read_lem : (table : ℕ → ℕ) → ((i : ℕ) → table i < 2 ^ 64) → ((i : ℕ) → 4096 ≤ i → table i ≡ 0) → length (members 262144 (grant_in table)) ≤ 2048 → (m : Model) (at : ℕ) (rest : List ℕ) → Stands bytes at (grants_part table) rest → read_section bytes 2048 (read_grant bytes) at (with_grants m (λ i. 0) 0) ≡ (at + length (grants_part table), with_grants m table 0)
   unfolding read_grant
-  grants_read = marks_read (λ m. m.holders) (λ m t. with_grants m t 0) (record { got = λ m t. refl; over = λ m t u. refl }) 4096 262144 (λ k. k % 4096) (λ k. k / 4096) (λ i r. 4096 * r + i) fit grant_entry (read_grant bytes) one 2048 (omega arith)
+  grants_read_lem = marks_read (λ m. m.holders) (λ m t. with_grants m t 0) (record { got = λ m t. refl; over = λ m t u. refl }) 4096 262144 (λ k. k % 4096) (λ k. k / 4096) (λ i r. 4096 * r + i) fit grant_entry (read_grant bytes) one 2048 (omega arith)
     where
       fit : Numbered 4096 262144 (λ k. k % 4096) (λ k. k / 4096) (λ i r. 4096 * r + i)
       fit = record { within = λ i r h p. omega arith; place = λ i r h p. omega arith; role = λ i r h p. omega arith; number = λ k. omega arith; inside = λ k h. omega arith }
@@ -122,7 +122,7 @@ module _ (bytes : List ℕ) where
         word_back x h (stands-left (two x) (two y ++ role_list r) s),
         (
           word_back y k (stands-left (two y) (role_list r) second),
-          ap (read_roles bytes) four ∙ roles_read r (at + 2 + 2) rest l (stands-right (two y) (role_list r) second) ∙ ap (λ (n : ℕ). (n, r)) size,
+          ap (read_roles bytes) four ∙ roles_read_lem r (at + 2 + 2) rest l (stands-right (two y) (role_list r) second) ∙ ap (λ (n : ℕ). (n, r)) size,
         ),
       )
 
@@ -148,12 +148,12 @@ module _ (bytes : List ℕ) where
             ∙ ap₂ (λ (i n : ℕ). (at + length (entry k), placed a i n (roles k))) e.0 e.1.0
             ∙ ap (λ (x : Model). (at + length (entry k), x)) (in-range size k a _ p.0 ∙ ap (λ (v : B). into a (put (get a) k v)) (made k p.1))
 
-  sets_part : (kind : Kind) → Part (sets_of kind) (with_sets kind)
-  sets_part Static = record { got = λ m t. refl; over = λ m t u. refl }
-  sets_part Dynamic = record { got = λ m t. refl; over = λ m t u. refl }
+  sets_part_lem : (kind : Kind) → Part (sets_of kind) (with_sets kind)
+  sets_part_lem Static = record { got = λ m t. refl; over = λ m t u. refl }
+  sets_part_lem Dynamic = record { got = λ m t. refl; over = λ m t u. refl }
 
-  pub sets_read : (kind : Kind) (sets : ℕ → RoleSet) → ((n : ℕ) → (sets n).there ≡ false → sets n ≡ absent_set) → ((n : ℕ) → (sets n).there ≡ true → n < 16) → ((n : ℕ) → (sets n).card < 65536) → ((n : ℕ) → (sets n).roles < 2 ^ 64) → (m : Model) (at : ℕ) (rest : List ℕ) → Stands bytes at (sets_part sets) rest → read_section bytes 16 (read_set kind bytes) at (with_sets kind m (λ n. absent_set)) ≡ (at + length (sets_part sets), with_sets kind m sets)
-  sets_read kind sets absent named card roles = records_read (sets_of kind) (with_sets kind) (sets_part kind) absent_set a_set 16 (omega arith) (λ n. (sets n).there) (λ n. (sets n).card) (λ n. (sets n).roles) sets (λ n e. ap (λ (b : Bool). record { there = b; card = (sets n).card; roles = (sets n).roles }) (sym e)) absent named card roles
+  pub sets_read_lem : (kind : Kind) (sets : ℕ → RoleSet) → ((n : ℕ) → (sets n).there ≡ false → sets n ≡ absent_set) → ((n : ℕ) → (sets n).there ≡ true → n < 16) → ((n : ℕ) → (sets n).card < 65536) → ((n : ℕ) → (sets n).roles < 2 ^ 64) → (m : Model) (at : ℕ) (rest : List ℕ) → Stands bytes at (sets_part sets) rest → read_section bytes 16 (read_set kind bytes) at (with_sets kind m (λ n. absent_set)) ≡ (at + length (sets_part sets), with_sets kind m sets)
+  sets_read_lem kind sets absent named card roles = records_read (sets_of kind) (with_sets kind) (sets_part_lem kind) absent_set a_set 16 (omega arith) (λ n. (sets n).there) (λ n. (sets n).card) (λ n. (sets n).roles) sets (λ n e. ap (λ (b : Bool). record { there = b; card = (sets n).card; roles = (sets n).roles }) (sym e)) absent named card roles
 
-  pub sessions_read : (sessions : ℕ → Session) → ((n : ℕ) → (sessions n).live ≡ false → sessions n ≡ closed_session) → ((n : ℕ) → (sessions n).live ≡ true → n < 64) → ((n : ℕ) → (sessions n).owner < 65536) → ((n : ℕ) → (sessions n).active < 2 ^ 64) → (m : Model) (at : ℕ) (rest : List ℕ) → Stands bytes at (sessions_part sessions) rest → read_section bytes 64 (read_session bytes) at (with_sessions m (λ n. closed_session)) ≡ (at + length (sessions_part sessions), with_sessions m sessions)
-  sessions_read sessions closed numbered owner active = records_read (λ m. m.sessions) with_sessions (record { got = λ m t. refl; over = λ m t u. refl }) closed_session open_for 64 (omega arith) (λ n. (sessions n).live) (λ n. (sessions n).owner) (λ n. (sessions n).active) sessions (λ n e. ap (λ (b : Bool). record { live = b; owner = (sessions n).owner; active = (sessions n).active }) (sym e)) closed numbered owner active
+  pub sessions_read_lem : (sessions : ℕ → Session) → ((n : ℕ) → (sessions n).live ≡ false → sessions n ≡ closed_session) → ((n : ℕ) → (sessions n).live ≡ true → n < 64) → ((n : ℕ) → (sessions n).owner < 65536) → ((n : ℕ) → (sessions n).active < 2 ^ 64) → (m : Model) (at : ℕ) (rest : List ℕ) → Stands bytes at (sessions_part sessions) rest → read_section bytes 64 (read_session bytes) at (with_sessions m (λ n. closed_session)) ≡ (at + length (sessions_part sessions), with_sessions m sessions)
+  sessions_read_lem sessions closed numbered owner active = records_read (λ m. m.sessions) with_sessions (record { got = λ m t. refl; over = λ m t u. refl }) closed_session open_for 64 (omega arith) (λ n. (sessions n).live) (λ n. (sessions n).owner) (λ n. (sessions n).active) sessions (λ n e. ap (λ (b : Bool). record { live = b; owner = (sessions n).owner; active = (sessions n).active }) (sym e)) closed numbered owner active

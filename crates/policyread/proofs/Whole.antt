@@ -27,7 +27,7 @@ use Rattle.policyform.proofs.Size.{few-lines, few-assigned, few-grants}
 use Rattle.policyread.specs.declared.Pairs.TheVariants.{Lines, Assignments}
 use Rattle.policyread.specs.Steps.{read_user, read_roles, read_grant, read_set, read_session}
 use Rattle.policyread.specs.Gathered.{users_read, roles_after, roles_read, pairs_read, lines_read, assigned_read, grants_read, ssd_read, dsd_read, sessions_read, counted, gathered}
-use Rattle.policyread.proofs.Back.{users_read, roles_read, lines_read, assignments_read, grants_read, sets_read, sessions_read}
+use Rattle.policyread.proofs.Back.{users_read_lem, roles_read_lem, lines_read_lem, assignments_read_lem, grants_read_lem, sets_read_lem, sessions_read_lem}
 
 -- ---- what a file may hold has nothing beyond its ranges
 
@@ -85,14 +85,14 @@ gathered-file bytes m file =
     let s6 = stands-right (grants_part m.holders) from6 s5 in
     let s7 = stands-right (sets_part m.ssd) from7 s6 in
     let s8 = stands-right (sets_part m.dsd) from8 s7 in
-    let e1 : users_read bytes ≡ _ = users_read bytes empty m.users f.users 0 _ (stands-left (users_part m.users) from2 s1) in
-    let e2 : roles_read bytes ≡ _ = roles-after bytes _ e1 (roles_read bytes m.roles _ _ f.roles (stands-left (role_list m.roles) from3 s2)) in
-    let e3 : lines_read bytes ≡ _ = ap (pairs_read Lines bytes) e2 ∙ lines_read bytes m.juniors (λ i. (f.juniors i).small) (no_juniors m f) (few-lines m f.limits) m2 _ _ (stands-left (lines_part m.juniors) from4 s3) in
-    let e4 : assigned_read bytes ≡ _ = ap (pairs_read Assignments bytes) e3 ∙ assignments_read bytes m.assigned (λ i. (f.assigned i).small) (no_assigned m f) (few-assigned m f.limits) m3 _ _ (stands-left (assigned_part m.assigned) from5 s4) in
-    let e5 : grants_read bytes ≡ _ = ap (λ (q : ℕ × Model). read_section bytes 2048 (read_grant bytes) q.0 q.1) e4 ∙ grants_read bytes m.holders (λ i. (f.holders i).small) (no_holders m f) (few-grants m f.limits) m4 _ _ (stands-left (grants_part m.holders) from6 s5) in
-    let e6 : ssd_read bytes ≡ _ = ap (λ (q : ℕ × Model). read_section bytes 16 (read_set Static bytes) q.0 q.1) e5 ∙ sets_read bytes Static m.ssd (λ n. (f.ssd n).absent) (λ n. (f.ssd n).named) (λ n. (f.ssd n).small) (λ n. (f.ssd n).members.small) m5 _ _ (stands-left (sets_part m.ssd) from7 s6) in
-    let e7 : dsd_read bytes ≡ _ = ap (λ (q : ℕ × Model). read_section bytes 16 (read_set Dynamic bytes) q.0 q.1) e6 ∙ sets_read bytes Dynamic m.dsd (λ n. (f.dsd n).absent) (λ n. (f.dsd n).named) (λ n. (f.dsd n).small) (λ n. (f.dsd n).members.small) m6 _ _ (stands-left (sets_part m.dsd) from8 s7) in
-    let e8 : sessions_read bytes ≡ _ = ap (λ (q : ℕ × Model). read_section bytes 64 (read_session bytes) q.0 q.1) e7 ∙ sessions_read bytes m.sessions (λ n. (f.sessions n).closed) (λ n. (f.sessions n).numbered) (owners m f) (λ n. (f.sessions n).active.small) m7 _ _ s8 in
+    let e1 : users_read bytes ≡ _ = users_read_lem bytes empty m.users f.users 0 _ (stands-left (users_part m.users) from2 s1) in
+    let e2 : roles_read bytes ≡ _ = roles-after bytes _ e1 (roles_read_lem bytes m.roles _ _ f.roles (stands-left (role_list m.roles) from3 s2)) in
+    let e3 : lines_read bytes ≡ _ = ap (pairs_read Lines bytes) e2 ∙ lines_read_lem bytes m.juniors (λ i. (f.juniors i).small) (no_juniors m f) (few-lines m f.limits) m2 _ _ (stands-left (lines_part m.juniors) from4 s3) in
+    let e4 : assigned_read bytes ≡ _ = ap (pairs_read Assignments bytes) e3 ∙ assignments_read_lem bytes m.assigned (λ i. (f.assigned i).small) (no_assigned m f) (few-assigned m f.limits) m3 _ _ (stands-left (assigned_part m.assigned) from5 s4) in
+    let e5 : grants_read bytes ≡ _ = ap (λ (q : ℕ × Model). read_section bytes 2048 (read_grant bytes) q.0 q.1) e4 ∙ grants_read_lem bytes m.holders (λ i. (f.holders i).small) (no_holders m f) (few-grants m f.limits) m4 _ _ (stands-left (grants_part m.holders) from6 s5) in
+    let e6 : ssd_read bytes ≡ _ = ap (λ (q : ℕ × Model). read_section bytes 16 (read_set Static bytes) q.0 q.1) e5 ∙ sets_read_lem bytes Static m.ssd (λ n. (f.ssd n).absent) (λ n. (f.ssd n).named) (λ n. (f.ssd n).small) (λ n. (f.ssd n).members.small) m5 _ _ (stands-left (sets_part m.ssd) from7 s6) in
+    let e7 : dsd_read bytes ≡ _ = ap (λ (q : ℕ × Model). read_section bytes 16 (read_set Dynamic bytes) q.0 q.1) e6 ∙ sets_read_lem bytes Dynamic m.dsd (λ n. (f.dsd n).absent) (λ n. (f.dsd n).named) (λ n. (f.dsd n).small) (λ n. (f.dsd n).members.small) m6 _ _ (stands-left (sets_part m.dsd) from8 s7) in
+    let e8 : sessions_read bytes ≡ _ = ap (λ (q : ℕ × Model). read_section bytes 64 (read_session bytes) q.0 q.1) e7 ∙ sessions_read_lem bytes m.sessions (λ n. (f.sessions n).closed) (λ n. (f.sessions n).numbered) (owners m f) (λ n. (f.sessions n).active.small) m7 _ _ s8 in
     ap (λ (q : ℕ × Model). counted q.1) e8
     ∙ (λ i. record { users = m.users; roles = m.roles; juniors = m.juniors; assigned = m.assigned; holders = m.holders; ssd = m.ssd; dsd = m.dsd; sessions = m.sessions; assignment_count = sym f.counted.assigned i; grant_count = sym f.counted.granted i; line_count = sym f.counted.lined i })
 

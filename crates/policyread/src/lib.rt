@@ -1,5 +1,6 @@
 // Gathers a state from the bytes of a file without asking whether they are one: bytes past the end are 0, what is out of range is dropped, and no count is taken as larger than its limit.
 #![tactic(auto)]
+
 ghost use Rattle.std.specs.Prelude.{◌≡◌, ◌<◌, ◌≤◌, ◌+◌, ◌*◌, ◌^◌, length};
 ghost use Rattle.hierarchy.specs.Lines.{table_of};
 ghost use Rattle.model.specs.Model.{standing};

@@ -1,5 +1,6 @@
 // Writes the file of a state, section by section. What would stand past the buffer's end is dropped, so that a buffer too short tells the length all the same.
 #![tactic(auto)]
+
 ghost use Rattle.std.specs.Prelude.{ℕ, ◌+◌, ◌<◌, ◌≤◌, ◌*◌, ◌^◌, ◌++◌, ◌≡◌, length, replicate};
 ghost use Rattle.roleset.specs.Bounded.{members};
 ghost use Rattle.roleset.specs.Roles.{has};

@@ -1,6 +1,7 @@
 // The reviews: the questions whose answer is a list. Each finds the set of roles that it is about, by one walk at most, and lists by one shared pass.
 // The results stand at the front of the lent buffer. Its places past them are untouched, and so is all of it on a refusal; 1, 2, 15.
 #![tactic(auto)]
+
 ghost use Rattle.model.specs.declared.Question.TheVariants.{AssignedUsers, AssignedRoles, AuthUsers, AuthRoles, RolePerms, UserPerms, SessionRoles, SessionPerms, RoleOps, UserOps, Sets, SetRoles, SetCount};
 ghost use Rattle.state.specs.View.{view};
 ghost use Rattle.reviews.specs.Reviewing.{Asked};

@@ -1,5 +1,6 @@
 // Sweeps over all users and over all sessions of the lent state, one walk each. Where lines or assignments are to change, a sweep goes over tables as they will be, and nothing is stored yet.
 #![tactic(auto)]
+
 ghost use Rattle.std.specs.Prelude.{◌≡◌};
 ghost use Rattle.hierarchy.specs.Lines.{table_of};
 ghost use Rattle.model.specs.Model.{Session};

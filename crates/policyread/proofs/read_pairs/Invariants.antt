@@ -1,0 +1,15 @@
+-- The pairs that the section names are added. Assumes nothing.
+use borrow.Author.Rules.{rules}
+use Prim.Native.Nat.{◌≤◌}
+use native.Mathlib.Omega.{arith}
+use Rattle.state.specs.View.{view}
+use Rattle.text.specs.Places.{read_section}
+use Rattle.policyread.specs.Steps.{pairs_most, read_pair}
+use Rattle.policyread.proofs.Loops.{Left, left-start, left_step, left_end, pair_was, pairs-few}
+use Rattle.policyread.proofs.read_pairs.Given as goal
+
+abbrev pub invariant-loop-left : goal.invariant-loop-left
+invariant-loop-left l = Left (read_pair l.pairs l.bytes) (read_section l.bytes (pairs_most l.pairs) (read_pair l.pairs l.bytes) l.at (view l.initial.state)) 4 (pairs_most l.pairs) l.at l.left l.next (view l.state)
+
+abbrev pub decreases-loop-left : goal.decreases-loop-left
+decreases-loop-left l = l.left

@@ -1,0 +1,17 @@
+-- The sessions that the section names are open. Assumes nothing.
+use borrow.Author.Rules.{rules}
+use native.Mathlib.Omega.{arith}
+use Rattle.state.specs.View.{view}
+use Rattle.text.specs.Places.{read_section}
+use Rattle.policyread.specs.Steps.{session_added, read_session}
+use Rattle.policyread.proofs.Loops.{Left, left-start, left_step, left_end, entry-was}
+use Rattle.policyread.proofs.read_sessions.Goals as goal
+
+pub loop-left-init : goal.loop-left-init
+loop-left-init c = left-start _ c.count_at-left.ensures
+
+pub loop-left-preserved : goal.loop-left-preserved
+loop-left-preserved c = left_step c.loop-left-test.true (entry-was session_added _ _ c.read_entry-entry.ensures c.open_session.ensures) (omega (arith, c.read_entry-entry.ensures.list.room)) c.loop-left.invariant
+
+pub returns : goal.returns
+returns c = left_end c.loop-left-test.false c.loop-left.invariant

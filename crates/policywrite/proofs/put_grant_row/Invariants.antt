@@ -1,0 +1,19 @@
+-- The grants of one row are written one after the other. Assumes nothing.
+use borrow.Author.Rules.{rules}
+use mathlib.Core.List.{List, ◌++◌}
+use mathlib.Core.Path.{◌≡◌, refl, ap}
+use Prim.Native.Nat.{ℕ, ◌+◌, ◌*◌, ◌/◌, ◌%◌, ◌<◌}
+use native.Mathlib.Omega.{arith}
+use Rattle.roleset.specs.Roles.{count}
+use Rattle.text.specs.Bytes.{two}
+use Rattle.text.specs.Places.{Wrote}
+use Rattle.text.proofs.Writing.{wrote-length}
+use Rattle.policyform.specs.Encode.{grant_entry}
+use Rattle.policywrite.proofs.Taking.{Least, least, Through, through_start, through_taken, through_end, through_room}
+use Rattle.policywrite.proofs.put_grant_row.Given as goal
+
+abbrev pub invariant-loop-rest : goal.invariant-loop-rest
+invariant-loop-rest l = Through (λ r. grant_entry (64 * l.row + r)) l.set l.rest l.initial.out l.out l.at l.next
+
+abbrev pub decreases-loop-rest : goal.decreases-loop-rest
+decreases-loop-rest l = count l.rest

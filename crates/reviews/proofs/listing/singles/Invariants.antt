@@ -1,0 +1,13 @@
+-- The places are filled in turn, each with its role alone. Assumes nothing.
+use borrow.Author.Rules.{rules}
+use Prim.Native.Nat.{◌-◌}
+use native.Mathlib.Omega.{arith}
+use Rattle.roleset.specs.Roles.{none, with}
+use Rattle.reviews.proofs.Filling.{Filled, fill_start, fill_next, fill_end}
+use Rattle.reviews.proofs.listing.singles.Given as goal
+
+abbrev pub invariant-loop-r : goal.invariant-loop-r
+invariant-loop-r l = Filled (with none) 64 l.r l.t
+
+abbrev pub decreases-loop-r : goal.decreases-loop-r
+decreases-loop-r l = 64 - l.r

@@ -1,0 +1,55 @@
+-- The loop's invariant: the sets passed are without the role, and the others as before; those that had it are counted. Assumes nothing.
+use borrow.Author.Rules.{rules}
+use mathlib.Core.Bool.{Bool}
+use mathlib.Core.Logic.{⊎_elim}
+use mathlib.Core.Path.{◌≡◌, refl, sym, ap, ◌∙◌}
+use Prim.Native.Nat.{ℕ, ◌≤◌, ◌<◌, ◌-◌}
+use native.Mathlib.Omega.{arith}
+use lib.ListN.{length}
+use lib.Seq.{ext_get_or}
+use Rattle.roleset.specs.Bounded.{bit, tally}
+use Rattle.roleset.specs.Roles.{has, without}
+use Rattle.roleset.proofs.BoundedLaws.{tally-le, tally-step}
+use Rattle.hierarchy.specs.Lines.{table_of}
+use Rattle.sweeps.proofs.Strips.{strip_at, strip_length}
+use Rattle.sweeps.proofs.Sweeping.{Swept, swept_start, swept_store}
+use Rattle.sweeps.proofs.strip.Goals as goal
+
+pub loop-k-init : goal.loop-k-init
+unfolding tally
+loop-k-init c = (omega arith, swept_start _ _ _ _ refl (λ k. refl), refl)
+
+pub overflow_add-n : goal.overflow_add-n
+overflow_add-n c =
+    omega (arith, c.loop-k.invariant.2, tally-le c.loop-k.k (λ j. has (table_of c.args.table.now j) c.args.r.number))
+
+pub loop-k-preserved : goal.loop-k-preserved
+loop-k-preserved c =
+    let first = c.args.table.now in
+    let r = c.args.r.number in
+    let k = c.loop-k.k in
+    let l : k < length first = omega (arith, c.loop-k.invariant.1.long) in
+    let here : table_of c.loop-k.table k ≡ table_of first k = c.loop-k.invariant.1.left k (omega arith) in
+    let f : ℕ → Bool = λ j. has (table_of first j) r in
+    let had : f k ≡ c.has.result = ap (λ (s : ℕ). has s r) (sym here) ∙ sym c.has.ensures in (
+      omega arith,
+      swept_store _ _ (length first) k c.loop-k.table c.without.result l (c.without.ensures.is ∙ ap (λ (s : ℕ). without s r) here) c.loop-k.invariant.1,
+      ⊎_elim
+          (λ w. omega (arith, tally-step k f, ap bit (had ∙ w.0.taken), w.1, c.loop-k.invariant.2))
+          (λ w. omega (arith, tally-step k f, ap bit (had ∙ w.0.left), w.1, c.loop-k.invariant.2))
+          c.if-has.branch,
+    )
+
+pub shape_of-table : goal.shape_of-table
+shape_of-table c = c.loop-k.invariant.1.long
+
+pub returns : goal.returns
+returns c =
+    let first = c.args.table.now in
+    let r = c.args.r.number in
+    let s = c.loop-k.invariant.1 in
+    let whole : c.loop-k.k ≡ length first = omega (arith, s.long) in
+    record {
+      stripped = ext_get_or 0 c.loop-k.table _ (s.long ∙ sym (strip_length first r)) (λ k p. s.done k (omega (arith, s.long)) ∙ sym (strip_at first r k));
+      had = rw whole at c.loop-k.invariant.2;
+    }
