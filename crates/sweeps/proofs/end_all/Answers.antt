@@ -10,6 +10,7 @@ use Rattle.state.proofs.Stored.{in-range}
 use Rattle.sweeps.proofs.Shedding.{view-past}
 use Rattle.sweeps.proofs.SweepSteps.{Ended, ended_start, ended_one, ended_none, ended_all, end-own, end-other}
 use Rattle.sweeps.proofs.end_all.Goals as goal
+use Rattle.sweeps.proofs.end_all.Goals.{then-open_of, else-open_of}
 use Rattle.sweeps.proofs.end_all.Goals.{After-session_at-session}
 
 pub loop-k-init : goal.loop-k-init
@@ -27,10 +28,10 @@ loop-k-preserved c =
     let session = c.session_at-session.result in
     let now = found (goal.at.loop-k-preserved c).After-session_at-session in
     let asked : open_of u session ≡ c.open_of.result = sym c.open_of.ensures in
-    ⊎_elim
-    (λ w. (omega arith, ended_one m u k (view c.loop-k.state) (view c.if-open_of.state) c.loop-k.invariant.1 (ap view w.3 ∙ w.2.ensures ∙ in-range 64 k _ _ (omega arith)) (end-own u session (asked ∙ w.0.taken) ∙ ap (ended_of u) now)))
-    (λ w. (omega arith, rw w.1 (ended_none m u k (view c.loop-k.state) c.loop-k.invariant.1 (rw now at (end-other u session (asked ∙ w.0.left))))))
-    c.if-open_of.branch
+    elim c.if-open_of.branch [
+      | then-open_of w ↦ (omega arith, ended_one m u k (view c.loop-k.state) (view c.if-open_of.state) c.loop-k.invariant.1 (ap view w.state-is ∙ w.close_session.ensures ∙ in-range 64 k _ _ (omega arith)) (end-own u session (asked ∙ w.if-open_of.true) ∙ ap (ended_of u) now))
+      | else-open_of w ↦ (omega arith, rw w.state-is (ended_none m u k (view c.loop-k.state) c.loop-k.invariant.1 (rw now at (end-other u session (asked ∙ w.if-open_of.false)))))
+    ]
 
 pub returns : goal.returns
 returns c =

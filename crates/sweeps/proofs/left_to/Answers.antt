@@ -10,6 +10,7 @@ use Rattle.state.specs.View.{part}
 use Rattle.state.proofs.Slots.{part_none}
 use Rattle.sweeps.proofs.SweepSteps.{keeps_live, keeps_dead}
 use Rattle.sweeps.proofs.left_to.Goals as goal
+use Rattle.sweeps.proofs.left_to.Goals.{then-owner-lt256, else-owner-lt256}
 use Rattle.sweeps.proofs.left_to.Goals.{Joined-owner-lt256}
 
 pub returns-then-not-session : goal.returns-then-not-session
@@ -18,10 +19,10 @@ returns-then-not-session c = let args = c.args in keeps_dead _ _ args.session (n
 -- the owner's roles
 owned : (c : Joined-owner-lt256) → let args = c.args in c.if-owner-lt256.held ≡ part args.assigned.now 0 256 args.session.owner
 owned c = let args = c.args in
-    ⊎_elim
-    (λ w. w.2 ∙ sym (get_or-take 256 args.assigned.now args.session.owner 0 w.0.taken))
-    (λ w. w.1 ∙ sym (part_none args.assigned.now 0 256 args.session.owner w.0.left))
-    c.if-owner-lt256.branch
+    elim c.if-owner-lt256.branch [
+      | then-owner-lt256 w ↦ w.held-is ∙ sym (get_or-take 256 args.assigned.now args.session.owner 0 w.if-owner-lt256.true)
+      | else-owner-lt256 w ↦ w.held-is ∙ sym (part_none args.assigned.now 0 256 args.session.owner w.if-owner-lt256.false)
+    ]
 
 pub returns : goal.returns
 returns c =

@@ -10,7 +10,7 @@ use Rattle.sweeps.proofs.open_of.Goals as goal
 pub returns-then-not-live : goal.returns-then-not-live
 returns-then-not-live c =
     let session = c.args.session in
-    let closed : session.live ≡ false = not-true session.live c.if-not-live.true in
+    let closed : session.live ≡ false = c.if-not-live.true in
     rw closed
 
 -- open, and the user's
@@ -18,7 +18,7 @@ pub returns-then-owner-user : goal.returns-then-owner-user
 returns-then-owner-user c =
     let session = c.args.session in
     let user = c.args.u.number in
-    let live : session.live ≡ true = not-false session.live c.if-not-live.false in
+    let live : session.live ≡ true = c.if-not-live.false in
     let own : session.owner ≡ user = omega (arith, c.if-owner-user.true) in
     rw live (sym (eq-eqb session.owner user own))
 
@@ -27,6 +27,6 @@ pub returns : goal.returns
 returns c =
     let session = c.args.session in
     let user = c.args.u.number in
-    let live : session.live ≡ true = not-false session.live c.if-not-live.false in
+    let live : session.live ≡ true = c.if-not-live.false in
     let other : session.owner ≡ user → ⊥ = λ e. omega (arith, c.if-owner-user.false) in
     rw live (sym (ne_eqb session.owner user other))

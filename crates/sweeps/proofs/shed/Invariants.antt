@@ -11,7 +11,7 @@ use Rattle.sweeps.proofs.Sweeping.{Swept, swept_start, swept_store, zeros}
 use Rattle.sweeps.proofs.shed.Given as goal
 
 abbrev pub invariant-loop-k : goal.invariant-loop-k
-invariant-loop-k l = (l.k ≤ 64) × Swept (λ j. 0) (λ j. (shedded (table_of l.juniors) (part l.assigned 0 256) ((view l.state).sessions j)).l.active) 64 l.k l.active
+invariant-loop-k l = (l.k ≤ 64) × Swept (λ j. 0) (λ j. (shedded (table_of l.juniors) (part l.assigned 0 256) ((view l.state).sessions j)).active) 64 l.k l.active
 
 abbrev pub decreases-loop-k : goal.decreases-loop-k
 decreases-loop-k l = 64 - l.k

@@ -14,6 +14,7 @@ use Rattle.hierarchy.specs.Lines.{table_of}
 use Rattle.sweeps.proofs.Strips.{strip_at, strip_length}
 use Rattle.sweeps.proofs.Sweeping.{Swept, swept_start, swept_store}
 use Rattle.sweeps.proofs.strip.Goals as goal
+use Rattle.sweeps.proofs.strip.Goals.{then-has, else-has}
 
 pub loop-k-init : goal.loop-k-init
 unfolding tally
@@ -34,10 +35,10 @@ loop-k-preserved c =
     let had : f k ≡ c.has.result = ap (λ (s : ℕ). has s r) (sym here) ∙ sym c.has.ensures in (
       omega arith,
       swept_store _ _ (length first) k c.loop-k.table c.without.result l (c.without.ensures.is ∙ ap (λ (s : ℕ). without s r) here) c.loop-k.invariant.1,
-      ⊎_elim
-          (λ w. omega (arith, tally-step k f, ap bit (had ∙ w.0.taken), w.1, c.loop-k.invariant.2))
-          (λ w. omega (arith, tally-step k f, ap bit (had ∙ w.0.left), w.1, c.loop-k.invariant.2))
-          c.if-has.branch,
+      elim c.if-has.branch [
+        | then-has w ↦ omega (arith, tally-step k f, ap bit (had ∙ w.if-has.true), w.n-is, c.loop-k.invariant.2)
+        | else-has w ↦ omega (arith, tally-step k f, ap bit (had ∙ w.if-has.false), w.n-is, c.loop-k.invariant.2)
+      ],
     )
 
 pub shape_of-table : goal.shape_of-table
