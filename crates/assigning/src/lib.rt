@@ -1,5 +1,6 @@
 // The commands `assign` and `deassign`.
 #![tactic(auto)]
+
 ghost use Rattle.std.specs.Prelude.{◌≡◌};
 ghost use Rattle.model.specs.commands.Assigning.{assign, deassign};
 ghost use Rattle.state.specs.View.{view, told};

@@ -1,5 +1,6 @@
 // The commands `inherit` and `disinherit`.
 #![tactic(auto)]
+
 ghost use Rattle.std.specs.Prelude.{◌≡◌};
 ghost use Rattle.model.specs.commands.Inheriting.{inherit, disinherit};
 ghost use Rattle.state.specs.View.{view, told};

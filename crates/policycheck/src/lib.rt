@@ -1,5 +1,6 @@
 // Asks a state whether it is of the form of the policy file, and which rule it breaks.
 #![tactic(auto)]
+
 ghost use Rattle.std.specs.Prelude.{true, not, ◌&&◌, ◌≡◌, ℕ};
 ghost use Rattle.roleset.specs.Roles.{has, subset};
 ghost use Rattle.hierarchy.specs.Lines.{table_of};

@@ -1,5 +1,6 @@
 // The commands `role` and `norole`.
 #![tactic(auto)]
+
 ghost use Rattle.std.specs.Prelude.{◌≡◌};
 ghost use Rattle.model.specs.commands.Sets.{sets_of};
 ghost use Rattle.model.specs.commands.Users.{role, norole, in_set};

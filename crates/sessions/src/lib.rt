@@ -1,5 +1,6 @@
 // The session commands `session`, `activate`, `drop` and `end`.
 #![tactic(auto)]
+
 ghost use Rattle.std.specs.Prelude.{◌≡◌};
 ghost use Rattle.numbers.specs.Answers.{number_of};
 ghost use Rattle.model.specs.Sheet.{verdict};

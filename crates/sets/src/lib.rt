@@ -1,5 +1,6 @@
 // The five `ssd` commands and the five `dsd` commands over the lent state, one function for both kinds of set. Refusals return before any store.
 #![tactic(auto)]
+
 ghost use Rattle.std.specs.Prelude.{◌≡◌};
 ghost use Rattle.numbers.specs.Answers.{number_of};
 ghost use Rattle.model.specs.Sheet.{verdict};

@@ -1,5 +1,6 @@
 // The commands `user`, `end-all` and `nouser`.
 #![tactic(auto)]
+
 ghost use Rattle.std.specs.Prelude.{◌≡◌};
 ghost use Rattle.model.specs.commands.Users.{user, end_all, nouser};
 ghost use Rattle.state.specs.View.{view, told};
