@@ -1,5 +1,6 @@
 // Every command through one function, and every question through another.
 #![tactic(auto)]
+
 ghost use Rattle.std.specs.Prelude.{false, ◌≡◌};
 ghost use Rattle.model.specs.Step.{step};
 ghost use Rattle.model.specs.declared.Question.TheVariants.{Check};

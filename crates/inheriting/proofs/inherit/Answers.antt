@@ -86,7 +86,7 @@ found-5 c = let found-1-f : (role_beyond (c.args.senior.number) || role_beyond (
     let clear-1-f : (role_beyond (c.args.senior.number) || role_beyond (c.args.junior.number)) ≡ false = found-1-f ∙ c.if-either.false in
     let within-range-f : (c.args.senior.number) < 64 = within 64 (c.args.senior.number) (role_beyond (c.args.junior.number)) clear-1-f in
     let new-f : c.with-more.result ≡ with ((view c.args.state.now).juniors (c.args.senior.number)) (c.args.junior.number) = c.with-more.ensures.is ∙ ap (λ (x : ℕ). with x (c.args.junior.number)) c.directly_below-old.ensures in
-    let asked-f : (kind : Kind) → asks_rule kind (view c.args.state.now) (table_of (set c.juniors_table-juniors.result (c.args.senior.number) c.with-more.result)) ≡ rule_broken kind (lined (view c.args.state.now) (c.args.senior.number) (c.args.junior.number)) = asks_lined (view c.args.state.now) (c.args.senior.number) (c.args.junior.number) within-range-f c.with-more.result new-f kind c.juniors_table-juniors.result c.juniors_table-juniors.ensures in
+    let asked-f : (kind : Kind) → asks_rule kind (view c.args.state.now) (table_of (set c.juniors_table-juniors.result (c.args.senior.number) c.with-more.result)) ≡ rule_broken kind (lined (view c.args.state.now) (c.args.senior.number) (c.args.junior.number)) = λ kind. asks_lined (view c.args.state.now) (c.args.senior.number) (c.args.junior.number) within-range-f c.with-more.result new-f kind c.juniors_table-juniors.result c.juniors_table-juniors.ensures in
     sym (c.ask_rule.ensures ∙ asked-f Static)
 
 clear-5 : (c : Else-ask_rule) → some 256 (static_broken (lined (view c.args.state.now) (c.args.senior.number) (c.args.junior.number))) ≡ false
@@ -94,7 +94,7 @@ clear-5 c = let found-1-f : (role_beyond (c.args.senior.number) || role_beyond (
     let clear-1-f : (role_beyond (c.args.senior.number) || role_beyond (c.args.junior.number)) ≡ false = found-1-f ∙ c.if-either.false in
     let within-range-f : (c.args.senior.number) < 64 = within 64 (c.args.senior.number) (role_beyond (c.args.junior.number)) clear-1-f in
     let new-f : c.with-more.result ≡ with ((view c.args.state.now).juniors (c.args.senior.number)) (c.args.junior.number) = c.with-more.ensures.is ∙ ap (λ (x : ℕ). with x (c.args.junior.number)) c.directly_below-old.ensures in
-    let asked-f : (kind : Kind) → asks_rule kind (view c.args.state.now) (table_of (set c.juniors_table-juniors.result (c.args.senior.number) c.with-more.result)) ≡ rule_broken kind (lined (view c.args.state.now) (c.args.senior.number) (c.args.junior.number)) = asks_lined (view c.args.state.now) (c.args.senior.number) (c.args.junior.number) within-range-f c.with-more.result new-f kind c.juniors_table-juniors.result c.juniors_table-juniors.ensures in
+    let asked-f : (kind : Kind) → asks_rule kind (view c.args.state.now) (table_of (set c.juniors_table-juniors.result (c.args.senior.number) c.with-more.result)) ≡ rule_broken kind (lined (view c.args.state.now) (c.args.senior.number) (c.args.junior.number)) = λ kind. asks_lined (view c.args.state.now) (c.args.senior.number) (c.args.junior.number) within-range-f c.with-more.result new-f kind c.juniors_table-juniors.result c.juniors_table-juniors.ensures in
     let found-5-f : some 256 (static_broken (lined (view c.args.state.now) (c.args.senior.number) (c.args.junior.number))) ≡ c.ask_rule.result = sym (c.ask_rule.ensures ∙ asked-f Static) in
     found-5-f ∙ c.if-ask_rule.false
 
@@ -103,7 +103,7 @@ found-6 c = let found-1-f : (role_beyond (c.args.senior.number) || role_beyond (
     let clear-1-f : (role_beyond (c.args.senior.number) || role_beyond (c.args.junior.number)) ≡ false = found-1-f ∙ c.if-either.false in
     let within-range-f : (c.args.senior.number) < 64 = within 64 (c.args.senior.number) (role_beyond (c.args.junior.number)) clear-1-f in
     let new-f : c.with-more.result ≡ with ((view c.args.state.now).juniors (c.args.senior.number)) (c.args.junior.number) = c.with-more.ensures.is ∙ ap (λ (x : ℕ). with x (c.args.junior.number)) c.directly_below-old.ensures in
-    let asked-f : (kind : Kind) → asks_rule kind (view c.args.state.now) (table_of (set c.juniors_table-juniors.result (c.args.senior.number) c.with-more.result)) ≡ rule_broken kind (lined (view c.args.state.now) (c.args.senior.number) (c.args.junior.number)) = asks_lined (view c.args.state.now) (c.args.senior.number) (c.args.junior.number) within-range-f c.with-more.result new-f kind c.juniors_table-juniors.result c.juniors_table-juniors.ensures in
+    let asked-f : (kind : Kind) → asks_rule kind (view c.args.state.now) (table_of (set c.juniors_table-juniors.result (c.args.senior.number) c.with-more.result)) ≡ rule_broken kind (lined (view c.args.state.now) (c.args.senior.number) (c.args.junior.number)) = λ kind. asks_lined (view c.args.state.now) (c.args.senior.number) (c.args.junior.number) within-range-f c.with-more.result new-f kind c.juniors_table-juniors.result c.juniors_table-juniors.ensures in
     sym (c.ask_rule-2.ensures ∙ asked-f Dynamic)
 
 clear-6 : (c : Else-ask_rule-2) → some 64 (dynamic_broken (lined (view c.args.state.now) (c.args.senior.number) (c.args.junior.number))) ≡ false
@@ -111,7 +111,7 @@ clear-6 c = let found-1-f : (role_beyond (c.args.senior.number) || role_beyond (
     let clear-1-f : (role_beyond (c.args.senior.number) || role_beyond (c.args.junior.number)) ≡ false = found-1-f ∙ c.if-either.false in
     let within-range-f : (c.args.senior.number) < 64 = within 64 (c.args.senior.number) (role_beyond (c.args.junior.number)) clear-1-f in
     let new-f : c.with-more.result ≡ with ((view c.args.state.now).juniors (c.args.senior.number)) (c.args.junior.number) = c.with-more.ensures.is ∙ ap (λ (x : ℕ). with x (c.args.junior.number)) c.directly_below-old.ensures in
-    let asked-f : (kind : Kind) → asks_rule kind (view c.args.state.now) (table_of (set c.juniors_table-juniors.result (c.args.senior.number) c.with-more.result)) ≡ rule_broken kind (lined (view c.args.state.now) (c.args.senior.number) (c.args.junior.number)) = asks_lined (view c.args.state.now) (c.args.senior.number) (c.args.junior.number) within-range-f c.with-more.result new-f kind c.juniors_table-juniors.result c.juniors_table-juniors.ensures in
+    let asked-f : (kind : Kind) → asks_rule kind (view c.args.state.now) (table_of (set c.juniors_table-juniors.result (c.args.senior.number) c.with-more.result)) ≡ rule_broken kind (lined (view c.args.state.now) (c.args.senior.number) (c.args.junior.number)) = λ kind. asks_lined (view c.args.state.now) (c.args.senior.number) (c.args.junior.number) within-range-f c.with-more.result new-f kind c.juniors_table-juniors.result c.juniors_table-juniors.ensures in
     let found-6-f : some 64 (dynamic_broken (lined (view c.args.state.now) (c.args.senior.number) (c.args.junior.number))) ≡ c.ask_rule-2.result = sym (c.ask_rule-2.ensures ∙ asked-f Dynamic) in
     found-6-f ∙ c.if-ask_rule-2.false
 

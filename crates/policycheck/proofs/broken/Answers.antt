@@ -32,11 +32,11 @@ lines : (c : After-juniors_table-lines) → (kind : Kind) → let m = view c.arg
 lines c kind = let m = view c.args.state.now in ap (asks_rule kind m) c.juniors_table-lines.ensures.each ∙ asks-lines kind m m.juniors m.line_count
 
 static : (c : After-ask_rule) → some 256 (static_broken (view c.args.state.now)) ≡ c.ask_rule.result
-static c = let lines-f : (kind : Kind) → let m = view c.args.state.now in asks_rule kind m (table_of c.juniors_table-lines.result) ≡ rule_broken kind m = let m = view c.args.state.now in ap (asks_rule kind m) c.juniors_table-lines.ensures.each ∙ asks-lines kind m m.juniors m.line_count in
+static c = let lines-f : (kind : Kind) → let m = view c.args.state.now in asks_rule kind m (table_of c.juniors_table-lines.result) ≡ rule_broken kind m = λ kind. let m = view c.args.state.now in ap (asks_rule kind m) c.juniors_table-lines.ensures.each ∙ asks-lines kind m m.juniors m.line_count in
     sym (c.ask_rule.ensures ∙ lines-f Static)
 
 dynamic : (c : After-ask_rule-2) → some 64 (dynamic_broken (view c.args.state.now)) ≡ c.ask_rule-2.result
-dynamic c = let lines-f : (kind : Kind) → let m = view c.args.state.now in asks_rule kind m (table_of c.juniors_table-lines.result) ≡ rule_broken kind m = let m = view c.args.state.now in ap (asks_rule kind m) c.juniors_table-lines.ensures.each ∙ asks-lines kind m m.juniors m.line_count in
+dynamic c = let lines-f : (kind : Kind) → let m = view c.args.state.now in asks_rule kind m (table_of c.juniors_table-lines.result) ≡ rule_broken kind m = λ kind. let m = view c.args.state.now in ap (asks_rule kind m) c.juniors_table-lines.ensures.each ∙ asks-lines kind m m.juniors m.line_count in
     sym (c.ask_rule-2.ensures ∙ lines-f Dynamic)
 
 pub returns-then-circular : goal.returns-then-circular
