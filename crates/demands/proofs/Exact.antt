@@ -15,6 +15,7 @@ use Rattle.demands.specs.Demand2.{Exactly, Applies, FirstToApply, place}
 
 -- Where no condition holds nothing applies,
 pub none-applies : (cases : List Refusal) → AllClear cases → (n : ℕ) → Applies cases n → ⊥
+none-applies [] c n x'' = elim x'' [ ]
 none-applies (r ∷ rest) c n (Memᴰ.head e) = clash true refl (ap (λ (x : Refusal). x.holds) e ∙ c.0)
 none-applies (r ∷ rest) c n (Memᴰ.tail m) = none-applies rest c.1 n m
 

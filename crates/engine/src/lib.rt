@@ -25,7 +25,7 @@ pub struct Stepped {
 
 // The answer of a command that gives no result.
 fn plain(answer: Answer) -> Stepped
-    ensures* { λ x. ⌜ x ≡ record { answer = answer; result = false; opened = record { number = 0 } } ⌝ }
+    ensures { result ≡ record { answer = answer; result = false; opened = record { number = 0 } } }
 {
     Stepped {
         answer,
@@ -36,7 +36,7 @@ fn plain(answer: Answer) -> Stepped
 
 // A session that was opened, or was not: where it was, its number is the result.
 fn opening(o: Opened) -> Stepped
-    ensures* { λ x. ⌜ x ≡ record { answer = o.answer; result = is_done o.answer; opened = o.session } ⌝ }
+    ensures { result ≡ record { answer = o.answer; result = is_done o.answer; opened = o.session } }
 {
     let answer = o.answer;
     let opened = o.session;

@@ -1,5 +1,6 @@
 // The policy file: a state is saved to a lent buffer, and loaded from any bytes.
 #![tactic(auto)]
+
 ghost use Rattle.std.specs.Prelude.{◌≡◌, ℕ, ◌≤◌, ◌<◌, length, get_or};
 ghost use Rattle.numbers.specs.Answers.{number_of};
 ghost use Rattle.state.specs.View.{view, told};
