@@ -80,9 +80,9 @@ module _ (m : Model) (s : Sound m) where
   authorised_met u q a = (authorised-exact m s u q).1 (a.exists, a.through)
 
   -- The users that are authorised for a role are those that have it among theirs.
-  auth_users : {room : ℕ} {beyond missing : Bool} (r : ℕ) → Listing m room beyond missing (λ u. Authorised m u r) (review m room beyond missing (auth_users m r))
+  auth_users_lem : {room : ℕ} {beyond missing : Bool} (r : ℕ) → Listing m room beyond missing (λ u. Authorised m u r) (review m room beyond missing (auth_users m r))
   unfolding auth_users auth_roles
-  auth_users r =
+  auth_users_lem r =
       reviewed (auth_users m r) ((ascends (auth_users m r)).0 (members-ascending 256 _))
       (λ u. ((λ h. authorised_to u r (listed-member 64 (has (authorised m u)) r (sym (auth_agree m s u r) ∙ (member (auth_users m r) u).1 h)).1), (λ a. (member (auth_users m r) u).0 (auth_agree m s u r ∙ member-listed 64 (has (authorised m u)) r (member-small m.roles r s.shape.roles a.exists) (authorised_met u r a)))))
 
@@ -117,7 +117,7 @@ unfolding ask assigned_users assigned_roles auth_roles role_perms user_perms ses
 answered m p s room (Check k op obj) = demand2.access m p k.number op obj
 answered m p s room (AssignedUsers r) = all_listed 256 _ (λ u h. h) (λ u h. (s.shape.users u (s.shape.assignees u r.number h), h))
 answered m p s room (AssignedRoles u) = all_listed 64 _ (λ r h. h) (λ r h. (member-small _ r (s.shape.assigned u.number).small h, h))
-answered m p s room (AuthUsers r) = auth_users m s r.number
+answered m p s room (AuthUsers r) = auth_users_lem m s r.number
 answered m p s room (AuthRoles u) = all_listed 64 _ (authorised_to m s u.number) (λ r a. (member-small _ r s.shape.roles a.exists, authorised_met m s u.number r a))
 answered m p s room (RolePerms r) = perms m s _ (lower m s r.number) (lower_met m s r.number)
 answered m p s room (UserPerms u) = perms m s _ (authorised_to m s u.number) (λ q l. authorised_met m s u.number q)

@@ -293,12 +293,12 @@ module _ (m : Model) (sound : Sound m) (u s : ℕ) (o : OpenOf m u s) where
       let row = shown m c list in
       subst (λ (t : Told). OpenOf t.after u s) (sym (row.listed sound)) (kept (λ x. OpenOf x u s) (refusals m c list) m (results m c list) (effect m c list) row.positive o (left_open c list spared))
 
-goes_on : {m x : Model} → Sound m → (u s : ℕ) → OpenOf m u s → Meanwhile u s m x → OpenOf x u s × Sound x
-goes_on sound u s o nothing = (o, sound)
-goes_on sound u s o (then {x = x} w c list spared) =
-    let before = goes_on sound u s o w in
+goes_on : (u s : ℕ) {m x : Model} → Sound m → OpenOf m u s → Meanwhile u s m x → OpenOf x u s × Sound x
+goes_on u s sound o nothing = (o, sound)
+goes_on u s sound o (then {x = x} w c list spared) =
+    let before = goes_on u s sound o w in
     (lasting x before.1 u s before.0 c list spared, (shown x c list).kept before.1)
 
 -- Deleting a user in two moves.
 pub two-moves : TwoMoves
-two-moves = record { unlisted = unlisted; answered = λ m u. (answered m u, silent m u); together = together; follows = follows; leave = λ m p u. leave m u p; ended = ended-each; others = others; only = only; idle = idle; untouched = untouched; sixteen = sixteen; deletable = deletable; goes_on = λ p u s o w. (goes_on (reachable-sound p) u s o w).0 }
+two-moves = record { unlisted = unlisted; answered = λ m u. (answered m u, silent m u); together = together; follows = follows; leave = λ m p u. leave m u p; ended = ended-each; others = others; only = only; idle = idle; untouched = untouched; sixteen = sixteen; deletable = deletable; goes_on = λ p u s o w. (goes_on u s (reachable-sound p) o w).0 }

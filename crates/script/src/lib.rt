@@ -1,5 +1,6 @@
 // A script: each line is read, obeyed and answered.
 #![tactic(auto)]
+
 ghost use Rattle.text.specs.Putting.{Put};
 ghost use Rattle.model.specs.Model.{Model};
 ghost use Rattle.model.specs.Questions.{ask};
