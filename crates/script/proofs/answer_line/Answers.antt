@@ -15,28 +15,28 @@ reads : (c : Then-ok) → Reads c.args.text.now c.read_line-l.result
 reads c = read_right _ _ c.read_line-l.ensures c.if-ok.true
 
 -- what the line tells is what its command or question tells
-tells : (c : After-meaning) → let a = c.args in let l = c.read_line-l.result in obey (view a.state.now) a.text.now ≡ doing (view a.state.now) c.meaning.result (take (l.count - c.before.before_list.result) (drop c.before.before_list.result l.numbers))
+tells : (c : After-meaning) → let a = c.args in let l = c.read_line-l.result in obey (view a.state.now) a.text.now ≡ doing (view a.state.now) c.meaning.result (take (l.count - c.before_list-from.result) (drop c.before_list-from.result l.numbers))
 tells c = let reads-f : Reads c.args.text.now c.read_line-l.result = read_right _ _ c.read_line-l.ensures c.if-ok.true in
-    obeys _ _ reads-f _ _ _ c.meaning.ensures c.before.before_list.ensures
+    obeys _ _ reads-f _ _ _ c.meaning.ensures c.before_list-from.ensures
 
-start : (c : After-before_list-from) → c.before_list.result ≤ c.read_line-l.result.count
+start : (c : After-before_list-from) → c.before_list-from.result ≤ c.read_line-l.result.count
 start c = let reads-f : Reads c.args.text.now c.read_line-l.result = read_right _ _ c.read_line-l.ensures c.if-ok.true in
-    omega (arith, c.before_list.ensures, enough _ _ reads-f)
+    omega (arith, c.before_list-from.ensures, enough _ _ reads-f)
 
 pub slice_bounds-obey_command-count : goal.slice_bounds-obey_command-count
 slice_bounds-obey_command-count c = start (goal.at.slice_bounds-obey_command-count c).After-before_list-from
 
-pub slice-bounds-obey-command-start : goal.slice-bounds-obey-command-start
-slice-bounds-obey-command-start c = start (goal.at.slice-bounds-obey-command-start c).After-before_list-from
+pub slice_bounds-obey_command-start : goal.slice_bounds-obey_command-start
+slice_bounds-obey_command-start c = start (goal.at.slice_bounds-obey_command-start c).After-before_list-from
 
-pub slice-bounds-obey-command-end : goal.slice-bounds-obey-command-end
-slice-bounds-obey-command-end c = room _ _ (reads (goal.at.slice-bounds-obey-command-end c).Then-ok)
+pub slice_bounds-obey_command-end : goal.slice_bounds-obey_command-end
+slice_bounds-obey_command-end c = room _ _ (reads (goal.at.slice_bounds-obey_command-end c).Then-ok)
 
 pub returns-in-Do : goal.returns-in-Do
-returns-in-Do c = rw (tells (goal.at.returns-in-Do c).After-meaning, c.c-1.given.1) c.obey_command.ensures
+returns-in-Do c = rw (tells (goal.at.returns-in-Do c).After-meaning, c.in-Do.is) c.obey_command.ensures
 
 pub returns-in-Ask : goal.returns-in-Ask
-returns-in-Ask c = rw (tells (goal.at.returns-in-Ask c).After-meaning, c.q-1.given.1) (record { puts = c.ask_question.ensures; state = sym (asked-same _ _ _) })
+returns-in-Ask c = rw (tells (goal.at.returns-in-Ask c).After-meaning, c.in-Ask.is) (record { puts = c.ask_question.ensures; state = sym (asked-same _ _ _) })
 
 pub returns-in-Nothing : goal.returns-in-Nothing
 returns-in-Nothing c = rw (tells (goal.at.returns-in-Nothing c).After-meaning, c.in-Nothing.is) (record { puts = c.answer_no_line.ensures _; state = refl })

@@ -13,7 +13,7 @@ answers c = rw (← c.next_from-text.ensures.0) c.answer_line-a.ensures
 
 pub returns : goal.returns
 returns c =
-    let told = answers (goal.at-1.returns c).After-answer_line-a in
+    let told = answers (goal.at.returns c).After-answer_line-a in
     record {
       text = told.puts.text;
       place = c.next_from-text.ensures.1;
