@@ -1,5 +1,6 @@
 // What a C program calls. The caller owns the state and every buffer, and no pointer is kept after a call. include/marruskil.h declares these functions for C.
 #![tactic(auto)]
+
 ghost use Rattle.std.specs.Prelude.{◌≡◌, min, ◌≤◌, length};
 ghost use Rattle.model.specs.Model.{empty};
 ghost use Rattle.model.specs.commands.Sessions.{check};

@@ -1,5 +1,6 @@
 // The program over a script, call by call: what each call hands to the output, from the first one to the total.
 #![tactic(auto)]
+
 ghost use Rattle.std.specs.Prelude.{◌≡◌};
 ghost use Rattle.program.specs.Printing.{at_start, Begins, Refuses, Prints};
 
