@@ -1,4 +1,4 @@
-// What a C program calls. The caller owns the state and every buffer, and no pointer is kept after a call. include/marruskil.h declares these functions for C.
+// What a C program calls: crates/clibrary_c exports these functions, and include/marruskil.h declares them for C. The caller owns the state and every buffer, and no pointer is kept after a call.
 #![tactic(auto)]
 
 ghost use Rattle.std.specs.Prelude.{◌≡◌, min, ◌≤◌, length};
@@ -20,8 +20,7 @@ pub const LONGEST_ANSWER: usize = 24582;
 pub const LONGEST_COMMAND: usize = 12;
 
 // The numbers become the empty policy with no session, whatever they were.
-#[unsafe(no_mangle)]
-pub extern "C" fn marruskil_start(state: &mut [u64; PLACES])
+pub fn marruskil_start(state: &mut [u64; PLACES])
     ensures { view state.new ≡ empty }
 {
     state::stores::start(state);
@@ -60,8 +59,7 @@ fn obey_aside(state: &mut [u64; PLACES], line: &[u8], out: &mut [u8]) -> usize
 }
 
 // Obeys one line of a script, any bytes, and puts its answer line, LF included. Gives the length of that; where the buffer is shorter it gives 0, and nothing is obeyed or put.
-#[unsafe(no_mangle)]
-pub extern "C" fn marruskil_obey(state: &mut [u64; PLACES], line: &[u8], out: &mut [u8]) -> usize
+pub fn marruskil_obey(state: &mut [u64; PLACES], line: &[u8], out: &mut [u8]) -> usize
     ensures { Obeys (view state.old) (obey (view state.old) line.now) out.old out.new result state.new }
 {
     if out.len() < LONGEST_COMMAND {
@@ -82,8 +80,7 @@ fn sixteen(n: u64) -> u16
 }
 
 // May the session do the operation on the object? Gives the answer's number; the results, 1 for yes and 0 for no, and how many effective roles were looked at, are stored where the caller says, and a refusal stores nothing.
-#[unsafe(no_mangle)]
-pub extern "C" fn marruskil_check(
+pub fn marruskil_check(
     state: &[u64; PLACES],
     session: u64,
     operation: u64,
@@ -107,8 +104,7 @@ pub extern "C" fn marruskil_check(
 }
 
 // Loads a policy file, any bytes. Gives the answer's number.
-#[unsafe(no_mangle)]
-pub extern "C" fn marruskil_load(state: &mut [u64; PLACES], file: &[u8]) -> u16
+pub fn marruskil_load(state: &mut [u64; PLACES], file: &[u8]) -> u16
     ensures { Loads (view state.old) file.now (loaded result state.new) }
 {
     let answer = policyfile::load(state, file);
@@ -116,8 +112,7 @@ pub extern "C" fn marruskil_load(state: &mut [u64; PLACES], file: &[u8]) -> u16
 }
 
 // Saves the policy and sessions as a file. Gives the answer's number; the file's length is stored where the caller says, and a refusal stores nothing.
-#[unsafe(no_mangle)]
-pub extern "C" fn marruskil_save(state: &[u64; PLACES], out: &mut [u8], length: &mut usize) -> u16
+pub fn marruskil_save(state: &[u64; PLACES], out: &mut [u8], length: &mut usize) -> u16
     ensures { SavesAt (view state.now) out.old out.new length.old length.new result }
 {
     let saved = policyfile::save(state, out);
