@@ -10,4 +10,4 @@ use Rattle.filetables.proofs.Mixed.{mixed-file, mixed-loaded, wide-file, wide-nu
 
 -- the files, byte by byte
 pub policy-bytes : PolicyBytes
-policy-bytes = record { empty_file = file-is empty empty-sound (bytes_in empty_file) empty-file; bench_file = bench-file; mixed_file = mixed-file; mixed_loaded = mixed-loaded; wide_file = wide-file; wide_number = wide-number; wide_refused = wide-refused; seniors_file = seniors-file; seniors_says = seniors-says; seniors_active = seniors-active; seniors_refused = seniors-refused }
+policy-bytes = record { empty_policy = file-is empty empty-sound (bytes_in empty_file) empty-file; bench_policy = bench-file; mixed_policy = mixed-file; mixed_loaded = mixed-loaded; wide_policy = wide-file; wide_number = wide-number; wide_refused = wide-refused; seniors_policy = seniors-file; seniors_says = seniors-says; seniors_active = seniors-active; seniors_refused = seniors-refused }

@@ -12,6 +12,7 @@ use Rattle.policyform.specs.Promises.{Saves, Loads}
 use Rattle.policyfile.proofs.Laws.{saved-buffer, load-after-save}
 use Rattle.policyfile.proofs.Sounding.{sound-formed}
 use Rattle.demands.specs.Reachable.{Reachable, after}
+use Rattle.model.specs.Step.{step}
 use Rattle.demands.proofs.Kept.{reachable-sound}
 use Rattle.benchsheet.specs.Lines.{Line, command, question, afterwards}
 use Rattle.filebytes.specs.Sections.{Sections, bytes_of}
@@ -23,7 +24,7 @@ use Rattle.filetables.specs.PolicyBytes.{FileIs}
 pub reachable-lines : {m : Model} → Reachable m → (lines : List Line) → Reachable (afterwards m lines)
 unfolding afterwards
 reachable-lines p [] = p
-reachable-lines p (command c list ∷ rest) = reachable-lines (after p c list) rest
+reachable-lines {m = m} p (command c list ∷ rest) = reachable-lines {m = (step m c list).after} (after p c list) rest
 reachable-lines p (question q ∷ rest) = reachable-lines p rest
 
 pub file-is : (m : Model) → Sound m → (bytes : List ℕ) → encode m ≡ bytes → FileIs m bytes

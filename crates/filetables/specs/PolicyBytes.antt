@@ -160,19 +160,19 @@ pub record FileIs (m : Model) (bytes : List ℕ) : Type 0 where
 
 pub record PolicyBytes : Type 0 where
   -- P12: the empty policy saved is sixteen zero bytes.
-  pub empty_file : FileIs empty (bytes_in empty_file)
+  pub empty_policy : FileIs empty (bytes_in empty_file)
   -- The bench policy has the first table as its file.
-  pub bench_file : FileIs at_the_bench (bytes_in bench_file)
+  pub bench_policy : FileIs at_the_bench (bytes_in bench_file)
   -- A policy of ours that holds what the sections above list has the second table as its file, and loading that gives such a policy.
-  pub mixed_file : (m : Model) → Reachable m → Says mixed_sections m → FileIs m (bytes_in mixed_file)
+  pub mixed_policy : (m : Model) → Reachable m → Says mixed_sections m → FileIs m (bytes_in mixed_file)
   pub mixed_loaded : (before : Model) (told : Told) → Loads before (bytes_in mixed_file) told → (told.answer ≡ 0) × Says mixed_sections told.after
   -- The third table is a file, and only of a policy whose static set 3 has the cardinality 258. Loading it is refused with 7, and nothing changes.
-  pub wide_file : (m : Model) × FileOf m (bytes_in wide_file)
+  pub wide_policy : (m : Model) × FileOf m (bytes_in wide_file)
   pub wide_number : (m : Model) → FileOf m (bytes_in wide_file) → ((m.ssd 3).there ≡ true) × ((m.ssd 3).card ≡ 258)
   pub wide_refused : (before : Model) (told : Told) → Loads before (bytes_in wide_file) told → told ≡ refused 7 before
   -- The fourth is the file of a policy that holds what its sections list; by the rule over active roles alone no session of it breaks a dynamic set.
   -- Loading it is refused with 11, and nothing changes.
-  pub seniors_file : (m : Model) × FileOf m (bytes_in seniors_file)
+  pub seniors_policy : (m : Model) × FileOf m (bytes_in seniors_file)
   pub seniors_says : (m : Model) → FileOf m (bytes_in seniors_file) → Says seniors_sections m
   pub seniors_active : (m : Model) → FileOf m (bytes_in seniors_file) → some 64 (λ k. breaks_some m.dsd (m.sessions k).active) ≡ false
   pub seniors_refused : (before : Model) (told : Told) → Loads before (bytes_in seniors_file) told → told ≡ refused 11 before

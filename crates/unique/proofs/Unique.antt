@@ -168,7 +168,7 @@ bits-one false false e = refl
 
 pub opens_one : {t : Told} {x y : Opened} {l r : List ℕ} → State l → State r → Opens t x l → Opens t y r → (x ≡ y) × (l ≡ r)
 unfolding told_opened
-opens_one {x = x} {y} {l} {r} sl sr p q = ((λ i. record { answer = answers i; session = record { number = numbers-one i } }), states sl sr (ap (λ (t : Told). t.after) p.tells) (ap (λ (t : Told). t.after) q.tells))
+opens_one {x = x} {y} {l} {r} sl sr p q = ((λ i. record { answer = answers i; session = record { number = numbers_one i } }), states sl sr (ap (λ (t : Told). t.after) p.tells) (ap (λ (t : Told). t.after) q.tells))
   where
     same : told_opened x l ≡ told_opened y r
     same = p.tells ∙ sym q.tells
