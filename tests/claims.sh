@@ -5,7 +5,7 @@ set -euo pipefail
 CDPATH='' cd -- "$(dirname -- "${BASH_SOURCE[0]}")/.."
 
 # the lines of the record, and the last column of the page's tables that have a claim
-stated=$(sed -n '/^pub record Claims /,$p' crates/claims/specs/Claims.antt | sed -n 's/^  pub \([a-z0-9-]*\) : .*/\1/p' | sort -u)
+stated=$(sed -n '/^pub record Claims /,$p' crates/claims/specs/Claims.antt | sed -n 's/^  pub \([a-z0-9_]*\) : .*/\1/p' | sort -u)
 named=$(awk -F'|' '
     /^\|/ && $(NF - 1) ~ /^ *claim *$/ { claims = 1; next }
     !/^\|/ { claims = 0 }

@@ -13,16 +13,7 @@ fi
 target/second selftest || exit 1
 
 for program in bench reload; do
-    [ -x target/bin/$program ] || { echo "compare: there is no target/bin/$program"; exit 1; }
+    [ -x crates/$program/out/$program ] || { echo "compare: there is no crates/$program/out/$program"; exit 1; }
 done
 [ $# -gt 0 ] || set -- --seed 1 --scripts 20 --files 800
-
-# The programs run as ./run runs them: under the toolchain's own loader and C library, and elsewhere its emulator.
-runner=
-if home=$(rt doc 2>/dev/null); then
-    tools=${home%/docs/START-HERE.md}/on/$(uname -m)/toolchain
-    loader=$tools/lib/ld-linux-x86-64.so.2
-    if [ -x "$loader" ]; then runner="$loader --library-path $tools/lib"; fi
-    if [ -x "$tools/bin/qemu-x86_64" ]; then runner="$tools/bin/qemu-x86_64 $runner"; fi
-fi
-exec target/second compare "$@" --bench target/bin/bench --reload target/bin/reload --runner "$runner"
+exec target/second compare "$@" --bench crates/bench/out/bench --reload crates/reload/out/reload

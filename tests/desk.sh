@@ -12,21 +12,16 @@ fail() {
     exit 1
 }
 
-# As ./run runs a program, but for its own tests of the limits and the status.
-home=$(rt doc) && home=${home%/docs/START-HERE.md}
-tools=$home/on/$(uname -m)/toolchain
-runner=("$tools/lib/ld-linux-x86-64.so.2" --library-path "$tools/lib")
-[ ! -x "$tools/bin/qemu-x86_64" ] || runner=("$tools/bin/qemu-x86_64" "${runner[@]}")
 for program in bench desk reload; do
-    [ -x "target/bin/$program" ] || fail "there is no target/bin/$program"
+    [ -x "crates/$program/out/$program" ] || fail "there is no crates/$program/out/$program"
 done
-desk() { "${runner[@]}" target/bin/desk "$@"; }
+desk() { crates/desk/out/desk "$@"; }
 
 # ---- a script in two parts, with the policy saved between them, is the script in one
 
 for script in examples/story.script examples/tour.script; do
     lines=$(wc -l <"$script")
-    "${runner[@]}" target/bin/bench <"$script" | head -n "$lines" >"$room/whole" || fail "bench fails on $script"
+    crates/bench/out/bench <"$script" | head -n "$lines" >"$room/whole" || fail "bench fails on $script"
     # (printed to a file: a pipe that is closed after the answers would end the desk at its total, before it saves)
     desk - "$room/end" <"$script" >"$room/printed" 2>&1 || fail "from no policy the desk fails on $script"
     head -n "$lines" "$room/printed" | cmp -s - "$room/whole" || fail "from no policy the desk prints otherwise than the bench: $script"
@@ -39,7 +34,7 @@ for script in examples/story.script examples/tour.script; do
         cmp -s "$room/new" "$room/end" || fail "$script cut after line $at is saved otherwise"
         [ ! -s "$room/said" ] || fail "$script cut after line $at: $(cat "$room/said")"
     done
-    { echo 0; cat "$room/end"; } | cmp -s - <("${runner[@]}" target/bin/reload <"$room/end") || fail "what was saved does not load as itself: $script"
+    { echo 0; cat "$room/end"; } | cmp -s - <(crates/reload/out/reload <"$room/end") || fail "what was saved does not load as itself: $script"
 done
 echo "desk: two scripts cut at five places each: answered and saved as in one piece"
 
@@ -141,7 +136,7 @@ mkfifo "$room/never" && exec 9<>"$room/never" || fail "cannot make a pipe"
 for k in $(seq 0 239); do
     cp "$room/old" "$room/at/policy"
     delay=$((length * k / 200))
-    "${runner[@]}" target/bin/desk "$room/full" "$room/at/policy" </dev/null >/dev/null 2>&1 &
+    crates/desk/out/desk "$room/full" "$room/at/policy" </dev/null >/dev/null 2>&1 &
     pid=$!
     [ "$delay" -eq 0 ] || read -r -t "$(printf "%d.%06d" $((delay / 1000000)) $((delay % 1000000)))" -u 9
     kill -KILL "$pid" 2>/dev/null
@@ -155,11 +150,11 @@ left=$(find "$room/at" -name 'policy.part-*' | wc -l)
 [ "$(find "$room/at" -type f | wc -l)" -eq $((left + 1)) ] || fail "another file is left than policy.part-.."
 [ "$old" -gt 0 ] && [ "$new" -gt 0 ] || fail "of $moments moments none was before the new name was given, or none after it"
 # Where the system calls can be traced, killed at each of them in turn.
-if command -v strace >/dev/null && strace -qq -o "$room/calls" "${runner[@]}" target/bin/desk "$room/full" "$room/at/policy" </dev/null >/dev/null 2>&1; then
+if command -v strace >/dev/null && strace -qq -o "$room/calls" crates/desk/out/desk "$room/full" "$room/at/policy" </dev/null >/dev/null 2>&1; then
     calls=0
     while read -r call when; do
         cp "$room/old" "$room/at/policy"
-        { strace -qq -o /dev/null -e "inject=$call:signal=KILL:when=$when" "${runner[@]}" target/bin/desk "$room/full" "$room/at/policy" </dev/null >/dev/null 2>&1; } 2>/dev/null
+        { strace -qq -o /dev/null -e "inject=$call:signal=KILL:when=$when" crates/desk/out/desk "$room/full" "$room/at/policy" </dev/null >/dev/null 2>&1; } 2>/dev/null
         cmp -s "$room/at/policy" "$room/old" || cmp -s "$room/at/policy" "$room/full" || fail "killed at its $call number $when, a torn file is left"
         calls=$((calls + 1))
     done < <(sed -n 's/^\([a-z0-9_]*\)(.*/\1/p' "$room/calls" | grep -v -e '^exit' -e '^execve' | awk '{ print $1, ++seen[$1] }')

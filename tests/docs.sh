@@ -5,9 +5,9 @@ CDPATH='' cd -- "$(dirname -- "${BASH_SOURCE[0]}")/.."
 
 words=$(mktemp)
 trap 'rm -f "$words"' EXIT
-# Every word of the sources, once: a name may have dashes and points in it.
+# Every word of the sources, once: a lemma's name may have dashes in it.
 {
-    cat crates/*/src/*.rt crates/*/specs/*.antt crates/*/specs/*/*.antt crates/*/proofs/*.antt | tr -c "A-Za-z0-9_'·-" '\n'
+    cat crates/*/src/*.rt crates/*/specs/*.antt crates/*/specs/*/*.antt crates/*/proofs/*.antt | tr -c "A-Za-z0-9_'-" '\n'
     ls crates
 } | sort -u >"$words"
 
@@ -23,18 +23,20 @@ missing=0
 cited=0
 check() { # DOC NAME
     cited=$((cited + 1))
-    # a line of a record, as Shape .users: the record has it; a line alone, as .users: there is one
+    # a line of a record, as Shape.users: the record has it; a line alone, as .users: there is one
     case $2 in
-    *' .'*)
-        grep -qxF -- "${2%% .*} ${2##* .}" "$lines" && return
-        echo "docs: $1 cites $2, and no record in specs/ has this line"
-        missing=1
-        return
+    [A-Z]*' .'[a-z]* | [A-Z]*[a-z0-9].[a-z]*)
+        if [[ $2 = *' .'* ]] || grep -q -- "^${2%%.*} " "$lines"; then
+            grep -qxF -- "$(sed 's/ \{0,1\}\./ /' <<<"$2")" "$lines" && return
+            echo "docs: $1 cites $2, and no record in specs/ has this line"
+            missing=1
+            return
+        fi
         ;;
     .*) grep -q -- " ${2#.}\$" "$lines" && return ;;
     esac
-    # a name with a part left open, as X-listed
-    case $2 in X-*) grep -q -- "${2#X}\$" "$words" && return ;; esac
+    # a name with a part left open, as X_listed
+    case $2 in X_*) grep -q -- "${2#X}\$" "$words" && return ;; esac
     grep -qxF -- "$2" "$words" && return
     for at in "$2" "crates/$2" "crates/*/$2" "crates/*/specs/$2" "examples/$2"; do
         for end in "" .antt .rt; do
@@ -48,7 +50,7 @@ check() { # DOC NAME
 for doc in docs/PROMISES.md docs/HOW-TO-READ.md docs/LAYOUT.md docs/MISTAKES.md; do
     while read -r name; do
         check "$doc" "$name"
-    done < <(sed '/^```/,/^```/d' "$doc" | grep -o '`[^`]*`' | tr -d '`' | grep -e '^[^ ]*$' -e '^[A-Z][A-Za-z0-9]* \.[a-zA-Z0-9-]*$' | sort -u)
+    done < <(sed '/^```/,/^```/d' "$doc" | grep -o '`[^`]*`' | tr -d '`' | grep -e '^[^ ]*$' -e '^[A-Z][A-Za-z0-9]* \.[a-zA-Z0-9_-]*$' | sort -u)
 done
 # docs/LAYOUT.md has every crate, in its picture and in its tables.
 picture=$(sed -n '/^```/,/^```/p' docs/LAYOUT.md)
@@ -64,13 +66,15 @@ done
 files=$(sed -n '/^## What must be believed/,/^What may be skipped/p' docs/HOW-TO-READ.md | grep '^|' | cut -d'|' -f2 | grep -o '`[^`]*`' | tr -d '`')
 believed=0
 for file in $files; do
-    believed=$((believed + $(grep -vc -e '^use ' -e '^ *--' -e '^ *$' "crates/$file.antt")))
+    believed=$((believed + $(awk '/^use / { inside = /{[^}]*$/; next } inside { inside = !/}/; next } !/^ *(--.*)?$/ { n++ } END { print n + 0 }' "crates/$file.antt")))
 done
 # And none of them rests on a file of specs/ that the page neither lists nor says may be skipped. (What src/ declares is read there.)
 named=$(sed -n '/^## What must be believed/,/^## /p' docs/HOW-TO-READ.md | grep -o '`[a-z]*/specs/[A-Za-z0-9/]*`' | tr -d '`' | sort -u)
 for file in $files; do
-    below=$(sed -n 's/^use Rattle·\([a-z]*\)\(·specs\)*\.specs\.\([A-Za-z0-9.]*\).*/\1\/specs\/\3/p' "crates/$file.antt" | sed 's/\.$//; s/\./\//g' | sed '/specs\/declared/d' | sort -u)
+    below=$(sed -n 's/^\(pub \)*use Rattle\.\([a-z0-9_]*\)\.specs\.\([A-Za-z0-9.]*\).*/\2\/specs\/\3/p' "crates/$file.antt" | sed 's/\.$//; s/\./\//g' | sed '/specs\/declared/d' | sort -u)
     for other in $below; do
+        # (what the toolchain's own library says is no file of the project)
+        [ -d "crates/${other%%/*}" ] || continue
         grep -qx -e "$other" -e "${other%/*}" <<<"$named" || { echo "docs: $file rests on $other, of which docs/HOW-TO-READ.md says nothing"; missing=1; }
     done
 done

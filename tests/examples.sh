@@ -4,15 +4,9 @@
 set -u
 cd "$(dirname "$0")/.." || exit 1
 
-[ -x target/bin/bench ] || { echo "examples: there is no target/bin/bench"; exit 1; }
+[ -x crates/bench/out/bench ] || { echo "examples: there is no crates/bench/out/bench"; exit 1; }
 room=$(mktemp -d) || exit 1
 trap 'rm -rf "$room"' EXIT
-
-# As ./run runs it: under the toolchain's own loader and C library, and elsewhere its emulator.
-home=$(rt doc) && home=${home%/docs/START-HERE.md}
-tools=$home/on/$(uname -m)/toolchain
-set -- "$tools/lib/ld-linux-x86-64.so.2" --library-path "$tools/lib" target/bin/bench
-if [ -x "$tools/bin/qemu-x86_64" ]; then set -- "$tools/bin/qemu-x86_64" "$@"; fi
 
 compare() { # NAME SCRIPT EXPECTED COMMAND..
     name=$1 script=$2 expected=$3
@@ -29,13 +23,13 @@ compare() { # NAME SCRIPT EXPECTED COMMAND..
 for script in examples/*.script; do
     expected=${script%.script}.expected
     [ -f "$expected" ] || { echo "examples: there is no $expected"; exit 1; }
-    compare "$script" "$script" "$expected" "$@"
+    compare "$script" "$script" "$expected" crates/bench/out/bench
 done
 
 # 32,768 bytes of empty lines are 32,768 lines; a byte more is a script that is not of the form.
 head -c 32768 /dev/zero | tr '\0' '\n' >"$room/longest"
 { head -c 65536 /dev/zero | tr '\0' 'x' | sed 's/xx/14\n/g' | head -n 32768; echo "total 0 32768"; } >"$room/longest.expected"
-compare "the longest script" "$room/longest" "$room/longest.expected" "$@"
+compare "the longest script" "$room/longest" "$room/longest.expected" crates/bench/out/bench
 { cat "$room/longest"; echo; } >"$room/longer"
 printf '14\ntotal 0 1\n' >"$room/longer.expected"
-compare "a script of a byte more" "$room/longer" "$room/longer.expected" "$@"
+compare "a script of a byte more" "$room/longer" "$room/longer.expected" crates/bench/out/bench

@@ -11,14 +11,8 @@ fail() {
     exit 1
 }
 
-# As ./run runs a program, but for its own tests of the limits and the status.
-home=$(rt doc) && home=${home%/docs/START-HERE.md}
-tools=$home/on/$(uname -m)/toolchain
-set -- "$tools/lib/ld-linux-x86-64.so.2" --library-path "$tools/lib"
-if [ -x "$tools/bin/qemu-x86_64" ]; then set -- "$tools/bin/qemu-x86_64" "$@"; fi
-
 for program in bench reload speed; do
-    [ -x "target/bin/$program" ] || fail "there is no target/bin/$program"
+    [ -x "crates/$program/out/$program" ] || fail "there is no crates/$program/out/$program"
 done
 
 # SAYS WHAT: the program said something on standard error, and nothing but that.
@@ -35,16 +29,16 @@ for program in bench reload speed; do
     speed) input=crates/speed/stdin ;;
     esac
 
-    "$@" target/bin/$program <"$room" >"$room/printed" 2>"$room/said"
+    crates/$program/out/$program <"$room" >"$room/printed" 2>"$room/said"
     says "$program, a directory as input"
-    "$@" target/bin/$program <&- >"$room/printed" 2>"$room/said"
+    crates/$program/out/$program <&- >"$room/printed" 2>"$room/said"
     says "$program, a closed input"
     : >"$room/printed"
-    "$@" target/bin/$program <"$input" >/dev/full 2>"$room/said"
+    crates/$program/out/$program <"$input" >/dev/full 2>"$room/said"
     says "$program, a full output"
-    "$@" target/bin/$program <"$input" >&- 2>"$room/said"
+    crates/$program/out/$program <"$input" >&- 2>"$room/said"
     says "$program, a closed output"
-    "$@" target/bin/$program <"$input" >"$room/printed" 2>"$room/said" || fail "$program fails on $input"
+    crates/$program/out/$program <"$input" >"$room/printed" 2>"$room/said" || fail "$program fails on $input"
     [ ! -s "$room/said" ] || fail "$program says something where nothing failed: $(cat "$room/said")"
 
     ./run $program <"$room" >/dev/null 2>&1 && fail "./run $program, a directory as input, ends with 0"
@@ -60,7 +54,7 @@ done
     head -c 50 examples/tour.script
     sleep 0.2
     tail -c +51 examples/tour.script
-} | "$@" target/bin/bench >"$room/printed" || fail "bench fails on an input that comes in parts"
+} | crates/bench/out/bench >"$room/printed" || fail "bench fails on an input that comes in parts"
 cmp -s examples/tour.expected "$room/printed" || fail "bench does not read an input that comes in parts"
 
 # A small stack: every example, every stored policy file, and the measuring program on its own input.
@@ -72,11 +66,11 @@ stack() { # WHAT INPUT EXPECTED PROGRAM..
     cmp -s "$expected" "$room/printed" || fail "$what: prints otherwise with a stack of 256 KB"
 }
 for script in examples/*.script; do
-    stack "bench on $script" "$script" "${script%.script}.expected" "$@" target/bin/bench
+    stack "bench on $script" "$script" "${script%.script}.expected" crates/bench/out/bench
 done
 for file in tests/files/*.bin; do
-    "$@" target/bin/reload <"$file" >"$room/expected" || fail "reload fails on $file"
-    stack "reload on $file" "$file" "$room/expected" "$@" target/bin/reload
+    crates/reload/out/reload <"$file" >"$room/expected" || fail "reload fails on $file"
+    stack "reload on $file" "$file" "$room/expected" crates/reload/out/reload
 done
-stack "speed" crates/speed/stdin crates/speed/stdout "$@" target/bin/speed
+stack "speed" crates/speed/stdin crates/speed/stdout crates/speed/out/speed
 echo "failing-io: a stack of 256 KB is enough"

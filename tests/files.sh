@@ -2,10 +2,8 @@
 # Loads each stored policy file by the program `reload` and compares the answer and, after a 0, the bytes that it saves again.
 set -u
 cd -- "$(dirname -- "$0")/.." || exit 1
-reload=target/bin/reload
+reload=crates/reload/out/reload
 [ -x "$reload" ] || { echo "files: there is no $reload"; exit 1; }
-# Programs are for x86-64: on another processor ./run has the toolchain's emulator run them.
-[ "$(uname -m)" = x86_64 ] || reload='./run reload'
 out=$(mktemp) && want=$(mktemp) || exit 1
 trap 'rm -f "$out" "$want"' EXIT
 for answer in tests/files/*.answer; do

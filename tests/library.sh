@@ -21,7 +21,7 @@ if [ "$(uname -m)" != x86_64 ]; then
 fi
 [ -f $made/libmarruskil.a ] || fail "there is no $made/libmarruskil.a: ./library writes it"
 cmp -s include/marruskil.h $made/marruskil.h || fail "$made/marruskil.h is not include/marruskil.h"
-[ -x target/bin/bench ] || fail "there is no target/bin/bench"
+[ -x crates/bench/out/bench ] || fail "there is no crates/bench/out/bench"
 
 # What the archive defines for others is what the header declares, and it needs nothing but what every C library has.
 defined=$(nm -g --defined-only $made/libmarruskil.a | awk '$2 == "T" { print $3 }')
@@ -63,11 +63,8 @@ prints() { # WHAT INPUT EXPECTED COMMAND..
     }
 }
 
-# bench runs as ./run runs it: under the toolchain's own loader and C library.
-home=$(rt doc) && tools=${home%/docs/START-HERE.md}/on/x86_64/toolchain
-bench="$tools/lib/ld-linux-x86-64.so.2 --library-path $tools/lib target/bin/bench"
 compare() { # WHAT SCRIPT
-    $bench <"$2" >"$room/expected" || fail "bench failed on $1"
+    crates/bench/out/bench <"$2" >"$room/expected" || fail "bench failed on $1"
     for kind in $kinds; do prints "$1" "$2" "$room/expected" "$kind"; done
     lines=$((lines + $(wc -l <"$room/expected") - 1))
 }

@@ -99,11 +99,11 @@ def variants(enum):
 def refusals_of_commands():
     """For each command and kind of set, the numbers of Demand2's list."""
     text = read("crates/demands/specs/Demand2.antt")
-    rules = re.findall(r"^ruleNumber (\w+) = (\d+)$", read("crates/model/specs/commands/Sets.antt"), re.M)
+    rules = re.findall(r"^rule_number (\w+) = (\d+)$", read("crates/model/specs/commands/Sets.antt"), re.M)
     found = {}
     for name, line in re.findall(r"^refusals m \((\w+)[^)]*\) list =((?:.*\n)(?:    .*\n)*)", text, re.M):
         for kind, rule in rules:
-            numbers = re.findall(r"(\d+) when ", line.replace("ruleNumber kind", rule))
+            numbers = re.findall(r"(\d+) when ", line.replace("rule_number kind", rule))
             found[name, kind] = sorted(map(int, numbers))
     return found
 
@@ -113,9 +113,9 @@ def refusals_of_questions():
     text = read("crates/model/specs/Questions.antt")
     shape = "1 when beyond ∷ 2 when missing ∷ 15 when ltb room (length list) ∷ []"
     holds("crates/model/specs/Questions: a review has other refusals than 1, 2 and 15", shape in text)
-    check = block(read("crates/demands/specs/Demand2.antt"), r"\ncheckRefusals m .*?=", r"\n")
+    check = block(read("crates/demands/specs/Demand2.antt"), r"\ncheck_refusals m .*?=", r"\n")
     own = read("crates/unique/specs/OwnCalls.antt")
-    short = r"pub two-places : .*\n.*≡ 15\) ↔ \(.*× \(length \(c \.given [.0-9 ]*\.now\) < 2\)\)\n"
+    short = r"pub two_places : .*\n.*≡ 15\) ↔ \(.*× \(length c\.given\.[.0-9]*\.now < 2\)\)\n"
     holds("crates/unique/specs/OwnCalls: it does not say that `check`, asked through `ask`, is 15 with fewer than two places", re.search(short, own))
     found = {"Check": sorted(map(int, re.findall(r"(\d+) when ", check))) + [15]}
     for name, conditions in re.findall(r"^ask m room \((\w+)[^)]*\) = review m room (.*)$", text, re.M):
@@ -238,15 +238,15 @@ def check_answer_row(row, sentence, all_words, scene):
 
 def check_answers(all_words, scene):
     page = read("docs/ANSWERS.md")
-    sheet = re.findall(r"^numberOf \w+ = (\d+)  -- (.*)$", read("crates/numbers/specs/Answers.antt"), re.M)
+    sheet = re.findall(r"^number_of \w+ = (\d+)  -- (.*)$", read("crates/numbers/specs/Answers.antt"), re.M)
     (rows,) = tables(page)
     same("docs/ANSWERS.md, the numbers", [row["No."] for row in rows], [number for number, _ in sheet])
     for row, (_, sentence) in zip(rows, sheet):
         check_answer_row(row, sentence, all_words, scene)
     most = ranges()
-    limits = f"{most['sessions']} sessions, {most['mostLines']} lines, {most['mostGrants']:,} grants and {most['mostAssignments']:,} assignments"
+    limits = f"{most['sessions']} sessions, {most['most_lines']} lines, {most['most_grants']:,} grants and {most['most_assignments']:,} assignments"
     holds(f"docs/ANSWERS.md, 12: the limits are {limits}", limits in page)
-    rules = re.findall(r"(\d+) when ", block(read("crates/policyform/specs/Rules.antt"), r"\nrulesBroken m =", r"\[\]"))
+    rules = re.findall(r"(\d+) when ", block(read("crates/policyform/specs/Rules.antt"), r"\nrules_broken m =", r"\[\]"))
     loading = re.search(r"is answered 0, or ([\d, or]*) for what is wrong in the file", page)
     same("docs/ANSWERS.md, loading", re.findall(r"\d+", loading[1]), ["14"] + rules)
 

@@ -4,15 +4,10 @@
 set -u
 cd "$(dirname "$0")/.." || exit 1
 
-if [ -x target/bin/bench ]; then
-    # As ./run runs it: under the toolchain's own loader and C library, and elsewhere its emulator.
-    home=$(rt doc) && home=${home%/docs/START-HERE.md}
-    tools=$home/on/$(uname -m)/toolchain
-    set -- "$tools/lib/ld-linux-x86-64.so.2" --library-path "$tools/lib" target/bin/bench
-    if [ -x "$tools/bin/qemu-x86_64" ]; then set -- "$tools/bin/qemu-x86_64" "$@"; fi
-    python3 tests/pages.py "$@"
+if [ -x crates/bench/out/bench ]; then
+    python3 tests/pages.py crates/bench/out/bench
 else
-    echo "pages: there is no target/bin/bench, so the second program answers"
+    echo "pages: there is no crates/bench/out/bench, so the second program answers"
     room=$(mktemp -d) || exit 1
     trap 'rm -rf "$room"' EXIT
     rustc -O --edition 2021 -o "$room/second" second/src/main.rs || exit 1

@@ -8,7 +8,7 @@ lent a buffer, what it leaves in it.
 
 The lines stand between marks in the files of FILES; what is outside the marks is written by hand. What a line says comes from the function's
 signature (its kind: what is lent to be changed, and whether the result is a part of what was lent). How it is proved comes from the form of its
-`ensures`: an equation, or a named promise H, for which crates/unique/proofs/Unique.antt has the law h-one. So a new function needs no line written
+`ensures`: an equation, or a named promise H, for which crates/unique/proofs/Unique.antt has the law h_one. So a new function needs no line written
 by hand unless its promise is of a new form.
 """
 import difflib
@@ -26,19 +26,19 @@ WITHOUT = {"textlines.next", "textlines.bump", "streams.read_whole"}
 
 # Promises that have another's law: they are that promise by definition, or two crates use one name.
 LAW_OF = {
-    "reviews.Asked": "reviewed-one",
-    "engine.AskedAny": "reviewed-one",
-    "script.Answers": "answered-one",
-    "clibrary.Loads": "loaded-one",
+    "reviews.Asked": "reviewed_one",
+    "engine.AskedAny": "reviewed_one",
+    "script.Answers": "answered_one",
+    "clibrary.Loads": "loaded_one",
 }
 
 # The proofs of promises that have no name: x and y are the results, p and q that they meet the promise, vx and vy that they are of their type.
 BY_HAND = {
-    "roleset.count": "p .0 ∙ sym (q .0)",
-    "roleset.size": "p .0 ∙ sym (q .0)",
-    "roleset.lowest": "laws.lowest-one (a .0) x y p q",
-    "hierarchy.turned": "laws.arrays 64 x y _ (vx .1 .1 .0 .1) (vy .1 .1 .0 .1) p q",
-    "textlines.next_from": "λ i. ((p .0 ∙ sym (q .0)) i, (p .1 ∙ sym (q .1)) i)",
+    "roleset.count": "p.0 ∙ sym q.0",
+    "roleset.size": "p.0 ∙ sym q.0",
+    "roleset.lowest": "laws.{lowest_one} a.0 x y p q",
+    "hierarchy.turned": "laws.arrays 64 x y _ vx.1.1.0.1 vy.1.1.0.1 p q",
+    "textlines.next_from": "λ i. ((p.0 ∙ sym q.0) i, (p.1 ∙ sym q.1) i)",
 }
 
 # The state's type; every other array that is lent to be changed is a buffer.
@@ -126,21 +126,20 @@ class Function:
         self.result = plain(told[1]) if told else ""
         end = told.end() if told else end
         promises = []
-        while clause := re.compile(r"\s*(ensures|requires)\s*(?=\{)").match(text, end):
+        while clause := re.compile(r"\s*(ensures|requires)(?:\s+\w+)?\s*(?=\{)").match(text, end):
             end = closing(text, clause.end())
             if clause[1] == "requires":
                 stop(f"{self.place} has a `requires`: no public function supposes anything (docs/DECISIONS.md, 'Suppositions')")
             promises.append(text[clause.end() + 1 : end - 1])
-        form = re.fullmatch(r"\s*λ\s*(\S+?)\.\s*⌜(.*)⌝\s*", " ".join(promises), re.S)
-        if len(promises) != 1 or not form:
-            self.bad("has not one promise `ensures { λ x. ⌜ .. ⌝ }`")
-        self.binder, self.promise = form[1], " ".join(form[2].split())
+        if len(promises) != 1:
+            self.bad("has not one promise `ensures { .. }`")
+        self.promise = " ".join(promises[0].split())
 
     def bad(self, why):
         stop(f"{self.place} {why}, which tests/unique.py does not know")
 
     def field(self):
-        return self.name.replace("_", "-")
+        return self.name
 
     def kind(self):
         """The kind of statement, and what follows the contract in it."""
@@ -150,19 +149,19 @@ class Function:
         known = len(states) + len(buffers) + len(numbers)
         if known != sum("&mut" in t for t in self.types):
             self.bad("is lent to change what is neither an array nor a number")
-        after = lambda i: f"(λ κs e. e {place(i)} .now)"
+        after = lambda i: f"(λ κs e. e.{place(i)}.now)"
         seen = re.fullmatch(r"&\[.*\]", self.result)
         if seen and known == 0:
-            return "UniqueSeen", ["(λ κs x e. x .now)"]
+            return "UniqueSeen", ["(λ κs x e. x.now)"]
         if seen and known == len(numbers) == 1:
-            return "UniqueSeen {A = List ℕ × ℕ}", [f"(λ κs x e. (x .now, e {place(numbers[0])} .now))"]
+            return "UniqueSeen {A = List ℕ × ℕ}", [f"(λ κs x e. (x.now, e.{place(numbers[0])}.now))"]
         if numbers and not seen and len(numbers) == 1 and len(buffers) <= 1 and not states:
-            at = f"e {place(numbers[0])} .now"
+            at = f"e.{place(numbers[0])}.now"
             if buffers:
-                return "UniqueLent {A = List ℕ × ℕ}", [f"(λ κs e. (e {place(buffers[0])} .now, {at}))"]
+                return "UniqueLent {A = List ℕ × ℕ}", [f"(λ κs e. (e.{place(buffers[0])}.now, {at}))"]
             return "UniqueLent {A = ℕ}", [f"(λ κs e. {at})"]
         if len(numbers) == known == 2 and not seen:
-            return "UniqueLent {A = ℕ × ℕ}", [f"(λ κs e. (e {place(numbers[0])} .now, e {place(numbers[1])} .now))"]
+            return "UniqueLent {A = ℕ × ℕ}", [f"(λ κs e. (e.{place(numbers[0])}.now, e.{place(numbers[1])}.now))"]
         if "&" in self.result or numbers or len(states) > 1 or len(buffers) > 1:
             self.bad("lends or is lent several things")
         if states and buffers:
@@ -197,20 +196,20 @@ class Function:
         states = given if given == "sx sy " else ""
         left, name = self.equation(), re.match(r"[A-Z]\w*(?= )", self.promise)
         if self.place in BY_HAND:
-            by = BY_HAND[self.place]
-        elif kind in ("Unique", "UniqueSeen") and left in (self.binder, f"now {self.binder}"):
+            by = re.sub(r"\{(\w+)\}", lambda m: laws[m[1]], BY_HAND[self.place])
+        elif kind in ("Unique", "UniqueSeen") and left in ("result", "result.now"):
             by = "p ∙ sym q"
-        elif kind == "Unique" and left == f"numberOf {self.binder}":
-            by = "laws.numbers-one p q"
-        elif kind == "UniqueState" and self.result == "" and left and re.fullmatch(r"view \(now \(\w+ \.exit\)\)", left):
+        elif kind == "Unique" and left == "number_of result":
+            by = f"laws.{laws['numbers_one']} p q"
+        elif kind == "UniqueState" and self.result == "" and left and re.fullmatch(r"view \w+\.new", left):
             by = "(refl, laws.states sx sy p q)"
         elif kind == "UniqueState" and self.tells():
             by = "laws.outcomes sx sy p q"
         elif left is None and name:
-            law = LAW_OF.get(f"{self.crate}.{name[0]}", re.sub(r"(?<!^)(?=[A-Z])", "-", name[0]).lower() + "-one")
+            law = LAW_OF.get(f"{self.crate}.{name[0]}", re.sub(r"(?<!^)(?=[A-Z])", "_", name[0]).lower() + "_one")
             if law not in laws:
                 stop(f"{self.place} promises {name[0]}: write the law {law} in crates/unique/proofs/Unique.antt (two outcomes that meet it are one)")
-            by = f"laws.{law} {states}p q"
+            by = f"laws.{laws[law]} {states}p q"
         else:
             stop(f"{self.place} has a promise of a new form: write its proof in BY_HAND of tests/unique.py")
         return f"      {self.field()} = λ κs a x y e f {given}p q. {by};"
@@ -218,35 +217,35 @@ class Function:
     def tells(self):
         """Whether the promise is a command's: the answer and the state tell what the model's definition tells."""
         left = self.equation()
-        return bool(left and re.fullmatch(rf"told {re.escape(self.binder)} \(now \(\w+ \.exit\)\)", left))
+        return bool(left and re.fullmatch(r"told result \w+\.new", left))
 
     # ---- what a function hands back
 
     def hands_back(self):
         """Whether it changes the state and answers: a command, a step, a load or a line; or starts it anew (`state::stores::start` is written by hand)."""
-        starts = self.promise == "view (now (state .exit)) ≡ empty" and self.place != "state.stores.start"
+        starts = self.promise == "view state.new ≡ empty" and self.place != "state.stores.start"
         return (self.result != "" or starts) and "&mut " + STATE in self.types
 
     def constructor(self):
         at = place(self.types.index("&mut " + STATE))
         f = self.place
         # a promise that says nothing of what was there holds of any numbers: it is a start
-        given = f"Handed (c .given {at} .now) → " if ".entry" in self.promise else ""
-        return f"  {self.field()} : (c : Call {f}.Kinds.ps {f}.Kinds.r {f}.Reads.Post) → {given}Handed (c .exits {at} .now)"
+        given = f"Handed c.given.{at}.now → " if ".old" in self.promise else ""
+        return f"  {self.field()} : (c : Call {f}.Kinds.ps {f}.Kinds.r {f}.Reads.Post) → {given}Handed c.exits.{at}.now"
 
     def reached(self, arms):
         if self.place not in arms:
             stop(f"{self.place} answers as a command does, and `engine::step` has no arm that calls it")
         variant, numbers, given = arms[self.place]
-        arguments = " ".join(f"(c .given {place(given.index(n))})" for n in numbers)
-        named = f"(c .given {place(given.index('list'))} .now)" if "list" in given else "[]"
+        arguments = " ".join(f"c.given.{place(given.index(n))}" for n in numbers)
+        named = f"c.given.{place(given.index('list'))}.now" if "list" in given else "[]"
         command = f"commands.{variant}"
-        return f"reachable ({self.field()} c h) = stepped _ (reachable h) " + (f"({command} {arguments})" if numbers else command) + f" {named} (c .result) _ (c .met)"
+        return f"reachable ({self.field()} c h) = stepped _ (reachable h) " + (f"({command} {arguments})" if numbers else command) + f" {named} c.result _ c.met"
 
 
 def place(i):
     """The i-th of so many things side by side."""
-    return ".1 " * i + ".0"
+    return "1." * i + "0"
 
 
 def functions_of(crate, path, where, below):
@@ -284,9 +283,9 @@ def arms_of(path):
 
 def parts():
     """What is to stand between the marks: file, mark, lines."""
-    listed = [line.split("#")[0].split(":")[0].strip() for line in (ROOT / "crates.txt").read_text(encoding="utf-8").splitlines()]
+    listed = [line.split("#")[0].split(":")[0].split() for line in (ROOT / "crates.txt").read_text(encoding="utf-8").splitlines()]
     crates = {}
-    for crate in [c for c in listed if c]:
+    for crate in [words[0] for words in listed if words]:
         source = ROOT / "crates" / crate / "src"
         # a program has no public function
         if (source / "lib.rt").is_file():
@@ -300,8 +299,9 @@ def parts():
         stop(f"tests/unique.py names {name}, and there is no such public function")
 
     text = (HOME / "proofs/Unique.antt").read_text(encoding="utf-8")
-    laws = set(re.findall(r"^pub ([\w′-]+) :", text, re.M))
-    cites = [f"use Rattle·{c}.proofs as {c}" for c in crates]
+    # a law's name may join the names of others by dashes: h-one is the law h_one
+    laws = {name.replace("-", "_"): name for name in re.findall(r"^pub ([\w'-]+) :", text, re.M)}
+    cites = [f"use Rattle.{c}.proofs as {c}" for c in crates]
     title = lambda c: c.title().replace("_", "")
 
     says, shows = [], []
@@ -315,9 +315,9 @@ def parts():
     handing = [f for f in every if f.hands_back()]
     arms = arms_of(ROOT / "crates/engine/src/lib.rt")
     of = [c for c in crates if any(f.crate == c for f in handing)]
-    yield "specs/Handed.antt", "the crates", [f"use Rattle·{c}.proofs as {c}" for c in of] + [""]
+    yield "specs/Handed.antt", "the crates", [f"use Rattle.{c}.proofs as {c}" for c in of] + [""]
     yield "specs/Handed.antt", "the functions that change the state and answer", [f.constructor() for f in handing] + [""]
-    yield "proofs/Handed.antt", "their names", ["use Rattle·unique·specs.specs.Handed.{" + ", ".join(f.field() for f in handing) + "}", ""]
+    yield "proofs/Handed.antt", "their names", ["use Rattle.unique.specs.Handed.{" + ", ".join(f.field() for f in handing) + "}", ""]
     yield "proofs/Handed.antt", "the commands", [f.reached(arms) for f in handing if f.tells()]
     yield from own_calls(every, arms)
     yield from reviews_of(every)
@@ -348,19 +348,27 @@ START = "state.stores.start"
 ASK = "engine.ask"
 
 
+def lemma(name, file):
+    """A lemma that is written by hand in a file of crates/unique/proofs, by its name there, which may have dashes."""
+    for there in re.findall(r"^(?:pub )?([\w'-]+) :", (HOME / f"proofs/{file}.antt").read_text(encoding="utf-8"), re.M):
+        if there.replace("-", "_") == name:
+            return there
+    stop(f"crates/unique/proofs/{file}.antt has no lemma {name}")
+
+
 def call_of(f):
     return f"(c : Call {f}.Kinds.ps {f}.Kinds.r {f}.Reads.Post)"
 
 
 def applied(kind, variant, numbers, given):
     """The command or question that a function is called with, of the call c."""
-    arguments = " ".join(f"(c .given {place(given.index(n))})" for n in numbers)
+    arguments = " ".join(f"c.given.{place(given.index(n))}" for n in numbers)
     return f"({kind}.{variant} {arguments})" if numbers else f"{kind}.{variant}"
 
 
 def own_calls(every, arms):
     """The commands: the functions that the arms of `engine::step` call."""
-    tellers = {"Answer": ("told", ".met"), "Opened": ("toldOpened", ".met .tells")}
+    tellers = {"Answer": ("told", "c.met"), "Opened": ("told_opened", "c.met.tells")}
     says, shows = [], []
     for f in [f for f in every if f.place in arms]:
         if f.result not in tellers:
@@ -369,13 +377,13 @@ def own_calls(every, arms):
         variant, numbers, given = arms[f.place]
         at = place(f.types.index("&mut " + STATE))
         command = applied("commands", variant, numbers, given)
-        named = f"(c .given {place(given.index('list'))} .now)" if "list" in given else "[]"
-        says.append(f"  pub {f.field()} : {call_of(f.place)} → Obeyed (c .given {at} .now) {command} {named} ({teller} (c .result) (c .exits {at} .now))")
-        shows.append(f"      {f.field()} = λ c h. does h {command} {named} (c {met_by});")
+        named = f"c.given.{place(given.index('list'))}.now" if "list" in given else "[]"
+        says.append(f"  pub {f.field()} : {call_of(f.place)} → Obeyed c.given.{at}.now {command} {named} ({teller} c.result c.exits.{at}.now)")
+        shows.append(f"      {f.field()} = λ c h. does h {command} {named} {met_by};")
     if len(says) != len(arms) or len(arms) != bare(ROOT / "crates/engine/src/lib.rt").count("Command::"):
         stop("an arm of `engine::step` does not call a public function of its own, as tests/unique.py expects")
     crates = dict.fromkeys(f.crate for f in every if f.place in arms or f.crate in ("checking", "engine", "reviews", "policyfile", "script", "program", "clibrary"))
-    yield "specs/OwnCalls.antt", "the crates", [f"use Rattle·{c}.proofs as {c}" for c in crates] + [""]
+    yield "specs/OwnCalls.antt", "the crates", [f"use Rattle.{c}.proofs as {c}" for c in crates] + [""]
     yield "specs/OwnCalls.antt", "the commands", says
     yield "proofs/OwnCalls.antt", "the commands", shows
 
@@ -399,17 +407,17 @@ def reviews_of(every):
         if len(buffers) != 1 or f.types[0] != "&" + STATE or f.result != "Review":
             f.bad("is not given a state and lent one buffer for its results")
         out = place(buffers[0])
-        lent = f"(c .given {out} .now) (c .exits {out} .now)"
-        says.append(f"  pub {f.field()} : {call_of(f.place)} → Lent (numberOf (c .result .answer)) (c .result .count) {lent}")
+        lent = f"c.given.{out}.now c.exits.{out}.now"
+        says.append(f"  pub {f.field()} : {call_of(f.place)} → Lent (number_of c.result.answer) c.result.count {lent}")
         if f.place == ASK:
-            shows.append("      ask = λ c. asked-any (view (c .given .0 .now)) (c .given .1 .0) (c .met);")
+            shows.append(f"      ask = λ c. {lemma('asked_any', 'Buffers')} (view c.given.0.now) c.given.1.0 c.met;")
             continue
         if f.place not in arms:
             f.bad("is a review that `engine::ask` does not call")
         question = applied("questions", *arms[f.place])
-        shows.append(f"      {f.field()} = λ c. reviewed (view (c .given .0 .now)) {question} refl (c .met);")
-        tell.append(f"  pub {f.field()} : {call_of(f.place)} → Tells (c .given .0 .now) {question} {lent} (c .result)")
-        told.append(f"      {f.field()} = λ c. reviewed-tells (demand1 .asking _ _ {question}) (c .met);")
+        shows.append(f"      {f.field()} = λ c. reviewed (view c.given.0.now) {question} refl c.met;")
+        tell.append(f"  pub {f.field()} : {call_of(f.place)} → Tells c.given.0.now {question} {lent} c.result")
+        told.append(f"      {f.field()} = λ c. {lemma('reviewed_tells', 'OwnCalls')} (demand1.asking _ _ {question}) c.met;")
     yield "specs/Buffers.antt", "the reviews", says
     yield "proofs/Buffers.antt", "the reviews", shows
     yield "specs/OwnCalls.antt", "the reviews", tell
@@ -425,15 +433,15 @@ def putters_of(every):
     says, shows = [], []
     lent = [f for f in every if any(re.fullmatch(r"&mut \[u(8|16|32)(; \w+)?\]", t) for t in f.types)]
     for f in [f for f in lent if f.crate != "reviews" and f.place != ASK and f.place not in BUFFER_BY_HAND]:
-        form = re.match(r"(Put) \(now \(\w+ \.entry\)\) (\w+) |(Wrote) \(now \(\w+ \.entry\)\) \(now \(\w+ \.exit\)\) (\w+) ", f.promise)
+        form = re.match(r"(Put) \w+\.old (\w+) |(Wrote) \w+\.old \w+\.new (\w+) ", f.promise)
         if not form or "&mut [u8]" not in f.types or f.result != "usize" or f.types.count("usize") != ((form[2] or form[4]) != "0"):
             stop(f"{f.place} is lent a buffer, and its promise is of a new form: write its line in crates/unique/specs/Buffers.antt, and its name in BUFFER_BY_HAND of tests/unique.py")
-        at = "0" if "usize" not in f.types else f"(c .given {place(f.types.index('usize'))})"
+        at = "0" if "usize" not in f.types else f"c.given.{place(f.types.index('usize'))}"
         out = place(f.types.index("&mut [u8]"))
-        says.append(f"  pub {f.field()} : {call_of(f.place)} → Around {at} (c .result) (c .given {out} .now) (c .exits {out} .now)")
-        shows.append(f"      {f.field()} = λ c. {'put-around' if form[1] else 'wrote-around'} (c .met);")
+        says.append(f"  pub {f.field()} : {call_of(f.place)} → Around {at} c.result c.given.{out}.now c.exits.{out}.now")
+        shows.append(f"      {f.field()} = λ c. {lemma('put_around' if form[1] else 'wrote_around', 'Buffers')} c.met;")
     crates = dict.fromkeys(f.crate for f in lent)
-    yield "specs/Buffers.antt", "the crates", [f"use Rattle·{c}.proofs as {c}" for c in crates] + [""]
+    yield "specs/Buffers.antt", "the crates", [f"use Rattle.{c}.proofs as {c}" for c in crates] + [""]
     yield "specs/Buffers.antt", "what puts a text", says
     yield "proofs/Buffers.antt", "what puts a text", shows
 
@@ -444,7 +452,7 @@ def written_by_hand(every, arms):
     for file, places in (("OwnCalls", asked | {f.place for f in every if f.hands_back() and f.place not in arms}), ("Buffers", BUFFER_BY_HAND)):
         text = (HOME / f"specs/{file}.antt").read_text(encoding="utf-8")
         for f in sorted(places):
-            if not re.search(rf"^  pub [\w-]+ : .*\bCall {re.escape(f)}\.Kinds\.ps ", text, re.M):
+            if not re.search(rf"^  pub \w+ : .*\bCall {re.escape(f)}\.Kinds\.ps ", text, re.M):
                 stop(f"crates/unique/specs/{file}.antt has no line for {f}")
 
 
