@@ -3,7 +3,7 @@
 
 Every public function of the engine that takes or hands back a user, a role, a session or a set, and every command and question, is called with
 the right numbers, which the compiler accepts, and with each wrong kind of number in each place, which it must refuse as a mismatch of types. And no
-public function of these crates takes or hands back a bare number but those of BARE. It uses the libraries in target/ as they are built.
+public function of these crates takes or hands back a bare number but those of BARE. The compiler reads the crates' sources and proves nothing.
 """
 import re
 import subprocess
@@ -36,7 +36,9 @@ def items(crate):
         text = re.sub(r"//[^\n]*", "", file.read_text(encoding="utf-8"))
         path = [crate] + ([] if file.stem == "lib" else [file.stem])
         homes = {t: f"{crate}::{t}" for t in re.findall(r"\bpub (?:struct|enum) (\w+)", text)}
-        homes |= {u.split("::")[-1]: u.replace("crate::", crate + "::") for u in re.findall(r"^use ([\w:]+);", text, re.M)}
+        for front, names in re.findall(r"^use ([\w:]+?)(?:::\{([\w\s,:]*)\})?;", text, re.M):
+            for name in [front + "::" + n.strip() for n in names.split(",") if n.strip()] or [front]:
+                homes[name.split("::")[-1]] = re.sub(r"^crate::", crate + "::", name)
         for name, takes, gives in re.findall(r"\bpub fn (\w+)(?:<[^>]*>)?\(([^)]*)\)(?:\s*->\s*([^\n{]+))?", text):
             pairs = [p.split(":", 1) for p in re.sub(r"'\w+ ", "", takes).split(",") if p.strip()]
             yield "::".join(path + [name]), [(n.strip(), " ".join(t.split())) for n, t in pairs], gives.strip(), homes
@@ -102,25 +104,45 @@ def programs():
     yield program
 
 
-def said(program, room):
-    """What the compiler says of a program over the built libraries, line by line, and the whole of it."""
-    built = ROOT / "target" / "rlib"
+def libraries(home):
+    """How the compiler is given the engine's crates, and what they use, as sources, each after those that it uses; of the toolchain, its built libraries."""
+    lines = (ROOT / "crates.txt").read_text(encoding="utf-8").splitlines()
+    uses = {c.split()[0]: u.split() for c, _, u in (line.split("#")[0].partition(":") for line in lines) if c.strip()}
+    words, done = ["-L", f"dependency={home}/rlibs"], []
+
+    def add(crate):
+        if crate in done:
+            return
+        done.append(crate)
+        if crate not in uses:
+            words.extend(["--extern", f"{crate}={home}/rlibs/{crate}.rlib"])
+            return
+        for used in ["core", "std"] + uses[crate]:
+            add(used)
+        words.extend(["--lib", f"{crate}:{','.join(['core', 'std'] + uses[crate])}={ROOT}/crates/{crate}/src/lib.rt"])
+
+    for crate in ENGINE:
+        add(crate)
+    return words
+
+
+def said(program, room, home):
+    """What the compiler says of a program over the engine's crates, line by line, and the whole of it. `--only ''`: it proves nothing."""
     source = Path(room) / "slips" / "src" / "main.rt"
     source.parent.mkdir(parents=True, exist_ok=True)
     source.write_text(program.text(), encoding="utf-8")
-    words = ["-L", f"dependency={built}"]
-    for crate in ENGINE:
-        words += ["--extern", f"{crate}={built / crate}.rlib"]
-    run = subprocess.run(["rt", "check", str(source.parent.parent)] + words, capture_output=True, text=True)
+    words = ["--crate-name", "slips", "src/main.rt", *libraries(home), "--antt-project", f"{home}/rattle/logic/antt-project.json", "--logic-built", f"{home}/logic_built", "--jobs", "1", "--only", ""]
+    run = subprocess.run([f"{home}/bin/rattle", "check", *words], cwd=source.parent.parent, capture_output=True, text=True)
     out = run.stdout + run.stderr
     return {int(n): m for n, m in re.findall(r"main\.rt:(\d+):\d+: (error.*)", out)}, out
 
 
 def main():
     calls = tried = 0
+    home = Path(subprocess.run(["rt", "doc"], stdin=subprocess.DEVNULL, capture_output=True, text=True, check=True).stdout.strip()).parent
     with tempfile.TemporaryDirectory() as room:
         for program in programs():
-            errors, out = said(program, room)
+            errors, out = said(program, room, home)
             for n, line in enumerate(program.lines, 1):
                 asked, told = program.slips.get(n), errors.get(n)
                 if asked != told:

@@ -270,6 +270,16 @@ def functions_of(crate, path, where, below):
     return found
 
 
+def exported(crate, crates):
+    """A static library is no library that crates/unique could cite: each of its functions promises, word for word, what the function of that name in the library
+    below it does, which has a line."""
+    below = {f.name: f for f in crates.get(crate.removesuffix("_c"), [])}
+    for f in functions_of(crate, ROOT / "crates" / crate / "src" / "lib.rt", crate, ROOT / "crates" / crate / "src"):
+        other = below.get(f.name)
+        if not other or (f.types, f.result, f.promise) != (other.types, other.result, other.promise):
+            stop(f"{f.place} is not as {crate.removesuffix('_c')}.{f.name}: it takes, hands back or promises something else")
+
+
 def arms_of(path):
     """Which command of the model each function is: the arms of `engine::step`, as (variant, its numbers, what the function is given)."""
     arms = {}
@@ -285,7 +295,7 @@ def parts():
     """What is to stand between the marks: file, mark, lines."""
     listed = [line.split("#")[0].split(":")[0].split() for line in (ROOT / "crates.txt").read_text(encoding="utf-8").splitlines()]
     crates = {}
-    for crate in [words[0] for words in listed if words]:
+    for crate in [words[0] for words in listed if words and "staticlib" not in words]:
         source = ROOT / "crates" / crate / "src"
         # a program has no public function
         if (source / "lib.rt").is_file():
@@ -294,6 +304,8 @@ def parts():
                 stop(f"two public functions of {crate} have one name")
             if functions:
                 crates[crate] = functions
+    for crate in [words[0] for words in listed if "staticlib" in words]:
+        exported(crate, crates)
     every = [f for functions in crates.values() for f in functions]
     for name in sorted(WITHOUT - met) + sorted(set(BY_HAND) - {f.place for f in every}):
         stop(f"tests/unique.py names {name}, and there is no such public function")

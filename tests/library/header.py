@@ -1,5 +1,5 @@
 #!/usr/bin/env python3
-"""Compares include/marruskil.h with the functions of crates/clibrary: their names and order, the number and the types of their parameters, their
+"""Compares include/marruskil.h with the functions of crates/clibrary_c: their names and order, the number and the types of their parameters, their
 results, and the constants. With the names that an archive defines after it as arguments, those too."""
 import re
 import sys
@@ -37,11 +37,11 @@ def constant(file, pattern):
 
 def exported():
     """The functions of the crate that are marked for C: name, types of the parameters, type of the result."""
-    text = re.sub(r"//[^\n]*", "", (ROOT / "crates/clibrary/src/lib.rt").read_text(encoding="utf-8"))
+    text = re.sub(r"//[^\n]*", "", (ROOT / "crates/clibrary_c/src/lib.rt").read_text(encoding="utf-8"))
     public = re.findall(r"\bpub\s+(?:extern\s+\S+\s+)?fn\s+(\w+)", text)
-    marked = re.findall(r'#\[no_mangle\]\s*pub extern "C" fn (\w+)\(([^)]*)\)\s*(?:->\s*(\w+))?\s*ensures', text)
+    marked = re.findall(r'#\[unsafe\(no_mangle\)\]\s*pub extern "C" fn (\w+)\(([^)]*)\)\s*(?:->\s*(\w+))?\s*ensures', text)
     if public != [name for name, _, _ in marked]:
-        stop(f"not every public function of crates/clibrary is marked for C: {public}")
+        stop(f"not every public function of crates/clibrary_c is marked for C: {public}")
     return [(name, [p.split(":", 1)[1].strip() for p in parameters.split(",") if p.strip()], result) for name, parameters, result in marked]
 
 
