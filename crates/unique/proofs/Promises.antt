@@ -50,12 +50,12 @@ state =
       either = λ κs a x y e f vx vy p q. p ∙ sym q;
       permission_beyond = λ κs a x y e f vx vy p q. p ∙ sym q;
       less = λ κs a x y e f vx vy p q. p ∙ sym q;
-      juniors = λ κs a x y e f p q. laws.table_one p q;
-      assigned = λ κs a x y e f p q. laws.table_one p q;
-      active = λ κs a x y e f p q. laws.table_one p q;
-      holders = λ κs a x y e f p q. laws.table_one p q;
-      juniors_table = λ κs a x y e f vx vy p q. laws.table_one p q;
-      assigned_table = λ κs a x y e f vx vy p q. laws.table_one p q;
+      juniors = λ κs a x y e f p q. laws.table-one p q;
+      assigned = λ κs a x y e f p q. laws.table-one p q;
+      active = λ κs a x y e f p q. laws.table-one p q;
+      holders = λ κs a x y e f p q. laws.table-one p q;
+      juniors_table = λ κs a x y e f vx vy p q. laws.table-one p q;
+      assigned_table = λ κs a x y e f vx vy p q. laws.table-one p q;
       sets_from = λ κs a x y e f vx vy p q. p ∙ sym q;
       has_user = λ κs a x y e f vx vy p q. p ∙ sym q;
       roles = λ κs a x y e f vx vy p q. p ∙ sym q;
@@ -229,7 +229,7 @@ pub policycheck : promises.Policycheck
 policycheck =
     record {
       formed = λ κs a x y e f vx vy p q. laws.tells-one p q;
-      broken = λ κs a x y e f vx vy p q. laws.numbers_one p q;
+      broken = λ κs a x y e f vx vy p q. laws.numbers-one p q;
     }
 
 pub policyfile : promises.Policyfile
