@@ -1,5 +1,5 @@
 -- Numbers as a script writes them, and as a reader takes them. Assumes nothing.
-use Rattle.std.specs.Prelude.{Bool, true, false, List, [], ◌∷◌, ◌++◌, ℕ, ◌+◌, ◌*◌, ◌/◌, ◌%◌, leb}
+use Rattle.std.specs.Prelude.{true, false, List, [], ◌∷◌, ◌++◌, ℕ, ◌+◌, ◌*◌, ◌/◌, ◌%◌, leb}
 
 -- the digit of n at the place p (1, 10, 100, ..), as a byte
 abbrev pub digit : ℕ → ℕ → ℕ

@@ -5,7 +5,7 @@ use Rattle.roleset.specs.Roles.{has, with, none, common, is_empty}
 use Rattle.hierarchy.specs.Walks.{at_or_above}
 use Rattle.numbers.specs.Ranges.{objects}
 use Rattle.model.specs.Model.{Model}
-use Rattle.model.specs.Sheet.{Told, Refusal, ◌when◌, settle}
+use Rattle.model.specs.Sheet.{Told, ◌when◌, settle}
 use Rattle.model.specs.Words.{reached, authorised, effective, permission}
 use Rattle.model.specs.commands.Naming.{user_beyond, role_beyond, session_beyond, set_beyond, user_missing, role_missing, session_missing}
 use Rattle.model.specs.commands.Sets.{sets_of, set_missing}

@@ -1,7 +1,7 @@
 -- What holds of the policy and sessions that the engine hands back: the rules of demand 3, the limits, and that every user and role they
 -- name exists. Assumes nothing.
-use Rattle.std.specs.Prelude.{Bool, true, false, ◌≡◌, ℕ, ◌≤◌, ◌<◌, ◌^◌}
-use Rattle.roleset.specs.Roles.{has, common, count}
+use Rattle.std.specs.Prelude.{true, false, ◌≡◌, ℕ, ◌≤◌, ◌<◌, ◌^◌}
+use Rattle.roleset.specs.Roles.{has, count}
 use Rattle.hierarchy.specs.Lines.{line, Acyclic}
 use Rattle.model.specs.Model.{Model, RoleSet, Session, absent_set, closed_session}
 use Rattle.model.specs.Words.{authorised, static_broken, dynamic_broken, assignments, grants, lines_standing}

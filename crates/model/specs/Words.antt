@@ -1,7 +1,7 @@
 -- "Words with an exact meaning", each as a definition over the model. Assumes nothing.
-use Rattle.std.specs.Prelude.{Bool, true, false, not, ◌&&◌, ◌||◌, List, ℕ, ◌+◌, ◌*◌, eqb, leb}
+use Rattle.std.specs.Prelude.{Bool, true, false, ◌&&◌, ℕ, ◌+◌, ◌*◌, leb}
 use Rattle.roleset.specs.Bounded.{some, tally}
-use Rattle.roleset.specs.Roles.{has, common, count, with}
+use Rattle.roleset.specs.Roles.{common, count}
 use Rattle.hierarchy.specs.Walks.{reach}
 use Rattle.model.specs.Model.{Model, RoleSet, Session, with_sessions, standing}
 

@@ -1,5 +1,5 @@
 -- A line as the code holds it: its numbers in the front of an array, zeros after them; where a text is no line, all is zero. Assumes nothing.
-use Rattle.std.specs.Prelude.{Bool, true, false, List, ◌++◌, ℕ, ◌-◌, leb, length, replicate}
+use Rattle.std.specs.Prelude.{true, false, List, ◌++◌, ℕ, ◌-◌, leb, length, replicate}
 use Rattle.reading.specs.Form.{Parsed, line, no_line, word_in, numbers_in}
 use Rattle.reading.specs.declared.Line.{Line}
 

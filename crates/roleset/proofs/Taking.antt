@@ -2,7 +2,6 @@
 use mathlib.Core.Bool.{true, false}
 use mathlib.Core.Path.{◌≡◌}
 use Prim.Native.Nat.{ℕ, suc, ◌^◌, ◌<◌}
-use native.Mathlib.Omega.{arith}
 use Rattle.roleset.specs.Promises.{Lowest}
 use Rattle.roleset.specs.Roles.{has, without, is_empty, count}
 use Rattle.roleset.proofs.BoundedLaws.{never}

@@ -1,5 +1,5 @@
 -- What the contracts of the operations say of their results. Assumes nothing.
-use Rattle.std.specs.Prelude.{Bool, true, false, ◌≡◌, ℕ, ◌<◌, ◌≤◌}
+use Rattle.std.specs.Prelude.{Bool, true, false, ◌≡◌, ℕ, ◌<◌}
 use Rattle.roleset.specs.Roles.{has}
 
 -- s is the set that the definition gives, and its members are the roles that pass the test

@@ -1,13 +1,13 @@
 -- Parts of a state, read and stored. Assumes nothing.
-use mathlib.Core.Bool.{Bool, true, false, ◌||◌, or-true}
+use mathlib.Core.Bool.{Bool, true, ◌||◌, or-true}
 use mathlib.Core.List.{List}
 use mathlib.Core.Logic.{◌⊎◌, inl, inr}
 use mathlib.Core.Path.{◌≡◌, refl, sym, ap, ◌∙◌, fun_ext}
-use Prim.Native.Nat.{ℕ, ◌+◌, ◌<◌, ◌≤◌, ◌-◌}
+use Prim.Native.Nat.{ℕ, ◌+◌, ◌<◌, ◌≤◌}
 use native.Mathlib.Omega.{arith}
 use native.Mathlib.Decide.{dec_lt}
 use borrow.Author.Tests.{leb-true, le-leb}
-use lib.Dec.{eqb, leb}
+use lib.Dec.{leb}
 use lib.ListN.{get_or, length, set, take, drop, length-drop, length-set, length-take, get_or-eq_default}
 use lib.Seq.{length-take-le, take-set-lt, drop-set-add, get_or-take, get_or-drop, get_or-set_same, get_or-set_other}
 use Rattle.roleset.proofs.BoundedLaws.{or_cases, last-or-below}

@@ -2,7 +2,7 @@
 use Rattle.std.specs.Prelude.{Bool, true, false, List, ◌≡◌, ℕ, ltb, length}
 use Rattle.roleset.specs.Roles.{with, without}
 use Rattle.hierarchy.specs.Lines.{table_of}
-use Rattle.model.specs.Model.{Model, RoleSet, Session, put, with_sessions}
+use Rattle.model.specs.Model.{Model, RoleSet, Session, put}
 use Rattle.model.specs.commands.Sets.{sets_of, with_sets}
 use Rattle.model.specs.declared.Kind.{Kind}
 

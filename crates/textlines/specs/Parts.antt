@@ -1,5 +1,5 @@
 -- A text in parts: each part ends before a stop byte, or at the end of the text. Lines are the parts that end at LF, words and numbers those that end at a space. Assumes nothing.
-use Rattle.std.specs.Prelude.{Bool, true, false, List, [], ◌∷◌, ℕ, ◌+◌, min, eqb, length, drop}
+use Rattle.std.specs.Prelude.{true, false, List, [], ◌∷◌, ℕ, ◌+◌, min, eqb, length, drop}
 
 -- the byte goes in front of the first part
 abbrev pub joined : ℕ → List (List ℕ) → List (List ℕ)

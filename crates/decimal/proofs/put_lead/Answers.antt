@@ -1,5 +1,4 @@
 -- A digit is put where the number reaches its place, and nothing otherwise. Assumes nothing.
-use borrow.Author.Rules.{rules}
 use Rattle.text.proofs.Putting.{put-none}
 use Rattle.decimal.proofs.Laws.{lead-there, lead-gone}
 use Rattle.decimal.proofs.put_lead.Goals as goal

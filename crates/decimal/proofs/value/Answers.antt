@@ -1,12 +1,12 @@
 -- The digits passed have given their value, and the others are still to be taken. Assumes nothing.
 use borrow.Author.Rules.{rules}
-use mathlib.Core.Path.{◌≡◌, refl}
-use Prim.Native.Nat.{◌≤◌, ◌<◌, ◌-◌}
+use mathlib.Core.Path.{refl}
+use Prim.Native.Nat.{◌≤◌, ◌<◌}
 use native.Mathlib.Numerals.{add-one}
 use native.Mathlib.Omega.{arith}
-use lib.ListN.{length, drop, drop_of_length-le}
+use lib.ListN.{length, drop_of_length-le}
 use lib.Seq.{drop-cons}
-use Rattle.decimal.specs.Decimal.{taken_from, value}
+use Rattle.decimal.specs.Decimal.{taken_from}
 use Rattle.decimal.proofs.value.Goals as goal
 
 pub loop-i-init : goal.loop-i-init

@@ -1,6 +1,4 @@
 -- The walk is that of the definition. Assumes nothing.
-use Prim.Native.Nat.{ℕ, ◌<◌}
-use native.Mathlib.Omega.{arith}
 use Rattle.roleset.proofs.Laws.{is_empty-none}
 use Rattle.roleset.proofs.Taking.{not-zero}
 use Rattle.hierarchy.specs.Lines.{table_of}

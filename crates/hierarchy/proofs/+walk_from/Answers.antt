@@ -1,7 +1,5 @@
 -- The walk is that of the definition. Assumes nothing.
-use Prim.Native.Nat.{ℕ, ◌<◌}
 use mathlib.Core.Path.{sym}
-use native.Mathlib.Omega.{arith}
 use Rattle.roleset.proofs.Laws.{is_empty-none}
 use Rattle.hierarchy.specs.Lines.{table_of}
 use Rattle.hierarchy.proofs.WalkLaws.{walk_empty, walk_stopped}

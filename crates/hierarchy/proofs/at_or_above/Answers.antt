@@ -5,7 +5,6 @@ use Rattle.hierarchy.specs.Lines.{table_of}
 use Rattle.hierarchy.specs.Walks.{turned, at_or_above}
 use Rattle.hierarchy.proofs.WalkLaws.{reach-ext}
 use Rattle.hierarchy.proofs.AboveLaws.{above-reaches}
-use borrow.Author.Rules.{rules}
 use Rattle.hierarchy.proofs.at_or_above.Goals as goal
 
 pub returns : goal.returns

@@ -1,5 +1,4 @@
 -- The number with 64 ones is the set of all roles, which computes. Assumes nothing.
-use borrow.Author.Rules.{rules}
 use Rattle.roleset.specs.Roles.{those, pack}
 use Rattle.hierarchy.specs.Walks.{circular}
 use Rattle.hierarchy.proofs.CircleLaws.{tells_circle}

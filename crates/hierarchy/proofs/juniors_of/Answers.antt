@@ -1,11 +1,9 @@
 -- What is met so far, with the juniors of the roles that are left, is what is asked. Assumes nothing.
-use mathlib.Core.Path.{◌≡◌, sym, ap, ◌∙◌}
-use Prim.Native.Nat.{◌^◌, ◌<◌}
+use mathlib.Core.Path.{sym, ap, ◌∙◌}
 use native.Mathlib.Omega.{arith}
-use Rattle.roleset.specs.Roles.{union, count}
+use Rattle.roleset.specs.Roles.{count}
 use Rattle.roleset.proofs.Laws.{union-small, without-small}
 use Rattle.hierarchy.specs.Lines.{table_of}
-use Rattle.hierarchy.specs.Walks.{juniors_of}
 use Rattle.roleset.proofs.Taking.{Taken, lowest-taken}
 use Rattle.hierarchy.proofs.Fronts.{juniors_step, juniors_begin, juniors_end}
 use Rattle.hierarchy.proofs.juniors_of.Goals as goal

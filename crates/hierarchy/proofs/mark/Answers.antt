@@ -1,12 +1,9 @@
 -- Marking the places that are left gives what is asked. Assumes nothing.
-use mathlib.Core.Path.{◌≡◌, refl, sym, ap, ◌∙◌}
-use Prim.Native.Nat.{ℕ, ◌^◌, ◌<◌}
+use mathlib.Core.Path.{refl, sym, ap, ◌∙◌}
 use native.Mathlib.Omega.{arith}
-use lib.ListN.{length, length-set}
+use lib.ListN.{length-set}
 use Rattle.roleset.specs.Roles.{count}
 use Rattle.roleset.proofs.Laws.{has-none, without-small}
-use Rattle.hierarchy.specs.Lines.{table_of}
-use Rattle.hierarchy.specs.Marks.{marked}
 use Rattle.roleset.proofs.Taking.{Taken, lowest-taken}
 use Rattle.hierarchy.proofs.Marking.{mark-step}
 use Rattle.hierarchy.proofs.mark.Goals as goal

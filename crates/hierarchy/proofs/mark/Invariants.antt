@@ -1,14 +1,10 @@
 -- Marking the places that are left gives what is asked. Assumes nothing.
-use mathlib.Core.Path.{◌≡◌, refl, sym, ap, ◌∙◌}
+use mathlib.Core.Path.{◌≡◌}
 use Prim.Native.Nat.{ℕ, ◌^◌, ◌<◌}
-use native.Mathlib.Omega.{arith}
-use lib.ListN.{length, length-set}
+use lib.ListN.{length}
 use Rattle.roleset.specs.Roles.{count}
-use Rattle.roleset.proofs.Laws.{has-none, without-small}
 use Rattle.hierarchy.specs.Lines.{table_of}
 use Rattle.hierarchy.specs.Marks.{marked}
-use Rattle.roleset.proofs.Taking.{Taken, lowest-taken}
-use Rattle.hierarchy.proofs.Marking.{mark-step}
 use Rattle.hierarchy.proofs.mark.Given as goal
 
 abbrev pub invariant-loop-rest : goal.invariant-loop-rest

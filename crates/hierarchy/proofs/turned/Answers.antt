@@ -1,10 +1,8 @@
 -- Place k holds the seniors of k among the roles passed. Assumes nothing.
 use mathlib.Core.Path.{◌≡◌, refl, sym, ◌∙◌}
-use Prim.Native.Nat.{ℕ, ◌-◌, ◌<◌, ◌≤◌}
 use native.Mathlib.Omega.{arith}
-use lib.ListN.{length}
 use Rattle.hierarchy.specs.Lines.{table_of}
-use Rattle.hierarchy.proofs.Marking.{seniors_below, seniors-begin, seniors-step, seniors-end, zeros}
+use Rattle.hierarchy.proofs.Marking.{seniors-begin, seniors-step, seniors-end, zeros}
 use Rattle.hierarchy.proofs.turned.Goals as goal
 
 pub loop-s-init : goal.loop-s-init

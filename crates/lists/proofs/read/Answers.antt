@@ -1,14 +1,12 @@
 -- The loop's invariant: each finding so far, with what the rest of the list holds, is that of the whole list. Assumes nothing.
-use borrow.Author.Rules.{rules}
 use mathlib.Core.Bool.{◌&&◌, ◌||◌}
-use mathlib.Core.Logic.{⊎_elim}
 use mathlib.Core.Path.{◌≡◌, refl, sym, ◌∙◌}
-use Prim.Native.Nat.{◌≤◌, ◌<◌, ◌-◌, ◌+◌, ◌^◌}
+use Prim.Native.Nat.{◌≤◌, ◌<◌, ◌+◌, ◌^◌}
 use native.Mathlib.Omega.{arith}
 use lib.ListN.{length, get_or, drop}
 use Rattle.roleset.proofs.Laws.{with-small}
-use Rattle.model.specs.Lists.{rising, some_from, set_of}
-use Rattle.lists.proofs.Turns.{joining, turn_low, turn_high, turn_beyond, turn_within, turn_joins, joining-start, end_rising, end_beyond, end_joins}
+use Rattle.model.specs.Lists.{rising, some_from}
+use Rattle.lists.proofs.Turns.{turn_low, turn_high, turn_beyond, turn_within, turn_joins, joining-start, end_rising, end_beyond, end_joins}
 use Rattle.lists.proofs.read.Goals as goal
 use Rattle.lists.proofs.read.Goals.{then-r-bound, else-r-bound, then-r-ge64, else-r-ge64}
 use Rattle.lists.proofs.read.Goals.{After-shared_slice_known-in-loop-i-1}

@@ -1,14 +1,10 @@
 -- The loop's invariant: each finding so far, with what the rest of the list holds, is that of the whole list. Assumes nothing.
-use borrow.Author.Rules.{rules}
 use mathlib.Core.Bool.{◌&&◌, ◌||◌}
-use mathlib.Core.Logic.{⊎_elim}
-use mathlib.Core.Path.{◌≡◌, refl, sym, ◌∙◌}
-use Prim.Native.Nat.{◌≤◌, ◌<◌, ◌-◌, ◌+◌, ◌^◌}
-use native.Mathlib.Omega.{arith}
-use lib.ListN.{length, get_or, drop}
-use Rattle.roleset.proofs.Laws.{with-small}
+use mathlib.Core.Path.{◌≡◌}
+use Prim.Native.Nat.{◌≤◌, ◌<◌, ◌-◌, ◌^◌}
+use lib.ListN.{length, drop}
 use Rattle.model.specs.Lists.{rising, some_from, set_of}
-use Rattle.lists.proofs.Turns.{joining, turn_low, turn_high, turn_beyond, turn_within, turn_joins, joining-start, end_rising, end_beyond, end_joins}
+use Rattle.lists.proofs.Turns.{joining}
 use Rattle.lists.proofs.read.Given as goal
 
 abbrev pub invariant-loop-i : goal.invariant-loop-i

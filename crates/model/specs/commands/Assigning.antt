@@ -1,5 +1,5 @@
 -- `assign`, `deassign`, `grant`, `revoke`. Assumes nothing.
-use Rattle.std.specs.Prelude.{Bool, true, false, not, ◌||◌, List, [], ◌∷◌, ℕ, ◌+◌, ◌-◌, leb}
+use Rattle.std.specs.Prelude.{not, ◌||◌, [], ◌∷◌, ℕ, ◌+◌, ◌-◌, leb}
 use Rattle.roleset.specs.Roles.{has, with, without}
 use Rattle.numbers.specs.Ranges.{most_assignments, most_grants}
 use Rattle.model.specs.Model.{Model, put, with_assignments, with_grants}

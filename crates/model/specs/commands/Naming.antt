@@ -1,9 +1,8 @@
 -- Refusals 1 and 2: "a number is beyond its range" and "a named user, role, session or set does not exist". Assumes nothing.
-use Rattle.std.specs.Prelude.{Bool, not, ◌||◌, List, [], ◌∷◌, ℕ, leb}
+use Rattle.std.specs.Prelude.{Bool, not, ◌||◌, ℕ, leb}
 use Rattle.roleset.specs.Roles.{has}
 use Rattle.numbers.specs.Ranges.{users, roles, sessions, sets, operations, objects}
 use Rattle.model.specs.Model.{Model}
-use Rattle.model.specs.Sheet.{Refusal, ◌when◌}
 
 -- beyond its range
 abbrev pub user_beyond : ℕ → Bool

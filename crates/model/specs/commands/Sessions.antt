@@ -1,5 +1,5 @@
 -- `session`, `activate`, `drop`, `end`; the question `check`, and whose a session is. Assumes nothing.
-use Rattle.std.specs.Prelude.{Bool, true, false, not, ◌&&◌, ◌||◌, List, [], ◌∷◌, ℕ, zero, suc, eqb, leb, length}
+use Rattle.std.specs.Prelude.{Bool, true, false, not, ◌||◌, List, [], ◌∷◌, ℕ, zero, suc, eqb, leb, length}
 use Rattle.roleset.specs.Bounded.{bit, members}
 use Rattle.roleset.specs.Roles.{has, with, without, common, subset, is_empty}
 use Rattle.numbers.specs.Ranges.{sessions}
@@ -12,8 +12,8 @@ use Rattle.model.specs.commands.Naming.{user_beyond, role_beyond, session_beyond
 
 -- the first number from k on, among so many, that no live session has; the one past them where all are live
 unfoldable pub free_from : (ℕ → Session) → ℕ → ℕ → ℕ
-free_from sessions zero k = k
-free_from sessions (suc left) k = elim (sessions k).live [ true ↦ free_from sessions left (suc k) | false ↦ k ]
+free_from table zero k = k
+free_from table (suc left) k = elim (table k).live [ true ↦ free_from table left (suc k) | false ↦ k ]
 
 -- "the lowest free session number"; 64 where none is free
 abbrev pub lowest_free : Model → ℕ

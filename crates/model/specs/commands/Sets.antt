@@ -1,10 +1,10 @@
 -- The five `ssd` commands and the five `dsd` commands, once for both kinds of set. Assumes nothing.
-use Rattle.std.specs.Prelude.{Bool, true, not, ◌||◌, List, [], ◌∷◌, ℕ, leb, ltb}
+use Rattle.std.specs.Prelude.{Bool, true, not, ◌||◌, List, [], ◌∷◌, ℕ, ltb}
 use Rattle.roleset.specs.Bounded.{some}
 use Rattle.roleset.specs.Roles.{has, with, without, subset, count}
 use Rattle.model.specs.Model.{Model, RoleSet, put, with_ssd, with_dsd}
 use Rattle.model.specs.Model as model
-use Rattle.model.specs.Sheet.{Told, Refusal, ◌when◌, settle}
+use Rattle.model.specs.Sheet.{Told, ◌when◌, settle}
 use Rattle.model.specs.Words.{authorised, breaks, counted, static_broken, dynamic_broken}
 use Rattle.model.specs.Lists.{ascending, some_from, set_of}
 use Rattle.model.specs.commands.Naming.{role_beyond, set_beyond, role_missing}

@@ -1,5 +1,5 @@
 -- `user`, `role`, `norole`; `end-all` and `nouser` as request 4 has them. Assumes nothing.
-use Rattle.std.specs.Prelude.{Bool, true, false, not, ◌&&◌, ◌||◌, List, [], ◌∷◌, ℕ, ◌+◌, ◌-◌, eqb}
+use Rattle.std.specs.Prelude.{Bool, true, false, ◌&&◌, ◌||◌, [], ◌∷◌, ℕ, ◌+◌, ◌-◌, eqb}
 use Rattle.roleset.specs.Bounded.{some, tally}
 use Rattle.roleset.specs.Roles.{has, with, without, none, count}
 use Rattle.model.specs.Model.{Model, RoleSet, Session, put, with_users, with_roles, with_assignments, with_sessions}

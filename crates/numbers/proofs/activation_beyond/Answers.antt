@@ -1,5 +1,4 @@
 -- Each return follows from what the three tests answered on the way there. Assumes nothing.
-use borrow.Author.Rules.{rules}
 use Rattle.numbers.proofs.activation_beyond.Goals as goal
 
 pub returns-then-user_beyond : goal.returns-then-user_beyond

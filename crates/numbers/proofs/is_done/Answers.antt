@@ -1,5 +1,4 @@
 -- The answer's number is compared with 0. Assumes nothing.
-use borrow.Author.Rules.{rules}
 use Rattle.numbers.proofs.is_done.Goals as goal
 
 pub returns : goal.returns

@@ -1,14 +1,9 @@
 -- The parts between the spaces are taken one by one: the first for a word, the others for numbers. Assumes nothing.
-use borrow.Author.Rules.{rules}
-use mathlib.Core.Path.{◌≡◌, sym, ap, ◌∙◌}
-use Prim.Native.Nat.{ℕ, ◌-◌}
-use native.Mathlib.Omega.{arith}
+use mathlib.Core.Path.{◌≡◌}
+use Prim.Native.Nat.{◌-◌}
 use lib.ListN.{length}
-use Rattle.decimal.specs.Decimal.{space}
-use Rattle.words.specs.ScriptWords.{which}
-use Rattle.textlines.proofs.Laws.{past_more}
 use Rattle.reading.specs.Form.{word_in}
-use Rattle.reading.proofs.Gathering.{Gathers, gathers-start, gathers-next, gathers-all, gathers-over}
+use Rattle.reading.proofs.Gathering.{Gathers}
 use Rattle.reading.proofs.gather.Given as goal
 
 abbrev pub invariant-loop-at : goal.invariant-loop-at

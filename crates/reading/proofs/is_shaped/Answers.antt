@@ -1,5 +1,4 @@
 -- There is such a word, and so many numbers may follow it. Assumes nothing.
-use borrow.Author.Rules.{rules}
 use mathlib.Core.Path.{sym, ◌∙◌}
 use borrow.Author.Tests.{lt-ltb, le-ltb}
 use Rattle.reading.proofs.is_shaped.Goals as goal

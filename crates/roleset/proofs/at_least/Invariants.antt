@@ -1,12 +1,7 @@
 -- As many roles were taken away as n has come down. Assumes nothing.
-use borrow.Author.Rules.{rules}
-use borrow.Author.Tests.{le-leb, lt-leb}
-use mathlib.Core.Path.{◌≡◌, sym, ap}
-use Prim.Native.Nat.{ℕ, ◌+◌, ◌^◌, ◌<◌}
-use native.Mathlib.Omega.{arith}
-use Rattle.roleset.specs.Roles.{without, count}
-use Rattle.roleset.proofs.Laws.{count_none, without-small}
-use Rattle.roleset.proofs.Taking.{lowest-taken}
+use mathlib.Core.Path.{◌≡◌}
+use Prim.Native.Nat.{◌+◌, ◌^◌, ◌<◌}
+use Rattle.roleset.specs.Roles.{count}
 use Rattle.roleset.proofs.at_least.Given as goal
 
 abbrev pub invariant-loop-left : goal.invariant-loop-left

@@ -1,13 +1,8 @@
 -- Of the roles passed, those in the set are counted. Assumes nothing.
-use borrow.Author.Rules.{rules}
-use mathlib.Core.Bool.{Bool, true, false}
-use mathlib.Core.Logic.{⊎_elim}
-use mathlib.Core.Path.{◌≡◌, refl, sym, ap, ◌∙◌}
-use Prim.Native.Nat.{ℕ, ◌≤◌, ◌-◌}
-use native.Mathlib.Omega.{arith}
-use Rattle.roleset.specs.Bounded.{bit, tally}
-use Rattle.roleset.specs.Roles.{has, count}
-use Rattle.roleset.proofs.BoundedLaws.{clash, never, tally-le, tally-step}
+use mathlib.Core.Path.{◌≡◌}
+use Prim.Native.Nat.{◌≤◌, ◌-◌}
+use Rattle.roleset.specs.Bounded.{tally}
+use Rattle.roleset.specs.Roles.{has}
 use Rattle.roleset.proofs.count.Given as goal
 
 abbrev pub invariant-loop-r : goal.invariant-loop-r

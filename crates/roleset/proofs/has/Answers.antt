@@ -1,5 +1,4 @@
 -- Below 64 the role's bit is asked; a number beyond is no member. Assumes nothing.
-use borrow.Author.Rules.{rules}
 use mathlib.Core.Path.{refl, sym}
 use Rattle.roleset.specs.Roles.{has}
 use Rattle.roleset.proofs.Laws.{has-beyond}

@@ -1,5 +1,4 @@
 -- The number 0 has no members; a set that is 0 without its lowest role has one. Assumes nothing.
-use borrow.Author.Rules.{rules}
 use mathlib.Core.Path.{◌≡◌, sym, ap, ◌∙◌}
 use native.Mathlib.Omega.{arith}
 use Rattle.roleset.specs.Roles.{without, count}

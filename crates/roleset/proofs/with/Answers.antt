@@ -1,5 +1,4 @@
 -- Below 64 the role's bit is set; a number beyond changes nothing. Assumes nothing.
-use borrow.Author.Rules.{rules}
 use Rattle.roleset.proofs.Machine.{with-made, with-beyond}
 use Rattle.roleset.proofs.with.Goals as goal
 

@@ -1,5 +1,4 @@
 -- Below 64 the role's bit is cleared; a number beyond changes nothing. Assumes nothing.
-use borrow.Author.Rules.{rules}
 use Rattle.roleset.proofs.Machine.{without-made, without-beyond}
 use Rattle.roleset.proofs.without.Goals as goal
 

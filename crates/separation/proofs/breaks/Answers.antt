@@ -1,5 +1,4 @@
 -- Whether the set shares as many roles with those held is the definition's own test. Assumes nothing.
-use borrow.Author.Rules.{rules}
 use mathlib.Core.Path.{ap, ◌∙◌}
 use Prim.Native.Nat.{ℕ}
 use lib.Dec.{leb}

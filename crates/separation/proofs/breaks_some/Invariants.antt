@@ -1,13 +1,9 @@
 -- The loop's invariant: none of the sets passed has its rule broken. Assumes nothing.
-use borrow.Author.Rules.{rules}
-use mathlib.Core.Bool.{Bool, false}
-use mathlib.Core.Path.{◌≡◌, sym, ap, ◌∙◌}
-use Prim.Native.Nat.{ℕ, ◌≤◌, ◌-◌}
-use native.Mathlib.Omega.{arith}
+use mathlib.Core.Bool.{false}
+use mathlib.Core.Path.{◌≡◌}
+use Prim.Native.Nat.{◌≤◌, ◌-◌}
 use Rattle.roleset.specs.Bounded.{some}
-use Rattle.roleset.proofs.BoundedLaws.{some-start, some_more, some-intro}
-use Rattle.model.specs.Model.{RoleSet}
-use Rattle.model.specs.Words.{breaks, breaks_some}
+use Rattle.model.specs.Words.{breaks}
 use Rattle.model.specs.commands.Sets.{sets_of}
 use Rattle.state.specs.View.{view}
 use Rattle.separation.proofs.breaks_some.Given as goal

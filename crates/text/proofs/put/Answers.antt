@@ -1,5 +1,4 @@
 -- A byte is stored where the buffer reaches so far; past its end nothing is. Assumes nothing.
-use borrow.Author.Rules.{rules}
 use mathlib.Core.Path.{sym}
 use native.Mathlib.Omega.{arith}
 use lib.Seq.{set_out}

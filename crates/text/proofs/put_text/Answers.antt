@@ -1,11 +1,10 @@
 -- The bytes that were put so far stand in the buffer. Assumes nothing.
 use borrow.Author.Rules.{rules}
-use Prim.Native.Nat.{◌≤◌, ◌<◌, ◌-◌}
+use Prim.Native.Nat.{◌≤◌, ◌<◌}
 use native.Mathlib.Numerals.{add-one}
 use native.Mathlib.Omega.{arith}
-use lib.ListN.{length, take}
+use lib.ListN.{length}
 use lib.Seq.{take-suc, take_all}
-use Rattle.text.specs.Putting.{Put}
 use Rattle.text.proofs.Putting.{put_then, put-none, put-length}
 use Rattle.text.proofs.put_text.Goals as goal
 

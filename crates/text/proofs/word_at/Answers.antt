@@ -1,5 +1,4 @@
 -- The number at a place: of two bytes, of the last one, or 0 past the end. Assumes nothing.
-use borrow.Author.Rules.{rules}
 use mathlib.Core.Path.{refl}
 use Prim.Native.Nat.{◌+◌}
 use native.Mathlib.Omega.{arith}

@@ -1,5 +1,4 @@
 -- One line more, by value. Assumes nothing.
-use borrow.Author.Rules.{rules}
 use Rattle.textlines.specs.Tallies.{counted}
 use Rattle.textlines.proofs.bumped.Goals as goal
 

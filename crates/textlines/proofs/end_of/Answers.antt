@@ -1,10 +1,9 @@
 -- No byte that was passed is a stop byte. Assumes nothing.
 use borrow.Author.Rules.{rules}
-use mathlib.Core.Path.{◌≡◌, refl, ap}
-use Prim.Native.Nat.{◌+◌, ◌≤◌, ◌<◌, ◌-◌}
+use mathlib.Core.Path.{refl, ap}
+use Prim.Native.Nat.{◌≤◌, ◌<◌}
 use native.Mathlib.Omega.{arith}
 use lib.ListN.{length}
-use Rattle.textlines.specs.Parts.{part_at}
 use Rattle.textlines.proofs.Laws.{part_stops, part_goes_on, part_none}
 use Rattle.textlines.proofs.end_of.Goals as goal
 

@@ -1,11 +1,8 @@
 -- No byte that was passed is a stop byte. Assumes nothing.
-use borrow.Author.Rules.{rules}
-use mathlib.Core.Path.{◌≡◌, refl, ap}
-use Prim.Native.Nat.{◌+◌, ◌≤◌, ◌<◌, ◌-◌}
-use native.Mathlib.Omega.{arith}
+use mathlib.Core.Path.{◌≡◌}
+use Prim.Native.Nat.{◌+◌, ◌≤◌, ◌-◌}
 use lib.ListN.{length}
 use Rattle.textlines.specs.Parts.{part_at}
-use Rattle.textlines.proofs.Laws.{part_stops, part_goes_on, part_none}
 use Rattle.textlines.proofs.end_of.Given as goal
 
 abbrev pub invariant-loop-end : goal.invariant-loop-end

@@ -1,5 +1,4 @@
 -- A counter grows by one, and stays at its most. Assumes nothing.
-use borrow.Author.Rules.{rules}
 use native.Mathlib.Omega.{arith}
 use Rattle.textlines.specs.Tallies.{one_more}
 use Rattle.textlines.proofs.one_more.Goals as goal

@@ -1,7 +1,5 @@
 -- The walk is that of the definition. Assumes nothing.
-use Prim.Native.Nat.{ℕ, ◌<◌}
 use mathlib.Core.Path.{sym}
-use native.Mathlib.Omega.{arith}
 use Rattle.roleset.proofs.Laws.{is_empty-none}
 use Rattle.state.specs.Places.{juniors_at}
 use Rattle.state.specs.View.{part}

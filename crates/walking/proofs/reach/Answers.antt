@@ -1,5 +1,4 @@
 -- It is the walk with 64 roles allowed, begun with none met. Assumes nothing.
-use borrow.Author.Rules.{rules}
 use mathlib.Core.Path.{◌∙◌}
 use Rattle.state.specs.Places.{juniors_at}
 use Rattle.state.specs.View.{part, view}

@@ -1,5 +1,4 @@
 -- The mark of a word's row. Assumes nothing.
-use borrow.Author.Rules.{rules}
 use Rattle.words.specs.ScriptWords.{word_of}
 use Rattle.words.proofs.Rows.{row-mark}
 use Rattle.words.proofs.has_list.Goals as goal

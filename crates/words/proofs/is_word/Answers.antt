@@ -1,12 +1,11 @@
 -- At each turn, comparing what is left of the text and of the letters decides. Assumes nothing.
 use borrow.Author.Rules.{rules}
-use mathlib.Core.Path.{◌≡◌, refl, sym, ◌∙◌}
-use Prim.Native.Nat.{◌≤◌, ◌<◌, ◌-◌}
+use mathlib.Core.Path.{refl, sym, ◌∙◌}
+use Prim.Native.Nat.{◌≤◌, ◌<◌}
 use native.Mathlib.Omega.{arith}
-use lib.ListN.{length, take, drop}
-use Rattle.words.specs.Bytes.{same}
+use lib.ListN.{length, take}
 use Rattle.words.specs.Rows.{letters}
-use Rattle.words.proofs.Rows.{left, text_longer, text_ended, letter_equal, letter_differs}
+use Rattle.words.proofs.Rows.{text_longer, text_ended, letter_equal, letter_differs}
 use Rattle.words.proofs.is_word.Goals as goal
 
 pub loop-i-init : goal.loop-i-init

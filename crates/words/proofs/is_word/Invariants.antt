@@ -1,12 +1,10 @@
 -- At each turn, comparing what is left of the text and of the letters decides. Assumes nothing.
-use borrow.Author.Rules.{rules}
-use mathlib.Core.Path.{◌≡◌, refl, sym, ◌∙◌}
-use Prim.Native.Nat.{◌≤◌, ◌<◌, ◌-◌}
-use native.Mathlib.Omega.{arith}
+use mathlib.Core.Path.{◌≡◌}
+use Prim.Native.Nat.{◌≤◌, ◌-◌}
 use lib.ListN.{length, take, drop}
 use Rattle.words.specs.Bytes.{same}
 use Rattle.words.specs.Rows.{letters}
-use Rattle.words.proofs.Rows.{left, text_longer, text_ended, letter_equal, letter_differs}
+use Rattle.words.proofs.Rows.{left}
 use Rattle.words.proofs.is_word.Given as goal
 
 abbrev pub invariant-loop-i : goal.invariant-loop-i

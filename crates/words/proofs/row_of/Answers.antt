@@ -1,5 +1,4 @@
 -- The code's table is the rows of the words: both are computed and compared. Assumes nothing.
-use borrow.Author.Rules.{rules}
 use mathlib.Core.Path.{sym, ap}
 use Rattle.words.specs.ScriptWords.{words}
 use Rattle.words.specs.Rows.{row}

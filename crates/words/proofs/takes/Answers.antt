@@ -1,5 +1,4 @@
 -- More numbers may follow where the word has a list. Assumes nothing.
-use borrow.Author.Rules.{rules}
 use mathlib.Core.Bool.{true, false}
 use mathlib.Core.Path.{◌≡◌, sym, ◌∙◌}
 use Rattle.words.specs.ScriptWords.{word_of, takes}

@@ -1,15 +1,10 @@
 -- The words up to the place are passed, and the rest is searched. Assumes nothing.
-use borrow.Author.Rules.{rules}
-use mathlib.Core.List.{List, [], map}
-use mathlib.Core.Path.{◌≡◌, refl, sym, ap, ◌∙◌}
-use Prim.Native.Nat.{ℕ, ◌+◌, ◌≤◌, ◌-◌}
-use native.Mathlib.Omega.{arith}
-use lib.ListN.{get_or, drop}
-use Rattle.words.specs.Bytes.{same}
-use Rattle.words.specs.ScriptWords.{words, word_count, spelling, place_in, which}
-use Rattle.words.specs.Rows.{row, letters}
-use Rattle.words.proofs.Laws.{found, passed, none_left, which-starts}
-use Rattle.words.proofs.Rows.{table-letters}
+use mathlib.Core.List.{map}
+use mathlib.Core.Path.{◌≡◌}
+use Prim.Native.Nat.{◌+◌, ◌≤◌, ◌-◌}
+use lib.ListN.{drop}
+use Rattle.words.specs.ScriptWords.{words, word_count, place_in, which}
+use Rattle.words.specs.Rows.{row}
 use Rattle.words.proofs.which.Given as goal
 
 abbrev pub invariant-loop-k : goal.invariant-loop-k

@@ -2,8 +2,8 @@
 use borrow.Author.Rules.{rules}
 use mathlib.Core.Path.{◌≡◌, refl, ◌∙◌}
 use native.Mathlib.Omega.{arith}
-use Prim.Native.Nat.{ℕ, ◌+◌, ◌-◌, ◌≤◌, ◌<◌}
-use lib.ListN.{get_or, length, length-set}
+use Prim.Native.Nat.{ℕ, ◌+◌}
+use lib.ListN.{get_or, length-set}
 use Rattle.state.specs.Places.{assigned_at}
 use Rattle.state.specs.View.{view}
 use Rattle.state.proofs.Slots.{copy-store, copy-end}

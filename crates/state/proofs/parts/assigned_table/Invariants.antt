@@ -1,12 +1,8 @@
 -- The places passed hold the numbers of the part. Assumes nothing.
-use borrow.Author.Rules.{rules}
-use mathlib.Core.Path.{◌≡◌, refl, ◌∙◌}
-use native.Mathlib.Omega.{arith}
+use mathlib.Core.Path.{◌≡◌}
 use Prim.Native.Nat.{ℕ, ◌+◌, ◌-◌, ◌≤◌, ◌<◌}
-use lib.ListN.{get_or, length, length-set}
+use lib.ListN.{get_or, length}
 use Rattle.state.specs.Places.{assigned_at}
-use Rattle.state.specs.View.{view}
-use Rattle.state.proofs.Slots.{copy-store, copy-end}
 use Rattle.state.proofs.parts.assigned_table.Given as goal
 
 abbrev pub invariant-loop-k : goal.invariant-loop-k

@@ -1,5 +1,4 @@
 -- A number of one part; past it there is 0. Assumes nothing.
-use borrow.Author.Rules.{rules}
 use mathlib.Core.Path.{sym}
 use native.Mathlib.Omega.{arith}
 use Rattle.state.specs.Places.{assigned_at}

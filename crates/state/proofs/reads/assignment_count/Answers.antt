@@ -1,5 +1,4 @@
 -- The one number of its part. Assumes nothing.
-use borrow.Author.Rules.{rules}
 use mathlib.Core.Path.{sym}
 use native.Mathlib.Omega.{arith}
 use Rattle.state.specs.Places.{assignment_count_at}

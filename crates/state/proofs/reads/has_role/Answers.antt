@@ -1,5 +1,4 @@
 -- The one number of its part, asked for a bit. Assumes nothing.
-use borrow.Author.Rules.{rules}
 use native.Mathlib.Omega.{arith}
 use Rattle.state.specs.Places.{roles_at}
 use Rattle.state.specs.View.{view}

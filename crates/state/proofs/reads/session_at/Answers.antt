@@ -1,5 +1,4 @@
 -- Two numbers of two parts; past them there is a closed session. Assumes nothing.
-use borrow.Author.Rules.{rules}
 use mathlib.Core.Path.{◌∙◌, sym, ap₂}
 use native.Mathlib.Omega.{arith}
 use Rattle.state.specs.Places.{owners_at, active_at}

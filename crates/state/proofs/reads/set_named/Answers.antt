@@ -1,10 +1,9 @@
 -- Two numbers of two parts; past them there is no set. Assumes nothing.
-use borrow.Author.Rules.{rules}
-use mathlib.Core.Path.{◌≡◌, ◌∙◌, sym, ap₂}
+use mathlib.Core.Path.{◌∙◌, sym, ap₂}
 use native.Mathlib.Omega.{arith}
 use Prim.Native.Nat.{◌+◌, ◌≤◌}
 use Rattle.state.specs.Places.{sets_at, places}
-use Rattle.state.specs.View.{view, set_of}
+use Rattle.state.specs.View.{set_of}
 use Rattle.state.proofs.Slots.{part_at, part_none}
 use Rattle.state.proofs.Stored.{set_at, sets-fit}
 use Rattle.state.proofs.reads.set_named.Goals as goal

@@ -1,6 +1,4 @@
 -- The number stands for whether it is there and for one less. Assumes nothing.
-use borrow.Author.Rules.{rules}
-use mathlib.Core.Path.{◌≡◌}
 use Rattle.state.proofs.reads.set_of.Goals as goal
 
 pub returns : goal.returns

@@ -1,6 +1,4 @@
 -- The set with the member, or without it. Assumes nothing.
-use borrow.Author.Rules.{rules}
-use mathlib.Core.Path.{◌≡◌}
 use Rattle.state.proofs.stores.member.Goals as goal
 
 pub returns-then-there : goal.returns-then-there

@@ -1,8 +1,7 @@
 -- The numbers of one session are stored; beyond the part nothing is. Assumes nothing.
-use borrow.Author.Rules.{rules}
 use mathlib.Core.Path.{◌≡◌, sym, ap, ◌∙◌}
 use native.Mathlib.Omega.{arith}
-use Prim.Native.Nat.{ℕ, ◌+◌}
+use Prim.Native.Nat.{◌+◌}
 use lib.ListN.{length, length-set}
 use Rattle.model.specs.Model.{Session}
 use Rattle.model.specs.commands.Sessions.{session_set}

@@ -1,11 +1,8 @@
 -- The numbers of one session are stored; beyond the part nothing is. Assumes nothing.
-use borrow.Author.Rules.{rules}
 use mathlib.Core.Path.{◌≡◌, sym, ◌∙◌}
 use native.Mathlib.Omega.{arith}
-use Prim.Native.Nat.{ℕ, ◌+◌}
-use lib.ListN.{length, length-set}
+use lib.ListN.{length}
 use Rattle.model.specs.commands.Sessions.{active_set}
-use Rattle.state.specs.Places.{owners_at}
 use Rattle.state.specs.View.{view}
 use Rattle.state.proofs.Stored.{in-range, beyond, active_stored}
 use Rattle.state.proofs.stores.put_active.Goals as goal

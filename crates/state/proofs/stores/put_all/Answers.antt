@@ -1,9 +1,8 @@
 -- The places passed hold the new numbers. Assumes nothing.
-use borrow.Author.Rules.{rules}
 use mathlib.Core.Path.{◌≡◌, refl, ◌∙◌}
 use native.Mathlib.Omega.{arith}
-use Prim.Native.Nat.{ℕ, ◌≤◌, ◌<◌, ◌-◌}
-use lib.ListN.{get_or, length, length-set}
+use Prim.Native.Nat.{ℕ}
+use lib.ListN.{get_or, length-set}
 use Rattle.state.specs.Places.{places}
 use Rattle.state.proofs.Slots.{copy-store}
 use Rattle.state.proofs.Stored.{all_same}

@@ -1,12 +1,10 @@
 -- The part is filled from the array, place by place. Assumes nothing.
-use borrow.Author.Rules.{rules}
 use mathlib.Core.Path.{◌≡◌, refl, ap₂, ◌∙◌}
 use native.Mathlib.Omega.{arith}
-use Prim.Native.Nat.{ℕ, ◌≤◌, ◌-◌}
 use lib.ListN.{length, length-set}
 use Rattle.state.specs.Places.{owners_at, active_at, places}
 use Rattle.state.specs.View.{view, paired, session_of}
-use Rattle.state.proofs.Slots.{Filled, fill_start, fill-store, fill_end, wider, same}
+use Rattle.state.proofs.Slots.{fill_start, fill-store, fill_end, wider, same}
 use Rattle.state.proofs.Stored.{sessions_changed}
 use Rattle.state.proofs.stores.put_all_active.Goals as goal
 

@@ -1,9 +1,8 @@
 -- The numbers of one set are stored; beyond the part nothing is. Assumes nothing.
-use borrow.Author.Rules.{rules}
 use mathlib.Core.Path.{◌≡◌, sym, ◌∙◌}
 use native.Mathlib.Omega.{arith}
-use Prim.Native.Nat.{ℕ, ◌+◌, ◌≤◌}
-use lib.ListN.{length, length-set}
+use Prim.Native.Nat.{◌+◌, ◌≤◌}
+use lib.ListN.{length}
 use Rattle.state.specs.Places.{places}
 use Rattle.state.specs.View.{view}
 use Rattle.state.proofs.Stored.{in-range, beyond, sets-fit, members_stored}

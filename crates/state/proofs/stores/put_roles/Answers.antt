@@ -1,12 +1,10 @@
 -- One number is stored. Assumes nothing.
-use borrow.Author.Rules.{rules}
 use mathlib.Core.Path.{◌≡◌, ap}
 use native.Mathlib.Omega.{arith}
 use Prim.Native.Nat.{ℕ}
 use lib.ListN.{length}
 use Rattle.model.specs.Model.{put}
 use Rattle.state.specs.Places.{roles_at}
-use Rattle.state.specs.View.{view}
 use Rattle.state.proofs.Slots.{set-within, part-store}
 use Rattle.state.proofs.Stored.{roles_changed}
 use Rattle.state.proofs.stores.put_roles.Goals as goal

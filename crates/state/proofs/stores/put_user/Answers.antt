@@ -1,10 +1,8 @@
 -- The bit of the user is stored; beyond the part nothing is. Assumes nothing.
-use borrow.Author.Rules.{rules}
 use mathlib.Core.Path.{◌≡◌, sym, ◌∙◌}
 use native.Mathlib.Omega.{arith}
-use Prim.Native.Nat.{◌+◌, ◌/◌}
 use lib.ListN.{length}
-use Rattle.state.specs.Places.{places, users_at}
+use Rattle.state.specs.Places.{places}
 use Rattle.state.specs.View.{view}
 use Rattle.state.proofs.Stored.{in-range, beyond, user-stored}
 use Rattle.state.proofs.stores.put_user.Goals as goal

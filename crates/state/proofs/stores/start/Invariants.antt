@@ -1,12 +1,8 @@
 -- The places passed hold the new numbers. Assumes nothing.
-use borrow.Author.Rules.{rules}
-use mathlib.Core.Path.{◌≡◌, refl, ◌∙◌}
-use native.Mathlib.Omega.{arith}
+use mathlib.Core.Path.{◌≡◌}
 use Prim.Native.Nat.{ℕ, ◌≤◌, ◌<◌, ◌-◌}
-use lib.ListN.{get_or, length, length-set}
+use lib.ListN.{get_or, length}
 use Rattle.state.specs.Places.{places}
-use Rattle.state.proofs.Slots.{copy-store}
-use Rattle.state.proofs.Stored.{all-zero}
 use Rattle.state.proofs.stores.start.Given as goal
 
 abbrev pub invariant-loop-k : goal.invariant-loop-k
