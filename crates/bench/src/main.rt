@@ -1,6 +1,7 @@
 // The bench: reads a script from standard input and prints what the script prints. Where it cannot read all of it or print all of it, it says so on
 // standard error. What is handed to the output is proved; that the C library reads and writes what it is asked to is assumed.
 #![tactic(auto)]
+
 ghost use Rattle.std.specs.Prelude.{true, ◌≡◌, ◌+◌, ◌^◌, ◌<◌, ◌≤◌, length};
 ghost use Rattle.streams.specs.Writing.{Next};
 ghost use Rattle.script.specs.Script.{run_script};

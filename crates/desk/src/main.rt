@@ -2,6 +2,7 @@
 // second argument is given, saves under that name what it ends with. What it prints and saves is proved; that the C library reads and writes what it
 // is asked to is assumed.
 #![tactic(auto)]
+
 mod saving;
 
 ghost use Rattle.std.specs.Prelude.{true, ◌≡◌, ◌+◌, ◌^◌, ◌<◌, ◌≤◌, length};

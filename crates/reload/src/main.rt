@@ -1,6 +1,7 @@
 // Reads a policy file from standard input, loads it into the empty state, and prints the answer's number and, after a 0, the file as it is saved
 // again. Where it cannot read all of it or print all of it, it says so on standard error.
 #![tactic(auto)]
+
 ghost use Rattle.std.specs.Prelude.{true, ◌≡◌, ◌+◌, ◌^◌, ◌<◌, length};
 ghost use Rattle.numbers.specs.Answers.{number_of};
 ghost use Rattle.text.specs.Putting.{Put};

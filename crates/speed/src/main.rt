@@ -1,5 +1,6 @@
 // How fast the engine is: reads a request, builds a policy by the engine's own commands, makes one or two moves again and again, and writes a checksum of their answers. `speed/run` times it beside the same work in C.
 #![tactic(auto)]
+
 ghost use Rattle.std.specs.Prelude.{◌<◌};
 
 use libc::{STDERR_FILENO, STDIN_FILENO, STDOUT_FILENO};

@@ -1,5 +1,6 @@
 // The programs' input and output: an input that is read whole, or known not to be. What a read of the C library puts into the buffer no contract can say.
 #![tactic(auto)]
+
 ghost use Rattle.std.specs.Prelude.{◌≤◌, length};
 ghost use Rattle.io.specs.Counts.{IsPrefixLen};
 

@@ -1,5 +1,4 @@
 -- Each test of `assign` is a refusal of the sheet, in its order; past all five, the store adds the role to the user's and counts it. Assumes nothing.
-use borrow.Author.Rules.{rules}
 use borrow.Author.Tests.{le-leb, lt-leb}
 use mathlib.Core.Bool.{false, ◌||◌}
 use mathlib.Core.List.{[]}
@@ -8,7 +7,6 @@ use Prim.Native.Nat.{ℕ, ◌+◌}
 use lib.Dec.{leb}
 use Rattle.roleset.specs.Roles.{has, with}
 use Rattle.numbers.specs.Ranges.{most_assignments}
-use Rattle.model.specs.Model.{Model}
 use Rattle.model.specs.Sheet.{verdict, settle, done}
 use Rattle.model.specs.Words.{reached, breaks_some, static_broken}
 use Rattle.model.specs.commands.Assigning.{assign, assigned}

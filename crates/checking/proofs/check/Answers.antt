@@ -1,11 +1,10 @@
 -- Each test is a refusal of `check`, in its order; past them the roles that the walk meets are looked at, lowest first. Assumes nothing.
-use borrow.Author.Rules.{rules}
-use mathlib.Core.Bool.{Bool, true, false, not, ◌||◌}
+use mathlib.Core.Bool.{true, false, not, ◌||◌}
 use mathlib.Core.Path.{◌≡◌, refl, sym, ap, ap₂, subst, ◌∙◌}
 use Prim.Native.Nat.{ℕ}
 use Rattle.roleset.proofs.BoundedLaws.{clash}
 use Rattle.numbers.specs.declared.Answer.TheVariants.{Done}
-use Rattle.model.specs.Model.{Model, Session}
+use Rattle.model.specs.Model.{Session}
 use Rattle.model.specs.Sheet.{verdict, settle}
 use Rattle.model.specs.Words.{permission, reached}
 use Rattle.model.specs.commands.Naming.{session_beyond, permission_beyond, session_missing}

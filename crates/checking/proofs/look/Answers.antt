@@ -1,8 +1,7 @@
 -- The roles looked at are gone from the rest, and none of them holds the grant. Assumes nothing.
-use borrow.Author.Rules.{rules}
 use mathlib.Core.Bool.{Bool, true, false}
 use mathlib.Core.Path.{◌≡◌, refl, sym, ap, ◌∙◌}
-use Prim.Native.Nat.{ℕ, ◌+◌, ◌^◌, ◌<◌}
+use Prim.Native.Nat.{ℕ}
 use native.Mathlib.Omega.{arith}
 use Rattle.roleset.specs.Roles.{has, without, count}
 use Rattle.roleset.specs.Promises.{Lowest}

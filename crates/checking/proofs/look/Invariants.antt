@@ -1,16 +1,8 @@
 -- The roles looked at are gone from the rest, and none of them holds the grant. Assumes nothing.
-use borrow.Author.Rules.{rules}
-use mathlib.Core.Bool.{Bool, true, false}
-use mathlib.Core.Path.{◌≡◌, refl, sym, ap, ◌∙◌}
-use Prim.Native.Nat.{ℕ, ◌+◌, ◌^◌, ◌<◌}
-use native.Mathlib.Omega.{arith}
-use Rattle.roleset.specs.Roles.{has, without, count}
-use Rattle.roleset.specs.Promises.{Lowest}
-use Rattle.roleset.proofs.Laws.{without-small}
-use Rattle.roleset.proofs.Taking.{not-zero, Taken, lowest-taken}
-use Rattle.numbers.specs.declared.Answer.TheVariants.{Done}
-use Rattle.checking.specs.declared.Checked.{Checked}
-use Rattle.checking.proofs.Looking.{found, seen, seen_most, seen_none, found_none, passed_seen, passed_found, held_seen, held_found}
+use mathlib.Core.Path.{◌≡◌}
+use Prim.Native.Nat.{◌+◌, ◌^◌, ◌<◌}
+use Rattle.roleset.specs.Roles.{count}
+use Rattle.checking.proofs.Looking.{found, seen}
 use Rattle.checking.proofs.look.Given as goal
 
 abbrev pub invariant-loop-rest : goal.invariant-loop-rest

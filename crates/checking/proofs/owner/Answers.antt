@@ -1,11 +1,9 @@
 -- Both tests of `owner` are refusals of the sheet; past them the record of the session names its owner. Assumes nothing.
-use borrow.Author.Rules.{rules}
 use mathlib.Core.Bool.{true, false, not}
 use mathlib.Core.List.{[], ◌∷◌}
 use mathlib.Core.Path.{◌≡◌, refl, sym, ap, ◌∙◌}
-use Prim.Native.Nat.{ℕ}
 use Rattle.roleset.proofs.BoundedLaws.{clash}
-use Rattle.model.specs.Model.{Model, Session}
+use Rattle.model.specs.Model.{Session}
 use Rattle.model.specs.Sheet.{verdict, settle, done}
 use Rattle.model.specs.commands.Naming.{session_beyond, session_missing}
 use Rattle.model.specs.commands.Sessions.{owner}

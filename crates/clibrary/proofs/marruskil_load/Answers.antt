@@ -1,5 +1,4 @@
 -- The load's own promise, with the answer's number. Assumes nothing.
-use borrow.Author.Rules.{rules}
 use Rattle.state.specs.View.{told}
 use Rattle.clibrary.proofs.marruskil_load.Goals as goal
 

@@ -1,5 +1,4 @@
 -- With room for the longest answer line the line is obeyed at once; else aside, or on a copy. Assumes nothing.
-use borrow.Author.Rules.{rules}
 use mathlib.Core.Logic.{inr}
 use native.Mathlib.Omega.{arith}
 use Prim.Native.Nat.{◌≤◌}

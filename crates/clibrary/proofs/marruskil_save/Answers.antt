@@ -1,7 +1,6 @@
 -- The save's own promise, with the length where the caller says. Assumes nothing.
-use borrow.Author.Rules.{rules}
 use borrow.Author.Tests.{eqb-true, eqb-false}
-use mathlib.Core.Path.{◌≡◌, sym, ◌∙◌}
+use mathlib.Core.Path.{sym, ◌∙◌}
 use Rattle.clibrary.proofs.Calling.{saved-done, saved-refused}
 use Rattle.clibrary.proofs.marruskil_save.Goals as goal
 

@@ -1,5 +1,4 @@
 -- What the copy tells is what the state tells; the answer line stands whole in a buffer of our own, and is copied where it fits. Assumes nothing.
-use borrow.Author.Rules.{rules}
 use mathlib.Core.List.{List}
 use mathlib.Core.Logic.{inl, inr}
 use mathlib.Core.Path.{◌≡◌, refl, sym, ap, ◌∙◌}
@@ -7,7 +6,6 @@ use Prim.Native.Nat.{ℕ, ◌≤◌}
 use native.Mathlib.Omega.{arith}
 use lib.ListN.{length, take, replicate, length-replicate}
 use lib.Seq.{sets, length-take-le}
-use Rattle.model.specs.Sheet.{Told}
 use Rattle.state.specs.View.{view}
 use Rattle.text.proofs.Putting.{put_front, put-length}
 use Rattle.script.specs.LineAnswers.{Answers}

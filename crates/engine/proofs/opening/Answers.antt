@@ -1,5 +1,4 @@
 -- There is a result exactly where the session was opened. Assumes nothing.
-use borrow.Author.Rules.{rules}
 use Rattle.engine.proofs.opening.Goals as goal
 
 pub returns : goal.returns

@@ -1,5 +1,4 @@
 -- By cases on the command, the function of its own crate tells what the step of the model tells. Assumes nothing.
-use borrow.Author.Rules.{rules}
 use Rattle.model.specs.Step.{step}
 use Rattle.engine.proofs.Telling.{plain-steps, opened-steps}
 use Rattle.engine.proofs.step.Goals as goal

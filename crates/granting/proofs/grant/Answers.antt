@@ -1,5 +1,4 @@
 -- Each test of `grant` is a refusal of the sheet, in its order; past all four, the store adds the role to the permission's holders and counts it. Assumes nothing.
-use borrow.Author.Rules.{rules}
 use borrow.Author.Tests.{le-leb, lt-leb}
 use mathlib.Core.Bool.{false, not, ◌||◌}
 use mathlib.Core.List.{[]}
@@ -8,7 +7,6 @@ use Prim.Native.Nat.{ℕ, ◌<◌, ◌+◌}
 use lib.Dec.{leb}
 use Rattle.roleset.specs.Roles.{has, with}
 use Rattle.numbers.specs.Ranges.{most_grants}
-use Rattle.model.specs.Model.{Model}
 use Rattle.model.specs.Sheet.{verdict, settle, done}
 use Rattle.model.specs.Words.{permission}
 use Rattle.model.specs.commands.Assigning.{grant, granted}

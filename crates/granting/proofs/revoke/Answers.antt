@@ -1,11 +1,9 @@
 -- Each test of `revoke` is a refusal of the sheet, in its order; past all three, the store takes the role from the permission's holders and counts it. Assumes nothing.
-use borrow.Author.Rules.{rules}
 use mathlib.Core.Bool.{false, not, ◌||◌}
 use mathlib.Core.List.{[]}
 use mathlib.Core.Path.{◌≡◌, sym, ap, ◌∙◌}
 use Prim.Native.Nat.{ℕ, ◌<◌, ◌-◌}
 use Rattle.roleset.specs.Roles.{has, without}
-use Rattle.model.specs.Model.{Model}
 use Rattle.model.specs.Sheet.{verdict, settle, done}
 use Rattle.model.specs.Words.{permission}
 use Rattle.model.specs.commands.Assigning.{revoke, revoked}

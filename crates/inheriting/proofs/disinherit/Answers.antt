@@ -1,11 +1,9 @@
 -- Each test of `disinherit` is a refusal of the sheet, in its order; past all three, the line is gone and the sessions shed. Assumes nothing.
-use borrow.Author.Rules.{rules}
 use mathlib.Core.Bool.{false, ◌||◌}
 use mathlib.Core.List.{[]}
 use mathlib.Core.Path.{◌≡◌, sym, ap, ◌∙◌}
 use Prim.Native.Nat.{ℕ, ◌-◌, ◌<◌}
 use Rattle.roleset.specs.Roles.{has, without}
-use Rattle.model.specs.Model.{Model}
 use Rattle.model.specs.Sheet.{verdict, settle, done}
 use Rattle.model.specs.Words.{shed}
 use Rattle.model.specs.commands.Inheriting.{disinherit, unlined}

@@ -1,5 +1,4 @@
 -- Each test of `inherit` is a refusal of the sheet, in its order; past all seven, the lines are those with the new one. Assumes nothing.
-use borrow.Author.Rules.{rules}
 use borrow.Author.Tests.{le-leb, lt-leb}
 use mathlib.Core.Bool.{false, ◌||◌}
 use mathlib.Core.List.{[]}
@@ -11,7 +10,6 @@ use Rattle.roleset.specs.Bounded.{some}
 use Rattle.roleset.specs.Roles.{has, with, none}
 use Rattle.hierarchy.specs.Lines.{table_of}
 use Rattle.numbers.specs.Ranges.{most_lines}
-use Rattle.model.specs.Model.{Model}
 use Rattle.model.specs.Sheet.{verdict, settle, done}
 use Rattle.model.specs.Words.{reached, static_broken, dynamic_broken}
 use Rattle.model.specs.commands.Inheriting.{inherit, lined, would_circle}

@@ -1,12 +1,8 @@
 -- The users are asked one by one; past the last there are no assignments. Assumes nothing.
-use borrow.Author.Rules.{rules}
 use Prim.Native.Nat.{◌-◌}
-use native.Mathlib.Omega.{arith}
-use Rattle.roleset.specs.Roles.{has}
 use Rattle.state.specs.View.{view}
-use Rattle.policycheck.specs.Tests.{Tells, Backed}
-use Rattle.policycheck.proofs.Passing.{Passed, passed_none, passed_more, passed_all, stopped, backed-none}
-use Rattle.policycheck.proofs.Ranges.{no_assigned}
+use Rattle.policycheck.specs.Tests.{Backed}
+use Rattle.policycheck.proofs.Passing.{Passed}
 use Rattle.policycheck.proofs.assignees.Given as goal
 
 abbrev pub invariant-loop-k : goal.invariant-loop-k

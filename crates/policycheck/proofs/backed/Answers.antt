@@ -1,5 +1,4 @@
 -- What is there may have roles, and what is not has none. Assumes nothing.
-use borrow.Author.Rules.{rules}
 use Rattle.roleset.proofs.BoundedLaws.{clash, never}
 use Rattle.policycheck.proofs.backed.Goals as goal
 

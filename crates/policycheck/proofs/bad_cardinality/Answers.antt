@@ -1,5 +1,4 @@
 -- A set that is there has a cardinality below 2 or above the number of its roles. Assumes nothing.
-use borrow.Author.Rules.{rules}
 use Rattle.policycheck.proofs.bad_cardinality.Goals as goal
 
 pub returns-then-set : goal.returns-then-set

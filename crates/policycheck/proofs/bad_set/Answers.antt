@@ -1,13 +1,11 @@
 -- The sets are asked one by one. Assumes nothing.
-use borrow.Author.Rules.{rules}
 use mathlib.Core.Path.{◌≡◌}
-use Prim.Native.Nat.{◌-◌}
 use native.Mathlib.Omega.{arith}
 use mathlib.Core.Bool.{◌&&◌}
 use Rattle.model.specs.commands.Sets.{sets_of, bad_cardinality}
 use Rattle.state.specs.View.{view}
 use Rattle.policyform.specs.Rules.{bad_set}
-use Rattle.policycheck.proofs.Passing.{Unmet, unmet_start, unmet_more, met, unmet_end}
+use Rattle.policycheck.proofs.Passing.{unmet_start, unmet_more, met, unmet_end}
 use Rattle.policycheck.proofs.bad_set.Goals as goal
 use Rattle.policycheck.proofs.bad_set.Goals.{After-bad_cardinality}
 

@@ -1,5 +1,4 @@
 -- With no role active nothing is beyond what the owner holds; else the owner's roles are walked for. Assumes nothing.
-use borrow.Author.Rules.{rules}
 use mathlib.Core.Bool.{not}
 use mathlib.Core.Path.{sym, ap, ◌∙◌}
 use Rattle.roleset.specs.Roles.{subset}

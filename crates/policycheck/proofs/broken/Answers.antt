@@ -1,5 +1,4 @@
 -- The rules are asked in their order: the first that is broken is the answer. Assumes nothing.
-use borrow.Author.Rules.{rules}
 use mathlib.Core.Bool.{Bool, ◌||◌}
 use mathlib.Core.Path.{◌≡◌, sym, ap, ap₂, ◌∙◌}
 use Rattle.roleset.specs.Bounded.{some}

@@ -1,5 +1,4 @@
 -- The three kept counts are asked one after another. Assumes nothing.
-use borrow.Author.Rules.{rules}
 use native.Mathlib.Omega.{arith}
 use borrow.Author.Tests.{leb-true, le-leb}
 use Rattle.policycheck.proofs.Passing.{tells-no}

@@ -1,5 +1,4 @@
 -- The tests are asked one after another; that no number is beyond its range needs none. Assumes nothing.
-use borrow.Author.Rules.{rules}
 use Rattle.policycheck.proofs.Passing.{refuted, passes}
 use Rattle.policycheck.proofs.Ranges.{ranged}
 use mathlib.Core.Path.{ap}

@@ -1,5 +1,4 @@
 -- A user beyond the last holds nothing. Assumes nothing.
-use borrow.Author.Rules.{rules}
 use mathlib.Core.Path.{sym}
 use Rattle.policycheck.proofs.Ranges.{no_assigned}
 use Rattle.policycheck.proofs.held_by.Goals as goal

@@ -1,5 +1,4 @@
 -- A user beyond the last does not exist. Assumes nothing.
-use borrow.Author.Rules.{rules}
 use mathlib.Core.Path.{sym}
 use Rattle.policycheck.proofs.Ranges.{no_user}
 use Rattle.policycheck.proofs.is_user.Goals as goal

@@ -1,11 +1,9 @@
 -- The roles are asked one by one; past the last there are no lines. Assumes nothing.
-use borrow.Author.Rules.{rules}
-use Prim.Native.Nat.{◌-◌}
 use native.Mathlib.Omega.{arith}
 use Rattle.roleset.specs.Roles.{has}
 use Rattle.state.specs.View.{view}
 use Rattle.policycheck.specs.Tests.{Tells, Backed}
-use Rattle.policycheck.proofs.Passing.{Passed, passed_none, passed_more, passed_all, stopped, backed-none}
+use Rattle.policycheck.proofs.Passing.{passed_none, passed_more, passed_all, stopped, backed-none}
 use Rattle.policycheck.proofs.Ranges.{no_juniors}
 use Rattle.policycheck.proofs.seniors.Goals as goal
 use Rattle.policycheck.proofs.seniors.Goals.{After-backed}

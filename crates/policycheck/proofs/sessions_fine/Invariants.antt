@@ -1,11 +1,8 @@
 -- The sessions are asked one by one; past the last all is zero. Assumes nothing.
-use borrow.Author.Rules.{rules}
 use Prim.Native.Nat.{◌-◌}
-use native.Mathlib.Omega.{arith}
 use Rattle.state.specs.View.{view}
-use Rattle.policycheck.specs.Tests.{Tells, SessionFine}
-use Rattle.policycheck.proofs.Passing.{Passed, passed_none, passed_more, passed_all, stopped, session-none}
-use Rattle.policycheck.proofs.Ranges.{no_session}
+use Rattle.policycheck.specs.Tests.{SessionFine}
+use Rattle.policycheck.proofs.Passing.{Passed}
 use Rattle.policycheck.proofs.sessions_fine.Given as goal
 
 abbrev pub invariant-loop-k : goal.invariant-loop-k

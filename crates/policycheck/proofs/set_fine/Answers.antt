@@ -1,5 +1,4 @@
 -- A set that is there is asked for its cardinality and its roles, one that is not for being all zero. Assumes nothing.
-use borrow.Author.Rules.{rules}
 use mathlib.Core.Bool.{Bool, false}
 use mathlib.Core.Path.{◌≡◌, ap, ◌∙◌}
 use Prim.Native.Nat.{ℕ}

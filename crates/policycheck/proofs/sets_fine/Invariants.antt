@@ -1,12 +1,9 @@
 -- The sets are asked one by one; past the last all is zero. Assumes nothing.
-use borrow.Author.Rules.{rules}
 use Prim.Native.Nat.{◌-◌}
-use native.Mathlib.Omega.{arith}
 use Rattle.model.specs.commands.Sets.{sets_of}
 use Rattle.state.specs.View.{view}
-use Rattle.policycheck.specs.Tests.{Tells, SetFine}
-use Rattle.policycheck.proofs.Passing.{Passed, passed_none, passed_more, passed_all, stopped, set-none}
-use Rattle.policycheck.proofs.Ranges.{no_set}
+use Rattle.policycheck.specs.Tests.{SetFine}
+use Rattle.policycheck.proofs.Passing.{Passed}
 use Rattle.policycheck.proofs.sets_fine.Given as goal
 
 abbrev pub invariant-loop-k : goal.invariant-loop-k

@@ -1,5 +1,4 @@
 -- The five tests are asked one after another. Assumes nothing.
-use borrow.Author.Rules.{rules}
 use Prim.Native.Nat.{ℕ}
 use native.Mathlib.Omega.{arith}
 use Rattle.state.specs.View.{view}

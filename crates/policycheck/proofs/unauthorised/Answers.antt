@@ -1,14 +1,12 @@
 -- The sessions are asked one by one. Assumes nothing.
-use borrow.Author.Rules.{rules}
 use mathlib.Core.Path.{◌≡◌}
-use Prim.Native.Nat.{◌-◌}
 use native.Mathlib.Omega.{arith}
 use mathlib.Core.Bool.{not}
 use Rattle.roleset.specs.Roles.{subset}
 use Rattle.model.specs.Words.{authorised}
 use Rattle.state.specs.View.{view}
 use Rattle.policyform.specs.Rules.{unauthorised}
-use Rattle.policycheck.proofs.Passing.{Unmet, unmet_start, unmet_more, met, unmet_end}
+use Rattle.policycheck.proofs.Passing.{unmet_start, unmet_more, met, unmet_end}
 use Rattle.policycheck.proofs.unauthorised.Goals as goal
 use Rattle.policycheck.proofs.unauthorised.Goals.{After-beyond}
 

@@ -1,11 +1,9 @@
 -- The sets of a table are asked one by one; past the last there are no roles. Assumes nothing.
-use borrow.Author.Rules.{rules}
 use Prim.Native.Nat.{◌-◌}
-use native.Mathlib.Omega.{arith}
-use lib.ListN.{length, get_or-eq_default}
+use lib.ListN.{length}
 use Rattle.hierarchy.specs.Lines.{table_of}
 use Rattle.policycheck.specs.Tests.{Inside}
-use Rattle.policycheck.proofs.Passing.{Passed, passed_none, passed_more, passed_all, stopped, inside-none}
+use Rattle.policycheck.proofs.Passing.{Passed}
 use Rattle.policycheck.proofs.within.Given as goal
 
 abbrev pub invariant-loop-k : goal.invariant-loop-k

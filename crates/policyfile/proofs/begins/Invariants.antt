@@ -1,11 +1,7 @@
 -- The comparison tells whether the buffer begins with the bytes. Assumes nothing.
-use borrow.Author.Rules.{rules}
 use mathlib.Core.Path.{◌≡◌}
 use Prim.Native.Nat.{ℕ, ◌≤◌, ◌<◌, ◌-◌}
-use native.Mathlib.Omega.{arith}
-use borrow.Author.Count.{below_more}
 use lib.ListN.{length, get_or}
-use Rattle.policyfile.proofs.Front.{tells-yes, tells-no}
 use Rattle.policyfile.proofs.begins.Given as goal
 
 abbrev pub invariant-loop-i : goal.invariant-loop-i

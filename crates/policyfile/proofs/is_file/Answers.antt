@@ -1,5 +1,4 @@
 -- The state is written again and compared, which tells whether the bytes are its file. Assumes nothing.
-use borrow.Author.Rules.{rules}
 use mathlib.Core.Path.{◌≡◌, ap}
 use Prim.Native.Nat.{ℕ}
 use native.Mathlib.Omega.{arith}

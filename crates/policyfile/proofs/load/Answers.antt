@@ -1,5 +1,4 @@
 -- A load is refused with 14, or by the lowest rule that the file breaks, or it is done. Assumes nothing.
-use borrow.Author.Rules.{rules}
 use borrow.Author.Tests.{eqb-true, not-true, not-false}
 use mathlib.Core.Logic.{inl, inr}
 use mathlib.Core.Path.{◌≡◌, refl, sym, ap, subst, ◌∙◌}

@@ -1,5 +1,4 @@
 -- A line or an assignment is added to those that stand. Assumes nothing.
-use borrow.Author.Rules.{rules}
 use mathlib.Core.Path.{◌∙◌}
 use Rattle.policyread.proofs.add_pair.Goals as goal
 

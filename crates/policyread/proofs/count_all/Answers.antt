@@ -1,5 +1,4 @@
 -- Each table is counted, and its count is stored. Assumes nothing.
-use borrow.Author.Rules.{rules}
 use Rattle.policyread.proofs.Whole.{table-count, all-counted}
 use Rattle.policyread.proofs.count_all.Goals as goal
 

@@ -1,5 +1,4 @@
 -- The count at a place, or the most where it is above that. Assumes nothing.
-use borrow.Author.Rules.{rules}
 use mathlib.Core.Path.{sym}
 use borrow.Author.Tests.{lt-ltb, le-ltb}
 use Rattle.text.specs.Places.{at_most}

@@ -1,5 +1,4 @@
 -- Every part is read from where the one before it ended, so that the state holds what is gathered. Assumes nothing.
-use borrow.Author.Rules.{rules}
 use Rattle.policyread.proofs.Whole.{gathered-state}
 use Rattle.policyread.proofs.gather.Goals as goal
 

@@ -1,14 +1,10 @@
 -- The members of all sets of a table are added up, in a pass. Assumes nothing.
-use borrow.Author.Rules.{rules}
-use mathlib.Core.Path.{◌≡◌, sym, ap, ◌∙◌}
-use Prim.Native.Nat.{ℕ, ◌*◌, ◌-◌, ◌≤◌}
-use native.Mathlib.Omega.{arith}
+use mathlib.Core.Path.{◌≡◌}
+use Prim.Native.Nat.{◌*◌, ◌-◌, ◌≤◌}
 use lib.ListN.{length}
 use Rattle.roleset.specs.Bounded.{total}
 use Rattle.roleset.specs.Roles.{count}
-use Rattle.roleset.proofs.BoundedLaws.{total-start, total-more}
 use Rattle.hierarchy.specs.Lines.{table_of}
-use Rattle.model.specs.Model.{standing}
 use Rattle.policyread.proofs.members.Given as goal
 
 abbrev pub invariant-loop-k : goal.invariant-loop-k

@@ -1,12 +1,7 @@
 -- The grants that the section names are added. Assumes nothing.
-use borrow.Author.Rules.{rules}
 use mathlib.Core.Path.{◌∙◌}
 use native.Mathlib.Omega.{arith}
-use Rattle.roleset.specs.Roles.{with}
-use Rattle.state.specs.View.{view}
-use Rattle.text.specs.Places.{read_section}
-use Rattle.policyread.specs.Steps.{read_grant}
-use Rattle.policyread.proofs.Loops.{Left, left-start, left_step, left_end, grant_was}
+use Rattle.policyread.proofs.Loops.{left-start, left_step, left_end, grant_was}
 use Rattle.policyread.proofs.read_grants.Goals as goal
 
 pub loop-left-init : goal.loop-left-init

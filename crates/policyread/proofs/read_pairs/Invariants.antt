@@ -1,11 +1,8 @@
 -- The pairs that the section names are added. Assumes nothing.
-use borrow.Author.Rules.{rules}
-use Prim.Native.Nat.{◌≤◌}
-use native.Mathlib.Omega.{arith}
 use Rattle.state.specs.View.{view}
 use Rattle.text.specs.Places.{read_section}
 use Rattle.policyread.specs.Steps.{pairs_most, read_pair}
-use Rattle.policyread.proofs.Loops.{Left, left-start, left_step, left_end, pair_was, pairs-few}
+use Rattle.policyread.proofs.Loops.{Left}
 use Rattle.policyread.proofs.read_pairs.Given as goal
 
 abbrev pub invariant-loop-left : goal.invariant-loop-left

@@ -1,9 +1,7 @@
 -- The roles of a list are put into a set. Assumes nothing.
-use borrow.Author.Rules.{rules}
 use native.Mathlib.Omega.{arith}
-use Rattle.text.specs.Places.{read_section}
-use Rattle.policyread.specs.Steps.{read_role, read_roles}
-use Rattle.policyread.proofs.Loops.{Left, left-start, left_step, left_end, role_was}
+use Rattle.policyread.specs.Steps.{read_roles}
+use Rattle.policyread.proofs.Loops.{left-start, left_step, left_end, role_was}
 use Rattle.policyread.proofs.read_roles.Goals as goal
 
 pub loop-left-init : goal.loop-left-init

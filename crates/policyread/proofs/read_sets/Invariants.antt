@@ -1,10 +1,8 @@
 -- The sets of one kind that the section names are there. Assumes nothing.
-use borrow.Author.Rules.{rules}
-use native.Mathlib.Omega.{arith}
 use Rattle.state.specs.View.{view}
 use Rattle.text.specs.Places.{read_section}
-use Rattle.policyread.specs.Steps.{set_added, read_set}
-use Rattle.policyread.proofs.Loops.{Left, left-start, left_step, left_end, entry-was}
+use Rattle.policyread.specs.Steps.{read_set}
+use Rattle.policyread.proofs.Loops.{Left}
 use Rattle.policyread.proofs.read_sets.Given as goal
 
 abbrev pub invariant-loop-left : goal.invariant-loop-left

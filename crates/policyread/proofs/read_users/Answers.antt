@@ -1,10 +1,6 @@
 -- The users that the section names are there. Assumes nothing.
-use borrow.Author.Rules.{rules}
 use native.Mathlib.Omega.{arith}
-use Rattle.state.specs.View.{view}
-use Rattle.text.specs.Places.{read_section}
-use Rattle.policyread.specs.Steps.{read_user}
-use Rattle.policyread.proofs.Loops.{Left, left-start, left_step, left_end, user_was}
+use Rattle.policyread.proofs.Loops.{left-start, left_step, left_end, user_was}
 use Rattle.policyread.proofs.read_users.Goals as goal
 
 pub loop-left-init : goal.loop-left-init

@@ -1,10 +1,8 @@
 -- The users that the section names are there. Assumes nothing.
-use borrow.Author.Rules.{rules}
-use native.Mathlib.Omega.{arith}
 use Rattle.state.specs.View.{view}
 use Rattle.text.specs.Places.{read_section}
 use Rattle.policyread.specs.Steps.{read_user}
-use Rattle.policyread.proofs.Loops.{Left, left-start, left_step, left_end, user_was}
+use Rattle.policyread.proofs.Loops.{Left}
 use Rattle.policyread.proofs.read_users.Given as goal
 
 abbrev pub invariant-loop-left : goal.invariant-loop-left

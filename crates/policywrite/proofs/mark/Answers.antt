@@ -1,16 +1,12 @@
 -- Marking the roles that are left gives what is asked. Assumes nothing.
-use borrow.Author.Rules.{rules}
-use mathlib.Core.Bool.{◌||◌}
-use mathlib.Core.Path.{◌≡◌, refl, ap, ◌∙◌}
-use Prim.Native.Nat.{ℕ, ◌^◌, ◌<◌}
+use mathlib.Core.Path.{refl, ap, ◌∙◌}
 use native.Mathlib.Omega.{arith}
-use lib.ListN.{length, length-set}
+use lib.ListN.{length-set}
 use Rattle.roleset.specs.Roles.{count}
 use Rattle.roleset.proofs.Laws.{without-small}
 use Rattle.hierarchy.specs.Lines.{table_of}
 use Rattle.roleset.proofs.Taking.{Taken, lowest-taken}
 use Rattle.policyform.specs.Encode.{pair_in}
-use Rattle.policywrite.specs.Parts.{granted}
 use Rattle.policywrite.proofs.Turning.{mark_step, none_left}
 use Rattle.policywrite.proofs.mark.Goals as goal
 use Rattle.policywrite.proofs.mark.Goals.{After-lowest-r}

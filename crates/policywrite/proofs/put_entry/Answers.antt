@@ -1,5 +1,4 @@
 -- Two numbers and a list of roles are written one after the other. Assumes nothing.
-use borrow.Author.Rules.{rules}
 use mathlib.Core.List.{◌++◌}
 use native.Mathlib.Omega.{arith}
 use Rattle.text.specs.Bytes.{two}

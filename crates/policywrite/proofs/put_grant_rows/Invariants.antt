@@ -1,12 +1,8 @@
 -- The grants are written row by row, after their count. Assumes nothing.
-use borrow.Author.Rules.{rules}
-use mathlib.Core.Path.{refl, ◌∙◌}
 use Prim.Native.Nat.{◌-◌}
-use native.Mathlib.Omega.{arith}
 use Rattle.hierarchy.specs.Lines.{table_of}
-use Rattle.text.proofs.Writing.{wrote-length}
 use Rattle.policyform.specs.Encode.{grant_entry}
-use Rattle.policywrite.proofs.Rows.{Rows, rows_start, rows_taken, rows_left, rows_size, rows_room, rows_end}
+use Rattle.policywrite.proofs.Rows.{Rows}
 use Rattle.policywrite.proofs.put_grant_rows.Given as goal
 
 abbrev pub invariant-loop-k : goal.invariant-loop-k

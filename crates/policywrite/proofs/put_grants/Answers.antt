@@ -1,5 +1,4 @@
 -- The rows hold the grants, so that they are written in the order of their numbers. Assumes nothing.
-use borrow.Author.Rules.{rules}
 use mathlib.Core.Path.{◌≡◌}
 use Rattle.roleset.specs.Bounded.{members}
 use Rattle.roleset.proofs.MembersLaws.{members-ext}

@@ -1,5 +1,4 @@
 -- The roles of a set are written after their count. Assumes nothing.
-use borrow.Author.Rules.{rules}
 use mathlib.Core.Path.{◌≡◌, refl, sym, ap, ◌∙◌}
 use Prim.Native.Nat.{ℕ}
 use native.Mathlib.Omega.{arith}
@@ -7,9 +6,9 @@ use lib.ListN.{length}
 use Rattle.roleset.specs.Bounded.{members}
 use Rattle.roleset.specs.Roles.{has, count}
 use Rattle.roleset.proofs.MembersLaws.{members-length}
-use Rattle.text.specs.Bytes.{two, section}
+use Rattle.text.specs.Bytes.{section}
 use Rattle.text.proofs.Writing.{wrote-length, wrote-more}
-use Rattle.policywrite.proofs.Taking.{Least, least, Through, through_start, through_taken, through_end, through_room}
+use Rattle.policywrite.proofs.Taking.{Least, least, through_start, through_taken, through_end, through_room}
 use Rattle.policywrite.proofs.put_roles.Goals as goal
 use Rattle.policywrite.proofs.put_roles.Goals.{After-lowest-r}
 

@@ -1,5 +1,4 @@
 -- The pairs of one place are written one after the other. Assumes nothing.
-use borrow.Author.Rules.{rules}
 use mathlib.Core.List.{List, ◌++◌}
 use mathlib.Core.Path.{◌≡◌, refl, ap}
 use Prim.Native.Nat.{ℕ, ◌+◌, ◌*◌, ◌/◌, ◌%◌, ◌<◌}
@@ -9,7 +8,7 @@ use Rattle.text.specs.Bytes.{two}
 use Rattle.text.specs.Places.{Wrote}
 use Rattle.text.proofs.Writing.{wrote-length}
 use Rattle.policyform.specs.Encode.{pair_entry}
-use Rattle.policywrite.proofs.Taking.{Least, least, Through, through_start, through_taken, through_end, through_room}
+use Rattle.policywrite.proofs.Taking.{Least, least, through_start, through_taken, through_end, through_room}
 use Rattle.policywrite.proofs.put_row.Goals as goal
 use Rattle.policywrite.proofs.put_row.Goals.{After-lowest-r}
 

@@ -1,15 +1,8 @@
 -- The pairs of one place are written one after the other. Assumes nothing.
-use borrow.Author.Rules.{rules}
-use mathlib.Core.List.{List, ◌++◌}
-use mathlib.Core.Path.{◌≡◌, refl, ap}
-use Prim.Native.Nat.{ℕ, ◌+◌, ◌*◌, ◌/◌, ◌%◌, ◌<◌}
-use native.Mathlib.Omega.{arith}
+use Prim.Native.Nat.{◌+◌, ◌*◌}
 use Rattle.roleset.specs.Roles.{count}
-use Rattle.text.specs.Bytes.{two}
-use Rattle.text.specs.Places.{Wrote}
-use Rattle.text.proofs.Writing.{wrote-length}
 use Rattle.policyform.specs.Encode.{pair_entry}
-use Rattle.policywrite.proofs.Taking.{Least, least, Through, through_start, through_taken, through_end, through_room}
+use Rattle.policywrite.proofs.Taking.{Through}
 use Rattle.policywrite.proofs.put_row.Given as goal
 
 abbrev pub invariant-loop-rest : goal.invariant-loop-rest

@@ -1,12 +1,8 @@
 -- The sessions are written after their count. Assumes nothing.
-use borrow.Author.Rules.{rules}
 use mathlib.Core.Path.{sym, ap, ◌∙◌}
-use Prim.Native.Nat.{◌-◌}
 use native.Mathlib.Omega.{arith}
 use Rattle.model.specs.Model.{Session}
-use Rattle.state.specs.View.{view}
-use Rattle.policyform.specs.Encode.{session_entry}
-use Rattle.policywrite.proofs.Under.{Under, under_start, under_taken, under_left, under_end, under_length}
+use Rattle.policywrite.proofs.Under.{under_start, under_taken, under_left, under_end, under_length}
 use Rattle.policywrite.proofs.put_sessions.Goals as goal
 
 pub loop-k-init : goal.loop-k-init

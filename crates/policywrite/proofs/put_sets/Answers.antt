@@ -1,13 +1,8 @@
 -- The sets of one kind are written after their count. Assumes nothing.
-use borrow.Author.Rules.{rules}
 use mathlib.Core.Path.{sym, ap, ◌∙◌}
-use Prim.Native.Nat.{◌-◌}
 use native.Mathlib.Omega.{arith}
 use Rattle.model.specs.Model.{RoleSet}
-use Rattle.model.specs.commands.Sets.{sets_of}
-use Rattle.state.specs.View.{view}
-use Rattle.policyform.specs.Encode.{set_entry}
-use Rattle.policywrite.proofs.Under.{Under, under_start, under_taken, under_left, under_end, under_length}
+use Rattle.policywrite.proofs.Under.{under_start, under_taken, under_left, under_end, under_length}
 use Rattle.policywrite.proofs.put_sets.Goals as goal
 
 pub loop-k-init : goal.loop-k-init

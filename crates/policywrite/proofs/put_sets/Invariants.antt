@@ -1,13 +1,9 @@
 -- The sets of one kind are written after their count. Assumes nothing.
-use borrow.Author.Rules.{rules}
-use mathlib.Core.Path.{sym, ap, ◌∙◌}
 use Prim.Native.Nat.{◌-◌}
-use native.Mathlib.Omega.{arith}
-use Rattle.model.specs.Model.{RoleSet}
 use Rattle.model.specs.commands.Sets.{sets_of}
 use Rattle.state.specs.View.{view}
 use Rattle.policyform.specs.Encode.{set_entry}
-use Rattle.policywrite.proofs.Under.{Under, under_start, under_taken, under_left, under_end, under_length}
+use Rattle.policywrite.proofs.Under.{Under}
 use Rattle.policywrite.proofs.put_sets.Given as goal
 
 abbrev pub invariant-loop-k : goal.invariant-loop-k

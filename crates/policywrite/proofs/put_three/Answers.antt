@@ -1,5 +1,4 @@
 -- Three numbers are written one after the other. Assumes nothing.
-use borrow.Author.Rules.{rules}
 use Rattle.text.proofs.Writing.{wrote-more}
 use Rattle.policywrite.proofs.put_three.Goals as goal
 

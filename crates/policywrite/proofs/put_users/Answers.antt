@@ -1,11 +1,7 @@
 -- The users that exist are written after their count. Assumes nothing.
-use borrow.Author.Rules.{rules}
 use mathlib.Core.Path.{sym, ◌∙◌}
-use Prim.Native.Nat.{◌-◌}
 use native.Mathlib.Omega.{arith}
-use Rattle.state.specs.View.{view}
-use Rattle.text.specs.Bytes.{two}
-use Rattle.policywrite.proofs.Under.{Under, under_start, under_taken, under_left, under_end, under_length}
+use Rattle.policywrite.proofs.Under.{under_start, under_taken, under_left, under_end, under_length}
 use Rattle.policywrite.proofs.put_users.Goals as goal
 
 pub loop-k-init : goal.loop-k-init

@@ -1,11 +1,8 @@
 -- The users that exist are written after their count. Assumes nothing.
-use borrow.Author.Rules.{rules}
-use mathlib.Core.Path.{sym, ◌∙◌}
 use Prim.Native.Nat.{◌-◌}
-use native.Mathlib.Omega.{arith}
 use Rattle.state.specs.View.{view}
 use Rattle.text.specs.Bytes.{two}
-use Rattle.policywrite.proofs.Under.{Under, under_start, under_taken, under_left, under_end, under_length}
+use Rattle.policywrite.proofs.Under.{Under}
 use Rattle.policywrite.proofs.put_users.Given as goal
 
 abbrev pub invariant-loop-k : goal.invariant-loop-k

@@ -1,14 +1,12 @@
 -- The rows hold the grants of the permissions passed. Assumes nothing.
-use borrow.Author.Rules.{rules}
 use mathlib.Core.Bool.{Bool, ◌||◌}
 use mathlib.Core.Path.{◌≡◌, ap, ◌∙◌}
-use Prim.Native.Nat.{ℕ, ◌-◌, ◌≤◌, ◌<◌}
+use Prim.Native.Nat.{ℕ}
 use native.Mathlib.Omega.{arith}
-use lib.ListN.{length, length-replicate}
+use lib.ListN.{length-replicate}
 use Rattle.hierarchy.specs.Lines.{table_of}
-use Rattle.policyform.specs.Encode.{pair_in}
 use Rattle.policywrite.specs.Parts.{granted}
-use Rattle.policywrite.proofs.Turning.{grant_below, turn-start, turn_step, turn_end}
+use Rattle.policywrite.proofs.Turning.{turn-start, turn_step, turn_end}
 use Rattle.policywrite.proofs.turn.Goals as goal
 
 pub loop-p-init : goal.loop-p-init

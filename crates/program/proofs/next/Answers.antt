@@ -1,5 +1,4 @@
 -- What is printed next, by the four cases. Assumes nothing.
-use borrow.Author.Rules.{rules}
 use mathlib.Core.Bool.{false}
 use mathlib.Core.Path.{refl}
 use Rattle.text.proofs.Putting.{put-none}

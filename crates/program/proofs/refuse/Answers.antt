@@ -1,5 +1,4 @@
 -- `14` with no result, and one line more that was not answered 0. Assumes nothing.
-use borrow.Author.Rules.{rules}
 use mathlib.Core.Path.{refl}
 use Rattle.program.proofs.refuse.Goals as goal
 

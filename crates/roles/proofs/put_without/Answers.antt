@@ -1,5 +1,4 @@
 -- The four stores, one after the other, each counting from what the one before it left. Assumes nothing.
-use borrow.Author.Rules.{rules}
 use mathlib.Core.Path.{◌≡◌, ap, ap₂, ◌∙◌}
 use Prim.Native.Nat.{ℕ, ◌-◌}
 use Rattle.roleset.specs.Roles.{without}

@@ -1,11 +1,10 @@
 -- Both tests of `role` are refusals of the sheet; past them the role stands among the roles. Assumes nothing.
-use borrow.Author.Rules.{rules}
 use mathlib.Core.Bool.{false}
 use mathlib.Core.List.{[]}
 use mathlib.Core.Path.{◌≡◌, sym, ap, ◌∙◌}
 use Prim.Native.Nat.{ℕ}
 use Rattle.roleset.specs.Roles.{has, with}
-use Rattle.model.specs.Model.{Model, with_roles}
+use Rattle.model.specs.Model.{with_roles}
 use Rattle.model.specs.Sheet.{verdict, settle, done}
 use Rattle.model.specs.commands.Naming.{role_beyond}
 use Rattle.model.specs.commands.Users.{role}

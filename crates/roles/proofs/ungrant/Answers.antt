@@ -1,5 +1,4 @@
 -- Where the role holds the permission, the store takes it out and counts one less; where it does not, nothing is stored. Assumes nothing.
-use borrow.Author.Rules.{rules}
 use mathlib.Core.Path.{sym, ap, ◌∙◌}
 use Prim.Native.Nat.{ℕ, ◌-◌, ◌<◌, ◌^◌}
 use native.Mathlib.Omega.{arith}

@@ -1,10 +1,8 @@
 -- The loop's invariant: the role holds no permission below p any longer, and the kept count is as many less as held one. Assumes nothing.
-use borrow.Author.Rules.{rules}
-use mathlib.Core.Path.{◌≡◌, ◌∙◌}
+use mathlib.Core.Path.{◌≡◌}
 use Prim.Native.Nat.{◌≤◌, ◌-◌}
-use native.Mathlib.Omega.{arith}
 use Rattle.state.specs.View.{view}
-use Rattle.roles.proofs.Grants.{so_far, grants-start, grants-more, grants-end}
+use Rattle.roles.proofs.Grants.{so_far}
 use Rattle.roles.proofs.ungrant_all.Given as goal
 
 abbrev pub invariant-loop-p : goal.invariant-loop-p

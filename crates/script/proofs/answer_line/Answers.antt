@@ -1,5 +1,4 @@
 -- The line that was read is obeyed or asked; a text that is no line is answered 14. Assumes nothing.
-use borrow.Author.Rules.{rules}
 use mathlib.Core.Path.{◌≡◌, refl, sym}
 use Prim.Native.Nat.{◌≤◌, ◌-◌}
 use native.Mathlib.Omega.{arith}

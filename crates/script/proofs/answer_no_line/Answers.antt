@@ -1,5 +1,4 @@
 -- `14` with no result. Assumes nothing.
-use borrow.Author.Rules.{rules}
 use mathlib.Core.Path.{refl}
 use Rattle.script.proofs.answer_no_line.Goals as goal
 

@@ -1,5 +1,4 @@
 -- The answer's number, its results and LF, one after another. Assumes nothing.
-use borrow.Author.Rules.{rules}
 use Rattle.text.specs.Putting.{Put}
 use Rattle.text.proofs.Putting.{put_then}
 use Rattle.decimal.specs.Decimal.{numbered}

@@ -1,5 +1,4 @@
 -- The word, the two counts and LF, one after another. Assumes nothing.
-use borrow.Author.Rules.{rules}
 use Rattle.text.proofs.Putting.{put_then}
 use Rattle.script.specs.Script.{total_text}
 use Rattle.script.proofs.total_text.Goals as goal

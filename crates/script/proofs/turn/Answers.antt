@@ -1,5 +1,4 @@
 -- The line at the place is answered and counted. Assumes nothing.
-use borrow.Author.Rules.{rules}
 use mathlib.Core.Path.{ap, ◌∙◌}
 use mathlib.Core.Bool.{Bool}
 use Rattle.textlines.specs.Tallies.{counted}

@@ -1,12 +1,11 @@
 -- The refusals that `activate` begins with are told as they are found, and so are the three after them; past all, the store leaves the session with
 -- the role. Assumes nothing.
-use borrow.Author.Rules.{rules}
 use borrow.Author.Tests.{not-true, not-false}
-use mathlib.Core.Bool.{Bool, false, not}
+use mathlib.Core.Bool.{false, not}
 use mathlib.Core.Path.{◌≡◌, sym, ap, ◌∙◌}
 use Prim.Native.Nat.{ℕ}
 use Rattle.roleset.specs.Roles.{has, with}
-use Rattle.model.specs.Model.{Model, Session}
+use Rattle.model.specs.Model.{Session}
 use Rattle.model.specs.Sheet.{verdict, settle}
 use Rattle.model.specs.Words.{reached, authorised, dynamic_broken}
 use Rattle.model.specs.commands.Sessions.{activate, active_set}

@@ -1,5 +1,4 @@
 -- The rule is asked of what the walk meets. Assumes nothing.
-use borrow.Author.Rules.{rules}
 use mathlib.Core.Path.{◌≡◌, ap, ◌∙◌}
 use Rattle.model.specs.Words.{breaks_some}
 use Rattle.state.specs.View.{view}

@@ -1,12 +1,10 @@
 -- The refusals that `drop` begins with are told as they are found; past them and the fourth, the store leaves the session without the role. Assumes
 -- nothing.
-use borrow.Author.Rules.{rules}
 use borrow.Author.Tests.{not-true, not-false}
 use mathlib.Core.Bool.{not}
 use mathlib.Core.Path.{◌≡◌, sym, ap, ◌∙◌}
-use Prim.Native.Nat.{ℕ}
 use Rattle.roleset.specs.Roles.{has, without}
-use Rattle.model.specs.Model.{Model, Session}
+use Rattle.model.specs.Model.{Session}
 use Rattle.model.specs.Sheet.{verdict, settle}
 use Rattle.model.specs.commands.Sessions.{drop}
 use Rattle.state.specs.View.{view, told}

@@ -1,12 +1,10 @@
 -- Each test of `end` is a refusal of the sheet, in its order; past all three, the session is closed. Assumes nothing.
-use borrow.Author.Rules.{rules}
 use borrow.Author.Tests.{eq-eqb, ne_eqb, leb-false}
-use mathlib.Core.Bool.{Bool, false, ◌||◌}
+use mathlib.Core.Bool.{false, ◌||◌}
 use mathlib.Core.List.{[]}
 use mathlib.Core.Path.{◌≡◌, sym, ap, ◌∙◌}
-use Prim.Native.Nat.{ℕ}
 use Rattle.roleset.proofs.BoundedLaws.{or-clear}
-use Rattle.model.specs.Model.{Model, Session}
+use Rattle.model.specs.Model.{Session}
 use Rattle.model.specs.Sheet.{verdict, settle, done}
 use Rattle.model.specs.commands.Naming.{user_beyond, session_beyond, user_missing, session_missing}
 use Rattle.model.specs.commands.Sessions.{end}

@@ -1,9 +1,8 @@
 -- Each test is a refusal of the sheet, in its order; past all three, none holds. Assumes nothing.
-use borrow.Author.Rules.{rules}
 use borrow.Author.Tests.{eq-eqb, ne_eqb}
-use mathlib.Core.Bool.{Bool, false}
+use mathlib.Core.Bool.{false}
 use mathlib.Core.Path.{◌≡◌, sym, ap, ◌∙◌}
-use Rattle.model.specs.Model.{Model, Session}
+use Rattle.model.specs.Model.{Session}
 use Rattle.model.specs.Sheet.{verdict}
 use Rattle.state.specs.View.{view}
 use Rattle.sessions.proofs.Named.{beyond, missing}

@@ -1,15 +1,12 @@
 -- Each test of `ssd-drop` and `dsd-drop` is a refusal of the sheet, in its order; past all four, the smaller set is stored. Assumes nothing.
-use borrow.Author.Rules.{rules}
 use mathlib.Core.Bool.{false, not, ◌||◌}
 use mathlib.Core.List.{[]}
 use mathlib.Core.Path.{◌≡◌, sym, ap, ◌∙◌}
 use Prim.Native.Nat.{ℕ, ◌<◌}
 use Rattle.roleset.specs.Roles.{has, without}
-use Rattle.model.specs.Model.{Model, RoleSet}
 use Rattle.model.specs.Sheet.{verdict, settle, done}
 use Rattle.model.specs.commands.Naming.{set_beyond, role_beyond, role_missing}
 use Rattle.model.specs.commands.Sets.{sets_of, a_set, bad_cardinality, drop_member}
-use Rattle.model.specs.declared.Kind.{Kind}
 use Rattle.state.specs.Stores.{set_stored}
 use Rattle.state.specs.View.{view, told}
 use Rattle.state.proofs.Stored.{within}

@@ -1,15 +1,11 @@
 -- Both tests of `nossd` and `nodsd` are refusals of the sheet; past them the store leaves no set by the name. Assumes nothing.
-use borrow.Author.Rules.{rules}
 use borrow.Author.Tests.{leb-false}
 use mathlib.Core.Bool.{false}
 use mathlib.Core.List.{[]}
 use mathlib.Core.Path.{◌≡◌, sym, ap, ◌∙◌}
-use Prim.Native.Nat.{ℕ}
-use Rattle.model.specs.Model.{Model}
 use Rattle.model.specs.Sheet.{verdict, settle, done}
 use Rattle.model.specs.commands.Naming.{set_beyond}
 use Rattle.model.specs.commands.Sets.{sets_of, drop_set}
-use Rattle.model.specs.declared.Kind.{Kind}
 use Rattle.state.specs.View.{view, told}
 use Rattle.state.proofs.Stored.{placed}
 use Rattle.sets.proofs.drop_set.Goals as goal

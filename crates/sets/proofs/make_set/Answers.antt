@@ -1,17 +1,12 @@
 -- Each test of `ssd` and `dsd` is a refusal of the sheet, in its order; past them the set is stored. Assumes nothing.
-use borrow.Author.Rules.{rules}
 use mathlib.Core.Bool.{false, not, ◌||◌}
-use mathlib.Core.List.{List}
 use mathlib.Core.Path.{◌≡◌, sym, ap, ◌∙◌}
-use Prim.Native.Nat.{ℕ}
 use Rattle.roleset.specs.Roles.{subset}
 use Rattle.numbers.specs.Answers.{number_of}
 use Rattle.model.specs.Lists.{ascending, some_from, set_of}
-use Rattle.model.specs.Model.{Model}
-use Rattle.model.specs.Sheet.{Refusal, verdict, settle}
+use Rattle.model.specs.Sheet.{verdict, settle}
 use Rattle.model.specs.commands.Naming.{set_beyond}
 use Rattle.model.specs.commands.Sets.{sets_of, a_set, bad_cardinality, make_set}
-use Rattle.model.specs.declared.Kind.{Kind}
 use Rattle.state.specs.Stores.{set_stored}
 use Rattle.state.specs.View.{view, told}
 use Rattle.sets.specs.Asking.{rule_refusals}

@@ -1,5 +1,4 @@
 -- The test is the last refusal of a command that stores a set. Assumes nothing.
-use borrow.Author.Rules.{rules}
 use Rattle.model.specs.Sheet.{verdict}
 use Rattle.sets.proofs.rule_refusal.Goals as goal
 

@@ -1,18 +1,14 @@
 -- The loop's invariant: nobody passed breaks a rule of the kind. Assumes nothing.
-use borrow.Author.Rules.{rules}
-use mathlib.Core.Bool.{Bool, false}
-use mathlib.Core.List.{List}
+use mathlib.Core.Bool.{false}
 use mathlib.Core.Path.{◌≡◌, refl, sym, ◌∙◌}
-use Prim.Native.Nat.{ℕ, ◌≤◌, ◌-◌}
 use native.Mathlib.Omega.{arith}
 use lib.ListN.{length}
-use Rattle.roleset.specs.Bounded.{some}
 use Rattle.roleset.proofs.BoundedLaws.{some-start}
 use Rattle.hierarchy.specs.Lines.{table_of}
 use Rattle.model.specs.Words.{breaks_some}
 use Rattle.model.specs.commands.Sets.{sets_of}
 use Rattle.state.specs.View.{view}
-use Rattle.sweeps.proofs.Asking.{breaking, passed_walk, passed_idle, asks_walk}
+use Rattle.sweeps.proofs.Asking.{passed_walk, passed_idle, asks_walk}
 use Rattle.sweeps.proofs.ask_each.Goals as goal
 
 pub loop-i-init : goal.loop-i-init

@@ -1,17 +1,13 @@
 -- The loop's invariant: nobody passed breaks the set's rule. Assumes nothing.
-use borrow.Author.Rules.{rules}
-use mathlib.Core.Bool.{Bool, false}
-use mathlib.Core.List.{List}
-use mathlib.Core.Path.{◌≡◌, refl, sym, ◌∙◌}
-use Prim.Native.Nat.{ℕ, ◌≤◌, ◌-◌}
-use native.Mathlib.Omega.{arith}
+use mathlib.Core.Bool.{false}
+use mathlib.Core.Path.{◌≡◌}
+use Prim.Native.Nat.{◌≤◌, ◌-◌}
 use lib.ListN.{length}
 use Rattle.roleset.specs.Bounded.{some}
-use Rattle.roleset.proofs.BoundedLaws.{some-start}
 use Rattle.hierarchy.specs.Lines.{table_of}
 use Rattle.model.specs.Words.{breaks}
 use Rattle.state.specs.View.{view}
-use Rattle.sweeps.proofs.Asking.{breaking, passed_walk, passed_idle, asks_walk}
+use Rattle.sweeps.proofs.Asking.{breaking}
 use Rattle.sweeps.proofs.ask_each_of_set.Given as goal
 
 abbrev pub invariant-loop-k : goal.invariant-loop-k

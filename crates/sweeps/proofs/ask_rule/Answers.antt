@@ -1,9 +1,7 @@
 -- Having no role, having all, and else one by one, by the table of the kind. Assumes nothing.
-use borrow.Author.Rules.{rules}
 use borrow.Author.Tests.{not-true}
-use mathlib.Core.Bool.{Bool, false}
+use mathlib.Core.Bool.{false}
 use mathlib.Core.Path.{◌≡◌, sym, ◌∙◌}
-use Prim.Native.Nat.{ℕ}
 use Rattle.hierarchy.specs.Lines.{table_of}
 use Rattle.model.specs.Words.{breaks_some}
 use Rattle.model.specs.commands.Sets.{sets_of, asked_of}

@@ -1,8 +1,6 @@
 -- Having no role, and else one by one, by the table of the kind. Assumes nothing.
-use borrow.Author.Rules.{rules}
 use mathlib.Core.Bool.{Bool, false}
 use mathlib.Core.Path.{◌≡◌, sym, ◌∙◌}
-use Prim.Native.Nat.{ℕ}
 use Rattle.roleset.specs.Bounded.{some}
 use Rattle.model.specs.Words.{breaks}
 use Rattle.model.specs.commands.Sets.{asked_of, broken}

@@ -1,12 +1,9 @@
 -- The loop's invariant: no session passed is open and the user's. Assumes nothing.
-use borrow.Author.Rules.{rules}
-use mathlib.Core.Bool.{Bool, false}
-use mathlib.Core.Path.{◌≡◌, sym, ap, ◌∙◌}
-use Prim.Native.Nat.{ℕ, ◌≤◌, ◌-◌}
-use native.Mathlib.Omega.{arith}
+use mathlib.Core.Bool.{false}
+use mathlib.Core.Path.{◌≡◌}
+use Prim.Native.Nat.{◌≤◌, ◌-◌}
 use Rattle.roleset.specs.Bounded.{some}
-use Rattle.roleset.proofs.BoundedLaws.{some-start, some_more, some-intro}
-use Rattle.model.specs.commands.Users.{open_of, has_open}
+use Rattle.model.specs.commands.Users.{open_of}
 use Rattle.state.specs.View.{view}
 use Rattle.sweeps.proofs.has_open.Given as goal
 

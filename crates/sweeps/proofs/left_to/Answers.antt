@@ -1,7 +1,5 @@
 -- One session, live or closed; beyond the table its owner has no roles. Assumes nothing.
-use borrow.Author.Rules.{rules}
 use borrow.Author.Tests.{not-true, not-false}
-use mathlib.Core.Logic.{⊎_elim}
 use mathlib.Core.Path.{◌≡◌, sym, ap, ◌∙◌}
 use lib.Seq.{get_or-take}
 use Rattle.hierarchy.specs.Lines.{table_of}

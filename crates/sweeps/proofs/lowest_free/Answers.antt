@@ -1,12 +1,10 @@
 -- The loop's invariant: looking from k on finds what is asked. Assumes nothing.
-use borrow.Author.Rules.{rules}
 use mathlib.Core.Path.{◌≡◌, refl, sym, ap, ◌∙◌}
-use Prim.Native.Nat.{ℕ, ◌≤◌, ◌-◌}
+use Prim.Native.Nat.{ℕ}
 use native.Mathlib.Omega.{arith}
 use borrow.Author.Tests.{not-true, not-false}
 use Rattle.numbers.specs.declared.Session as numbered
 use Rattle.model.specs.Model.{Session}
-use Rattle.model.specs.commands.Sessions.{free_from}
 use Rattle.state.specs.View.{view}
 use Rattle.sweeps.proofs.Free.{look_on, look_found, look_end}
 use Rattle.sweeps.proofs.lowest_free.Goals as goal

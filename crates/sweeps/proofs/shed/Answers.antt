@@ -1,13 +1,11 @@
 -- The loop's invariant: the places passed hold what their sessions keep. Assumes nothing.
-use borrow.Author.Rules.{rules}
 use mathlib.Core.Path.{◌≡◌, ap, ◌∙◌}
-use Prim.Native.Nat.{◌≤◌, ◌-◌}
 use native.Mathlib.Omega.{arith}
 use Rattle.hierarchy.specs.Lines.{table_of}
 use Rattle.model.specs.Model.{Session}
 use Rattle.model.specs.Words.{shedded}
-use Rattle.state.specs.View.{part, view}
-use Rattle.sweeps.proofs.Sweeping.{Swept, swept_start, swept_store, zeros}
+use Rattle.state.specs.View.{part}
+use Rattle.sweeps.proofs.Sweeping.{swept_start, swept_store, zeros}
 use Rattle.sweeps.proofs.shed.Goals as goal
 
 pub loop-k-init : goal.loop-k-init

@@ -1,9 +1,7 @@
 -- The loop's invariant: the sets passed are without the role, and the others as before; those that had it are counted. Assumes nothing.
-use borrow.Author.Rules.{rules}
 use mathlib.Core.Bool.{Bool}
-use mathlib.Core.Logic.{⊎_elim}
 use mathlib.Core.Path.{◌≡◌, refl, sym, ap, ◌∙◌}
-use Prim.Native.Nat.{ℕ, ◌≤◌, ◌<◌, ◌-◌}
+use Prim.Native.Nat.{ℕ, ◌<◌}
 use native.Mathlib.Omega.{arith}
 use lib.ListN.{length}
 use lib.Seq.{ext_get_or}
@@ -12,7 +10,7 @@ use Rattle.roleset.specs.Roles.{has, without}
 use Rattle.roleset.proofs.BoundedLaws.{tally-le, tally-step}
 use Rattle.hierarchy.specs.Lines.{table_of}
 use Rattle.sweeps.proofs.Strips.{strip_at, strip_length}
-use Rattle.sweeps.proofs.Sweeping.{Swept, swept_start, swept_store}
+use Rattle.sweeps.proofs.Sweeping.{swept_start, swept_store}
 use Rattle.sweeps.proofs.strip.Goals as goal
 use Rattle.sweeps.proofs.strip.Goals.{then-has, else-has}
 

@@ -1,18 +1,11 @@
 -- The loop's invariant: the sets passed are without the role, and the others as before; those that had it are counted. Assumes nothing.
-use borrow.Author.Rules.{rules}
-use mathlib.Core.Bool.{Bool}
-use mathlib.Core.Logic.{⊎_elim}
-use mathlib.Core.Path.{◌≡◌, refl, sym, ap, ◌∙◌}
-use Prim.Native.Nat.{ℕ, ◌≤◌, ◌<◌, ◌-◌}
-use native.Mathlib.Omega.{arith}
+use mathlib.Core.Path.{◌≡◌}
+use Prim.Native.Nat.{◌≤◌, ◌-◌}
 use lib.ListN.{length}
-use lib.Seq.{ext_get_or}
-use Rattle.roleset.specs.Bounded.{bit, tally}
+use Rattle.roleset.specs.Bounded.{tally}
 use Rattle.roleset.specs.Roles.{has, without}
-use Rattle.roleset.proofs.BoundedLaws.{tally-le, tally-step}
 use Rattle.hierarchy.specs.Lines.{table_of}
-use Rattle.sweeps.proofs.Strips.{strip_at, strip_length}
-use Rattle.sweeps.proofs.Sweeping.{Swept, swept_start, swept_store}
+use Rattle.sweeps.proofs.Sweeping.{Swept}
 use Rattle.sweeps.proofs.strip.Given as goal
 
 abbrev pub invariant-loop-k : goal.invariant-loop-k

@@ -1,10 +1,7 @@
 -- Both tests of `end-all` are refusals of the sheet; past them the sweep ends the user's sessions. Assumes nothing.
-use borrow.Author.Rules.{rules}
 use mathlib.Core.Bool.{false, not}
 use mathlib.Core.List.{[]}
 use mathlib.Core.Path.{◌≡◌, sym, ap, ◌∙◌}
-use Prim.Native.Nat.{ℕ}
-use Rattle.model.specs.Model.{Model}
 use Rattle.model.specs.Sheet.{verdict, settle, done}
 use Rattle.model.specs.commands.Naming.{user_beyond, user_missing}
 use Rattle.model.specs.commands.Users.{end_all}

@@ -1,12 +1,10 @@
 -- The three tests of `nouser` are refusals of the sheet; past them the stores take the user and its assignments, and count them. Assumes nothing.
-use borrow.Author.Rules.{rules}
 use borrow.Author.Tests.{leb-false}
 use mathlib.Core.Bool.{false, not}
 use mathlib.Core.List.{[]}
 use mathlib.Core.Path.{◌≡◌, sym, ap, ap₂, ◌∙◌}
 use Prim.Native.Nat.{ℕ, ◌-◌}
 use Rattle.roleset.specs.Roles.{count}
-use Rattle.model.specs.Model.{Model}
 use Rattle.model.specs.Sheet.{verdict, settle, done}
 use Rattle.model.specs.commands.Naming.{user_beyond, user_missing}
 use Rattle.model.specs.commands.Users.{has_open, nouser}

@@ -1,10 +1,8 @@
 -- The places are filled in turn, each with the roles that hold its operation on the object. Assumes nothing.
-use borrow.Author.Rules.{rules}
 use Prim.Native.Nat.{◌-◌}
-use native.Mathlib.Omega.{arith}
 use Rattle.model.specs.Words.{permission}
 use Rattle.state.specs.View.{view}
-use Rattle.reviews.proofs.Filling.{Filled, fill_start, fill_next, fill_end}
+use Rattle.reviews.proofs.Filling.{Filled}
 use Rattle.reviews.proofs.listing.holders_on.Given as goal
 
 abbrev pub invariant-loop-op : goal.invariant-loop-op

@@ -1,9 +1,7 @@
 -- The places are filled in turn, each with its role alone. Assumes nothing.
-use borrow.Author.Rules.{rules}
 use Prim.Native.Nat.{◌-◌}
-use native.Mathlib.Omega.{arith}
 use Rattle.roleset.specs.Roles.{none, with}
-use Rattle.reviews.proofs.Filling.{Filled, fill_start, fill_next, fill_end}
+use Rattle.reviews.proofs.Filling.{Filled}
 use Rattle.reviews.proofs.listing.singles.Given as goal
 
 abbrev pub invariant-loop-r : goal.invariant-loop-r

@@ -1,13 +1,9 @@
 -- The places are filled in turn, each with role 0 where its set is there. Assumes nothing.
-use borrow.Author.Rules.{rules}
 use mathlib.Core.Path.{ap}
-use Prim.Native.Nat.{◌-◌}
 use native.Mathlib.Omega.{arith}
 use Rattle.roleset.specs.Bounded.{bit}
 use Rattle.model.specs.Model.{RoleSet}
-use Rattle.model.specs.commands.Sets.{sets_of}
-use Rattle.state.specs.View.{view}
-use Rattle.reviews.proofs.Filling.{Filled, fill_start, fill_next, fill_end}
+use Rattle.reviews.proofs.Filling.{fill_start, fill_next, fill_end}
 use Rattle.reviews.proofs.listing.there.Goals as goal
 
 pub loop-n-init : goal.loop-n-init

@@ -1,14 +1,8 @@
 -- The list of the places passed stands at the front of the buffer, and the rest is as before. Assumes nothing.
-use borrow.Author.Rules.{rules}
-use mathlib.Core.Bool.{Bool}
-use mathlib.Core.Logic.{⊎_elim}
-use mathlib.Core.Path.{◌≡◌, sym, ap, ◌∙◌}
-use Prim.Native.Nat.{ℕ, ◌≤◌, ◌-◌}
-use native.Mathlib.Omega.{arith}
+use Prim.Native.Nat.{◌≤◌, ◌-◌}
 use lib.ListN.{length}
-use Rattle.roleset.specs.Bounded.{members}
-use Rattle.reviews.specs.Reviewing.{touched, meeting}
-use Rattle.reviews.proofs.Writing.{Written, over, written_start, written_stay, written_few, written_length, written_fits, written_next}
+use Rattle.reviews.specs.Reviewing.{touched}
+use Rattle.reviews.proofs.Writing.{Written}
 use Rattle.reviews.proofs.listing.write.Given as goal
 
 abbrev pub invariant-loop-k : goal.invariant-loop-k
