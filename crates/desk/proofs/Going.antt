@@ -1,34 +1,98 @@
 -- The script on its way from the policy that the file gives, and what is saved of it. Assumes nothing.
 use mathlib.Core.List.{List, [], ◌∷◌, ◌++◌}
 use mathlib.Core.Logic.{inl, inr}
-use mathlib.Core.Path.{◌≡◌, sym, ap, subst, ◌∙◌}
-use Prim.Native.Nat.{ℕ, ◌≤◌}
+use mathlib.Core.Bool.{true, false}
+use mathlib.Core.Path.{◌≡◌, refl, sym, ap, subst, ◌∙◌}
+use Prim.Native.Nat.{ℕ, ◌+◌, ◌*◌, ◌≤◌, ◌<◌}
 use native.Mathlib.Omega.{arith}
 use lib.ListN.{length, take, length-append}
 use lib.Seq.{length-take-le}
-use Rattle.io.specs.Counts.{IsPrefixLen}
+use Rattle.std.specs.declared.option.Option.{Option}
+use Rattle.std.specs.Io.KnownBytes.{Appends}
+use Rattle.streams.specs.Counts.{IsPrefixLen}
 use Rattle.numbers.specs.Answers.{number_of}
 use Rattle.numbers.specs.declared.Answer.{Answer}
 use Rattle.model.specs.Model.{Model, empty}
-use Rattle.model.specs.Sheet.{Told, refused}
+use Rattle.model.specs.Sheet.{refused}
 use Rattle.state.specs.View.{view, told}
 use Rattle.text.specs.Putting.{Put}
 use Rattle.text.proofs.Putting.{put_front, put-length}
 use Rattle.decimal.specs.Decimal.{decimal, numbered}
 use Rattle.decimal.proofs.Laws.{decimal-short, numbered-short}
-use Rattle.script.specs.Script.{answer_text, line_feed}
+use Rattle.script.specs.Script.{answer_text, line_feed, run_from}
 use Rattle.policyform.specs.Encode.{encode}
 use Rattle.policyform.specs.Promises.{Loads, Saves}
 use Rattle.policyfile.proofs.Laws.{load-refused}
 use Rattle.program.specs.declared.Run.{Run}
-use Rattle.program.proofs.Placing.{Handing}
-use Rattle.desk.specs.Desk.{Gives, Leaves, Saved}
+use Rattle.program.specs.declared.Printed.{Printed}
+use Rattle.program.specs.Printing.{at_start}
+use Rattle.program.specs.Printing.{Prints as Calls}
+use Rattle.program.proofs.Placing.{Handing, hands-all, hands_none, hands-last, hands_on, piece_within, piece_next, calls_fewer, count_small}
+use Rattle.program.proofs.Whole.{calls_left}
+use Rattle.streams.specs.Writing.{WritesFront}
+use Rattle.streams.proofs.Writing.{writes_none, writes_on, writes_front, writes_all}
+use Rattle.desk.specs.Desk.{Gives, Next, Prints, PrintsTo, PrintsFront, Leaves, Saved}
 
--- So many bytes were handed out of what the script prints from that policy, and the rest is left.
-pub record Going (file script l : List ℕ) (r : Run) (count : ℕ) : Type 0 where
+-- So many bytes were handed out of what the script prints from that policy, and the rest is left; where it is known what the writer holds, it holds
+-- them after what it held before.
+pub record Going (file script l : List ℕ) (r : Run) (count : ℕ) (first held : Option (List ℕ)) : Type 0 where
   pub policy : Model
   pub gives : Gives file policy
   pub handing : Handing policy script l r count
+  pub printed : Appends first held (take count (run_from policy script))
+
+pub begins : (file script l : List ℕ) (r : Run) (held : Option (List ℕ)) → Gives file (view l) → r ≡ at_start → Going file script l r 0 held held
+begins file script l r held g e = record { policy = view l; gives = g; handing = hands-all _ _ _ _ refl e; printed = writes_none held (run_from (view l) script) }
+
+-- once the total was handed out, all was
+module _ (file script l : List ℕ) (r : Run) (count : ℕ) (first held : Option (List ℕ)) (h : Going file script l r count first held) (over : r.over ≡ true) where
+  pub going_prints : Prints file script count
+  going_prints = record { policy = h.policy; gives = h.gives; all = hands_none _ _ _ _ _ h.handing over }
+
+  pub going_writes : PrintsTo file script first held
+  going_writes = record { policy = h.policy; gives = h.gives; all = writes_all first held (run_from h.policy script) count (hands_none _ _ _ _ _ h.handing over) h.printed }
+
+  pub going_leaves : Leaves file script (view l)
+  going_leaves = record { policy = h.policy; gives = h.gives; left = hands-last _ _ _ _ _ h.handing over }
+
+-- one call, whose piece is put into the buffer
+module _ (file script l : List ℕ) (r : Run) (before after : List ℕ) (x : Printed) (next : List ℕ) (count : ℕ) (first held : Option (List ℕ)) (room : length before ≡ 32768) (h : Going file script l r count first held) (e : r.over ≡ false) (t : Calls script l r before after x next) where
+  enough : 24582 ≤ length before
+  enough = omega (arith, room)
+
+  pub part_within : x.len ≤ length after
+  part_within = piece_within _ _ _ _ _ _ _ _ _ enough h.handing e t
+
+  pub part_long : length (take x.len after) ≡ x.len
+  part_long = length-take-le x.len after part_within
+
+  pub part_next : Next file script count (take x.len after)
+  part_next = record { policy = h.policy; gives = h.gives; next = piece_next _ _ _ _ _ _ _ _ _ enough h.handing e t }
+
+  pub part_small : count + length (take x.len after) ≤ 24582 * (length script + 1)
+  part_small = omega (arith, part_long, count_small _ _ _ _ _ _ _ _ _ enough h.handing e t)
+
+  pub part_fewer : calls_left script x.run < calls_left script r
+  part_fewer = calls_fewer _ _ _ _ _ _ _ _ _ enough h.handing e t
+
+  pub part_room : length after ≡ 32768
+  part_room = put-length t.puts.text ∙ room
+
+  -- a front of it is written
+  pub going_front : (now : Option (List ℕ)) → WritesFront (take x.len after) held now → PrintsFront file script first now
+  going_front now f =
+      record { policy = h.policy; gives = h.gives; front = writes_front first held now (run_from h.policy script) (take x.len after) count h.handing.within h.printed (piece_next _ _ _ _ _ _ _ _ _ enough h.handing e t) f }
+
+  -- it is written, and counted
+  pub going_on : (last : ℕ) (now : Option (List ℕ)) → last ≡ count + length (take x.len after) → Appends held now (take x.len after) → Going file script next x.run last first now
+  going_on last now counted w =
+      let same : last ≡ count + x.len = omega (arith, counted, part_long) in
+      record {
+        policy = h.policy;
+        gives = h.gives;
+        handing = subst (λ (n : ℕ). Handing h.policy script next x.run n) (sym same) (hands_on _ _ _ _ _ _ _ _ _ enough h.handing e t);
+        printed = writes_on first held now (run_from h.policy script) (take x.len after) count last counted h.printed w (piece_next _ _ _ _ _ _ _ _ _ enough h.handing e t);
+      }
 
 -- A load into the empty policy is done and gives what the state holds, or it is refused.
 pub given : (file l : List ℕ) (a : Answer) → Loads empty file (told a l) → number_of a ≡ 0 → Gives file (view l)

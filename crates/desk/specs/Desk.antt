@@ -1,5 +1,9 @@
 -- What the desk prints and saves for a policy file and a script. Assumes nothing.
-use Rattle.std.specs.Prelude.{List, [], ◌≡◌, ℕ, length, take, drop}
+use Rattle.std.specs.Prelude.{false, List, [], ◌++◌, ◌≡◌, ℕ, ◌-◌, ◌^◌, length, take, drop, codes}
+use Rattle.std.specs.declared.option.Option.{Option}
+use Rattle.std.specs.Fmt.{digits, format_spec, padded_integral}
+use Rattle.std.specs.Io.KnownBytes.{Appends}
+use Rattle.streams.specs.Writing.{WritesFront}
 use Rattle.model.specs.Model.{Model, empty}
 use Rattle.model.specs.Sheet.{done, refused}
 use Rattle.script.specs.Script.{answer_text, run_from, after_script}
@@ -40,3 +44,21 @@ pub record Refused (file bytes : List ℕ) : Type 0 where
   pub refuses : Loads empty file (refused answer empty)
   pub not_done : answer ≡ 0 → ⊥
   pub is : bytes ≡ answer_text answer []
+
+-- Where it is known which bytes a writer holds, it holds all that the script prints from the policy that the file gives, after those that it held
+-- before.
+pub record PrintsTo (file script : List ℕ) (before after : Option (List ℕ)) : Type 0 where
+  pub policy : Model
+  pub gives : Gives file policy
+  pub all : Appends before after (run_from policy script)
+
+-- Where it is known which bytes a writer holds, it holds a front of what the script prints from the policy that the file gives, and nothing else, after
+-- those that it held before.
+pub record PrintsFront (file script : List ℕ) (before after : Option (List ℕ)) : Type 0 where
+  pub policy : Model
+  pub gives : Gives file policy
+  pub front : WritesFront (run_from policy script) before after
+
+-- The name of the file beside: the name, `.part-` and the number in sixteen hexadecimal digits, with zeros in front.
+abbrev pub part_name : List ℕ → ℕ → List ℕ
+part_name name number = name ++ (codes ".part-" ++ padded_integral (format_spec 32 0 4 16 (2 ^ 64 - 1)) false [] (digits 16 false number))

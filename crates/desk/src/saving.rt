@@ -1,23 +1,30 @@
 // A file is saved whole or not at all: it is written beside its name, flushed, and only then given the name. Until then what stood under the name is
 // as it was. Where a step fails, the file beside is removed and what failed is said on standard error.
+ghost use Rattle.std.specs.Prelude.{◌≡◌, ◌<◌, IfOk, OnOk, string_bytes};
+ghost use Rattle.std.specs.Io.KnownBytes.{Appends};
+ghost use Rattle.std.specs.Str.{IsCharBoundary};
 ghost use Rattle.state.specs.View.{view};
-ghost use Rattle.io.specs.Counts.{IsPrefixLen};
-ghost use Rattle.desk.specs.Desk.{Leaves, Saved};
+ghost use Rattle.streams.specs.Counts.{IsPrefixLen};
+ghost use Rattle.desk.specs.Desk.{Leaves, Saved, part_name};
 
-use libc::STDERR_FILENO;
+use crate::say;
 use state::PLACES;
-
-// Longer than any path with what is put after it, so that a name that is too long is refused and not cut short.
-const ROOM: usize = 8192;
+use std::alloc::{AllocError, Allocator};
+use std::fs::{OpenFile, OpenOptions};
+use std::io::Write;
+use std::process::ExitCode;
+use std::random::RandomSource;
+use std::rt::Files;
+use std::{fs, io};
 
 fn wide(b: u8) -> u64 {
     b as u64
 }
 
 // A number that no other run will draw.
-fn random() -> u64 {
+fn random(rt: &impl RandomSource) -> u64 {
     let mut b = [0u8; 8];
-    libc::getentropy(&mut b);
+    let _ = rt.fill_bytes(&mut b);
     wide(b[0])
         | wide(b[1]) << 8
         | wide(b[2]) << 16
@@ -28,95 +35,108 @@ fn random() -> u64 {
         | wide(b[7]) << 56
 }
 
-// Puts the name of the file beside: the name, `.part-` and sixteen random digits.
-fn put_part_name(name: &[u8], part: &mut [u8; ROOM]) -> usize
-    ensures { IsPrefixLen result part.new }
+// Makes the name of the file beside: the name, `.part-` and the number's sixteen digits.
+fn put_part_name<A: Allocator>(alloc: A, name: &str, number: u64) -> Result<String<A>, AllocError>
+    ensures { IfOk result (λ part. string_bytes part ≡ part_name name.now number) }
 {
-    let mut digits = [0u8; 16];
-    let count = io::hex(random(), 16, &mut digits);
-    let stem = text::put_text(part, 0, name);
-    let middle = text::put_text(part, stem, b".part-");
-    text::put_text(part, middle, &digits[..count])
+    format!(in alloc; "{name}.part-{number:016x}")
 }
 
 // Writes the file of the policy that is left, and waits until its device has it.
-fn fill(file: &[u8], script: &[u8], fd: i32, bytes: &[u8]) -> bool
+fn fill<F: Write + OpenFile>(file: &[u8], script: &[u8], to: &mut F, bytes: &[u8]) -> io::Result<()>
     requires { Saved file.now script.now bytes.now }
+    ensures { OnOk result (Appends (F.contents to.old) (F.contents to.new) bytes.now) }
 {
-    if !io::write_all(fd, bytes) {
-        return false;
-    }
-    libc::fsync(fd) == 0
+    streams::write_whole(to, bytes)?;
+    to.sync_all()
 }
 
 // How many bytes of the name stand up to its last slash.
-fn folder_len(name: &[u8]) -> usize
-    ensures { IsPrefixLen result name.now }
+fn folder_len(name: &str) -> usize
+    ensures within { IsPrefixLen result name.now }
+    ensures text { 0 < result → IsCharBoundary name.now result }
 {
-    let mut len = name.len();
-    while 0 < len {
-        if name[len - 1] == b'/' {
-            return len;
-        }
-        len -= 1;
+    match name.rfind('/') {
+        Some(at) => at + 1,
+        None => 0,
     }
-    0
 }
 
 // Has the folder's device keep the new name too, where the system can: until then a crash of the machine may bring the old file back, whole.
-fn flush_folder(name: &[u8]) {
+fn flush_folder(rt: &impl Files, name: &str) {
     let len = folder_len(name);
-    let fd = if len == 0 {
-        os::open_read(b".")
+    let opened = if len == 0 {
+        fs::open(rt, ".")
     } else {
-        os::open_read(&name[..len])
+        fs::open(rt, &name[..len])
     };
-    if 0 <= fd {
-        libc::fsync(fd);
-        libc::close(fd);
+    if let Ok(folder) = opened {
+        let _ = folder.sync_all();
     }
+}
+
+// Writes the bytes to a new file of the name `part`, which is then closed, and gives it the name.
+fn replace(
+    rt: &impl Files,
+    file: &[u8],
+    script: &[u8],
+    part: &str,
+    name: &str,
+    bytes: &[u8],
+) -> io::Result<()>
+    requires { Saved file.now script.now bytes.now }
+{
+    let mut to = OpenOptions::new()
+        .write(true)
+        .create_new(true)
+        .open(rt, part)?;
+    let filled = fill(file, script, &mut to, bytes);
+    drop(to);
+    let given = match filled {
+        Ok(()) => fs::rename(rt, part, name),
+        Err(e) => Err(e),
+    };
+    if given.is_err() {
+        let _ = fs::remove_file(rt, part);
+    }
+    given
 }
 
 // Saves the bytes under the name.
-fn save_bytes(file: &[u8], script: &[u8], name: &[u8], bytes: &[u8])
+fn save_bytes<R: Alloc + Files + RandomSource>(
+    rt: &R,
+    file: &[u8],
+    script: &[u8],
+    name: &str,
+    bytes: &[u8],
+) -> io::Result<()>
     requires { Saved file.now script.now bytes.now }
 {
-    let mut part = [0u8; ROOM];
-    let len = put_part_name(name, &mut part);
-    let fd = os::create(&part[..len]);
-    if fd < 0 {
-        os::fail(name);
-        return;
-    }
-    let filled = fill(file, script, fd, bytes);
-    if !filled {
-        os::fail(name);
-    }
-    libc::close(fd);
-    if filled {
-        if os::rename(&part[..len], name) == 0 {
-            flush_folder(name);
-            return;
-        }
-        os::fail(name);
-    }
-    os::unlink(&part[..len]);
+    let part = put_part_name(rt.alloc(), name, random(rt))?;
+    replace(rt, file, script, part.as_str(), name, bytes)?;
+    flush_folder(rt, name);
+    Ok(())
 }
 
 // Saves the policy that is left under the name. A policy of ours always fits the buffer.
-pub(crate) fn save_state(file: &[u8], script: &[u8], state: &[u64; PLACES], name: &[u8])
+pub(crate) fn save_state<R: Eprint + Alloc + Files + RandomSource>(
+    rt: &R,
+    file: &[u8],
+    script: &[u8],
+    state: &[u64; PLACES],
+    name: &str,
+) -> ExitCode
     requires { Leaves file.now script.now (view state.now) }
 {
     let mut out = [0u8; 36048];
     let saved = policyfile::save(state, &mut out);
     let answer = saved.answer;
     let size = saved.length;
-    if numbers::is_done(answer) {
-        save_bytes(file, script, name, &out[..size]);
-    } else {
-        io::write_all(
-            STDERR_FILENO,
-            b"desk: nothing is saved: no room for the file\n",
-        );
+    if !numbers::is_done(answer) {
+        return say(rt, "desk: nothing is saved: no room for the file");
+    }
+    match save_bytes(rt, file, script, name, &out[..size]) {
+        Ok(()) => ExitCode::SUCCESS,
+        Err(e) => say(rt, format_args!("{name}: {e}")),
     }
 }

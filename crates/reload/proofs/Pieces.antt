@@ -1,23 +1,32 @@
 -- The two pieces that are printed for a file: the answer's line, and the file again. Assumes nothing.
-use mathlib.Core.Bool.{true, false}
+use mathlib.Core.Bool.{Bool, true, false}
 use mathlib.Core.List.{List, [], ◌∷◌, ◌++◌, append-nil}
 use mathlib.Core.Logic.{inl, inr}
-use mathlib.Core.Path.{◌≡◌, refl, sym, ap, ◌∙◌}
+use mathlib.Core.Path.{◌≡◌, refl, sym, ap, ap₂, subst, ◌∙◌}
 use Prim.Native.Nat.{ℕ, ◌+◌, ◌≤◌}
 use native.Mathlib.Omega.{arith}
 use lib.Dec.{eqb}
-use lib.ListN.{length, take, drop, length-append}
-use lib.Seq.{take_at, drop_at, take-length}
+use lib.ListN.{length, take, length-append, length-take}
+use Rattle.streams.specs.Writing.{WritesFront}
+use Rattle.streams.proofs.Writing.{writes_none, writes_front}
+use lib.Seq.{take_at, drop_at, take-length, length-take-le}
+use borrow.Author.Tests.{eqb-true}
+use Rattle.numbers.specs.Answers.{number_of}
+use Rattle.numbers.specs.declared.Answer.{Answer}
+use Rattle.state.specs.View.{view, told}
+use Rattle.std.specs.declared.option.Option.{Option}
+use Rattle.std.specs.Io.KnownBytes.{Appends}
+use Rattle.std.proofs.KnownBytes.{Appends-trans}
 use Rattle.model.specs.Model.{Model, empty}
 use Rattle.model.specs.Sheet.{Told}
 use Rattle.text.specs.Putting.{Put}
-use Rattle.text.proofs.Putting.{put_front, put-length}
+use Rattle.text.proofs.Putting.{put_front, put-length, put-within}
 use Rattle.decimal.specs.Decimal.{decimal}
 use Rattle.decimal.proofs.Laws.{decimal-short}
 use Rattle.policyform.specs.Encode.{encode}
 use Rattle.policyform.specs.Promises.{Loads, Saves}
 use Rattle.policyfile.proofs.Laws.{loads-one, loaded, sound-size}
-use Rattle.reload.specs.Reloading.{answer_line, reloaded, NextFor, AllFor}
+use Rattle.reload.specs.Reloading.{answer_line, reloaded, NextFor, AllFor, PrintsFor, FrontFor}
 
 -- what is printed, in its two cases
 with-file : (answer : ℕ) (file : List ℕ) → answer ≡ 0 → reloaded answer file ≡ answer_line answer ++ file
@@ -59,6 +68,15 @@ module _ (file : List ℕ) (t : Told) (l : Loads empty file t) (line after : Lis
   pub file_all : t.answer ≡ 0 → (size : ℕ) → size ≡ length file → AllFor file (len + size)
   file_all e size is told x = omega (arith, long, is, length-append (answer_line t.answer) file, ap length (ap (λ (n : ℕ). reloaded n file) (one told x) ∙ with-file t.answer file e))
 
+  -- what a writer holds, where that is known, once the line was written, and once the file was written too
+  pub line_prints : eqb t.answer 0 ≡ false → (a b : Option (List ℕ)) → Appends a b (take len after) → PrintsFor file a b
+  line_prints e a b w told x = subst (Appends a b) (stands ∙ sym (ap (λ (n : ℕ). reloaded n file) (one told x) ∙ without-file t.answer file e)) w
+
+  pub file_prints : t.answer ≡ 0 → (bytes : List ℕ) → bytes ≡ file → (a b c : Option (List ℕ)) → Appends a b (take len after) → Appends b c bytes → PrintsFor file a c
+  file_prints e bytes is a b c w v told x =
+      let all : take len after ++ bytes ≡ reloaded told.answer file = ap₂ (λ (m n : List ℕ). m ++ n) stands is ∙ sym (ap (λ (n : ℕ). reloaded n file) (one told x) ∙ with-file t.answer file e) in
+      subst (Appends a c) all (Appends-trans a b c _ _ w v)
+
 -- What was loaded is saved as the file again.
 pub record Again (file after : List ℕ) (n : ℕ) : Type 0 where
   pub within : n ≤ length after
@@ -76,3 +94,71 @@ saved-again file t l e out after a n room (inr x) =
   where
     put : Put out 0 (encode t.after) after n
     put = record { holds = x.stored; ends = omega (arith, x.long, x.fits) }
+
+-- The file was loaded into the empty state, which told this answer and left this state, and the answer's line was put.
+pub record Answered (file state line after : List ℕ) (a : Answer) (len : ℕ) : Type 0 where
+  pub loads : Loads empty file (told a state)
+  pub put : Put line 0 (answer_line (told a state).answer) after len
+  pub room : 6 ≤ length line
+
+pub answered : (file before state line after : List ℕ) (a : Answer) (len : ℕ) → view before ≡ empty → Loads (view before) file (told a state) → Put line 0 (answer_line (number_of a)) after len → 6 ≤ length line → Answered file state line after a len
+unfolding told
+answered file before state line after a len e l p r = record { loads = subst (λ (m : Model). Loads m file (told a state)) e l; put = p; room = r }
+
+module _ (file state line after : List ℕ) (a : Answer) (len : ℕ) (x : Answered file state line after a len) where
+  pub line_len : length (take len after) ≡ len
+  line_len = length-take-le len after (omega (arith, put-within x.put (omega arith), put-length x.put))
+
+  -- it was counted, from 0 on
+  line_counted : (count : ℕ) → count ≡ 0 + length (take len after) → count ≡ len
+  line_counted count h = omega (arith, h, line_len)
+
+  pub answer_next : NextFor file 0 (take len after)
+  answer_next = line_next file (told a state) x.loads line after len x.put x.room
+
+  pub answer_front : (b c : Option (List ℕ)) → WritesFront (take len after) b c → FrontFor file b c
+  answer_front b c f told l = writes_front b b c (reloaded told.answer file) (take len after) 0 (omega arith) (writes_none b (reloaded told.answer file)) (answer_next told l) f
+
+  is_zero : (done : Bool) → done ≡ eqb (number_of a) 0 → done ≡ true → (told a state).answer ≡ 0
+  unfolding told
+  is_zero done e d = eqb-true _ _ (sym e ∙ d)
+
+  is_not : (done : Bool) → done ≡ eqb (number_of a) 0 → done ≡ false → eqb (told a state).answer 0 ≡ false
+  unfolding told
+  is_not done e d = sym e ∙ d
+
+  -- where it was not loaded, that is all
+  module _ (done : Bool) (e : done ≡ eqb (number_of a) 0) (no : done ≡ false) (count : ℕ) (counted : count ≡ 0 + length (take len after)) where
+    pub answer_all : AllFor file count
+    answer_all = subst (AllFor file) (sym (line_counted count counted)) (line_all file (told a state) x.loads line after len x.put x.room (is_not done e no))
+
+    pub answer_prints : (b c : Option (List ℕ)) → Appends b c (take len after) → PrintsFor file b c
+    answer_prints = line_prints file (told a state) x.loads line after len x.put x.room (is_not done e no)
+
+  -- where it was, it is saved again
+  module _ (done : Bool) (e : done ≡ eqb (number_of a) 0) (yes : done ≡ true) (count : ℕ) (counted : count ≡ 0 + length (take len after)) (out saved : List ℕ) (answer size : ℕ) (room : 36048 ≤ length out) (s : Saves (view state) out saved answer size) where
+    again : Again file saved size
+    unfolding told
+    again = saved-again file (told a state) x.loads (is_zero done e yes) out saved answer size room s
+
+    pub saved_within : size ≤ length saved
+    saved_within = again.within
+
+    pub saved_next : NextFor file count (take size saved)
+    saved_next = subst (λ (n : ℕ). NextFor file n (take size saved)) (sym (line_counted count counted)) (file_next file (told a state) x.loads line after len x.put x.room (is_zero done e yes) (take size saved) again.front)
+
+    pub saved_all : (last : ℕ) → last ≡ count + length (take size saved) → AllFor file last
+    saved_all last h =
+        let same : last ≡ len + size = omega (arith, h, counted, line_len, length-take-le size saved again.within) in
+        subst (AllFor file) (sym same) (file_all file (told a state) x.loads line after len x.put x.room (is_zero done e yes) size again.size)
+
+    pub saved_prints : (b c d : Option (List ℕ)) → Appends b c (take len after) → Appends c d (take size saved) → PrintsFor file b d
+    saved_prints = file_prints file (told a state) x.loads line after len x.put x.room (is_zero done e yes) (take size saved) again.front
+
+    pub saved_front : (b c d : Option (List ℕ)) → Appends b c (take len after) → WritesFront (take size saved) c d → FrontFor file b d
+    saved_front b c d w f told l =
+        let text = reloaded told.answer file in
+        let same : count ≡ length (take len after) = omega (arith, counted) in
+        let first : take len after ≡ take count text = answer_next told l ∙ ap (λ (n : ℕ). take n text) (sym same) in
+        let within : count ≤ length text = omega (arith, same, ap length first, length-take count text) in
+        writes_front b c d text (take size saved) count within (subst (Appends b c) first w) (saved_next told l) f

@@ -1,6 +1,8 @@
 -- What the program prints for a policy file. Assumes nothing.
-use Rattle.std.specs.Prelude.{Bool, true, false, List, [], ◌∷◌, ◌++◌, ◌≡◌, ℕ, eqb, length}
-use Rattle.streams.specs.Writing.{Next}
+use Rattle.std.specs.Prelude.{true, false, List, [], ◌∷◌, ◌++◌, ◌≡◌, ℕ, eqb, length}
+use Rattle.std.specs.declared.option.Option.{Option}
+use Rattle.std.specs.Io.KnownBytes.{Appends}
+use Rattle.streams.specs.Writing.{Next, WritesFront}
 use Rattle.model.specs.Model.{empty}
 use Rattle.model.specs.Sheet.{Told}
 use Rattle.decimal.specs.Decimal.{decimal}
@@ -21,3 +23,11 @@ NextFor file count bytes = (told : Told) → Loads empty file told → Next (rel
 -- So many bytes are all that is printed.
 abbrev pub AllFor : List ℕ → ℕ → Type 0
 AllFor file count = (told : Told) → Loads empty file told → count ≡ length (reloaded told.answer file)
+
+-- Where it is known which bytes a writer holds, it holds all that is printed after those that it held before.
+abbrev pub PrintsFor : List ℕ → Option (List ℕ) → Option (List ℕ) → Type 0
+PrintsFor file before after = (told : Told) → Loads empty file told → Appends before after (reloaded told.answer file)
+
+-- And where a write failed, it holds a front of what is printed, and nothing else, after those that it held before.
+abbrev pub FrontFor : List ℕ → Option (List ℕ) → Option (List ℕ) → Type 0
+FrontFor file before after = (told : Told) → Loads empty file told → WritesFront (reloaded told.answer file) before after

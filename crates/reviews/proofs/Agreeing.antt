@@ -1,7 +1,7 @@
 -- The questions agree with each other. Assumes nothing.
 use mathlib.Core.Bool.{Bool, true, false, ◌&&◌}
 use mathlib.Core.Logic.{inl, inr}
-use mathlib.Core.Path.{◌≡◌, sym, ap, ◌∙◌}
+use mathlib.Core.Path.{◌≡◌, sym, ◌∙◌}
 use Prim.Native.Nat.{ℕ, ◌≤◌, ◌<◌}
 use native.Mathlib.Omega.{arith}
 use native.Mathlib.Decide.{dec_lt}
@@ -19,7 +19,7 @@ use Rattle.model.specs.Lists.{listed}
 use Rattle.model.specs.Sound.{Sound, Shape}
 use Rattle.model.specs.Words.{reached, authorised, effective, permission}
 use Rattle.model.specs.Questions.{holds, authorised_by, auth_users, auth_roles, role_perms, user_perms, session_perms, role_ops, user_ops}
-use Rattle.model.specs.commands.Sessions.{permitted, check}
+use Rattle.model.specs.commands.Sessions.{permitted}
 use Rattle.reviews.proofs.Listed.{session-perms-listed, role-perms-listed, user-perms-listed, role-ops-listed, user-ops-listed, auth-users-listed, auth-roles-listed}
 
 -- what is below the bound is listed exactly if it passes

@@ -21,7 +21,7 @@ fn load(state: &mut [u64; PLACES], file: &[u8], rounds: u64) -> u64 {
 
 // The policy's own file is loaded.
 pub(crate) fn load_own(state: &mut [u64; PLACES], rounds: u64) -> u64 {
-    let mut file = io::large_buffer();
+    let mut file = [0u8; 65536];
     let saved = policyfile::save(state, &mut file);
     let n = saved.length;
     if n <= file.len() {
@@ -33,7 +33,7 @@ pub(crate) fn load_own(state: &mut [u64; PLACES], rounds: u64) -> u64 {
 
 // The policy is saved, round by round.
 pub(crate) fn save(state: &[u64; PLACES], rounds: u64) -> u64 {
-    let mut file = io::large_buffer();
+    let mut file = [0u8; 65536];
     let mut sum: u64 = 1;
     let mut i: u64 = 0;
     while i < rounds {

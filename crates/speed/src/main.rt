@@ -3,8 +3,9 @@
 
 ghost use Rattle.std.specs.Prelude.{◌<◌};
 
-use libc::{STDERR_FILENO, STDIN_FILENO, STDOUT_FILENO};
 use state::PLACES;
+use std::io;
+use std::process::ExitCode;
 
 mod files;
 mod moves;
@@ -53,24 +54,22 @@ fn run(state: &mut [u64; PLACES], first: u64, second: u64, depth: u16, rounds: u
 }
 
 // Writes the checksum.
-fn print(sum: u64) {
-    if io::print_decimal(STDOUT_FILENO, sum) {
-        if io::write_all(STDOUT_FILENO, b"\n") {
-            return;
-        }
-    }
-    io::write_all(STDERR_FILENO, b"speed: the checksum could not be written\n");
+fn print(rt: &impl Print, sum: u64) -> io::Result<()> {
+    println!(rt; "{sum}")
+}
+
+// Says on standard error what failed.
+fn say(rt: &impl Eprint, what: &str) -> ExitCode {
+    let _ = rt.eprintln(what);
+    ExitCode::FAILURE
 }
 
 // The request: FIRST SECOND DEPTH USERS ROUNDS.
-fn main() {
+fn main(rt: HostRuntime) -> ExitCode {
     let mut text = [0u8; 64];
-    let request = streams::read_whole(STDIN_FILENO, &mut text);
-    let n = request.len;
-    if !request.whole {
-        io::write_all(STDERR_FILENO, b"speed: the request could not be read\n");
-        return;
-    }
+    let Ok(n) = streams::read_whole(&mut rt.stdin(), &mut text) else {
+        return say(&rt, "speed: the request could not be read");
+    };
     let first = number_at(&text[..n], 0);
     let second = number_at(&text[..n], first.next);
     let depth = number_at(&text[..n], second.next);
@@ -81,5 +80,8 @@ fn main() {
     let mut state = [0u64; PLACES];
     school::build(&mut state, d, u);
     let sum = run(&mut state, first.value, second.value, d, rounds.value);
-    print(sum);
+    match print(&rt, sum) {
+        Ok(()) => ExitCode::SUCCESS,
+        Err(_) => say(&rt, "speed: the checksum could not be written"),
+    }
 }

@@ -6,8 +6,8 @@ use state::PLACES;
 // The checksum with one answer more, and its result.
 pub(crate) fn mix(sum: u64, a: Answer, res: u64) -> u64 {
     let turned = (sum << 1) | (sum >> 63);
-    let answered = std::num::wrapping_add_u64(turned, numbers::number_of(a) as u64);
-    std::num::wrapping_add_u64(answered, res)
+    let answered = turned.wrapping_add(numbers::number_of(a) as u64);
+    answered.wrapping_add(res)
 }
 
 // Both results of `check` as one number.

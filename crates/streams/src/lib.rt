@@ -1,46 +1,54 @@
-// The programs' input and output: an input that is read whole, or known not to be. What a read of the C library puts into the buffer no contract can say.
+// The programs' input and output: an input that is read whole, or known not to be, and bytes that are written whole, or known not to be.
 #![tactic(auto)]
 
-ghost use Rattle.std.specs.Prelude.{◌≤◌, length};
-ghost use Rattle.io.specs.Counts.{IsPrefixLen};
+ghost use Rattle.std.specs.Prelude.{ℕ, ◌<◌, IfOk, OnOk, OnErr, length, take};
+ghost use Rattle.std.specs.Io.KnownBytes.{Appends, Consumes, IsAtEnd, ReadConsumes};
+ghost use Rattle.streams.specs.Counts.{IsPrefixLen};
+ghost use Rattle.streams.specs.Writing.{WritesFront};
 
-// How many bytes were read, to the front of the buffer. Where `whole`, no read failed: the input ends there, or it fills the buffer.
-#[derive(Drop)]
-pub struct Input {
-    pub len: usize,
-    pub whole: bool,
-}
+use std::io;
+use std::io::{ErrorKind, Read, Write};
 
-#[derive(Drop)]
-struct Got {
-    count: usize,
-    ok: bool,
-}
-
-// One read: how many bytes it put at the front of the part, none at the end of the input; and that it did not fail.
-fn read_once(fd: i32, part: &mut [u8]) -> Got
-    ensures { result.count ≤ length part.new }
+// One read: how many bytes it put at the front of the part, none at the end of the input.
+fn read_once<R: Read>(reader: &mut R, part: &mut [u8]) -> io::Result<usize>
+    ensures count { IfOk result (λ n. IsPrefixLen n part.new) }
+    ensures bytes { ReadConsumes (R.remaining reader.old) (R.remaining reader.new) result part.new }
 {
-    let got = libc::read(fd, part);
-    let count = io::count(got, part);
-    Got {
-        count,
-        ok: 0 <= got,
-    }
+    reader.read(part)
 }
 
-// Reads until the input ends, the buffer is full or a read fails.
-pub fn read_whole(fd: i32, buf: &mut [u8]) -> Input
-    ensures { IsPrefixLen result.len buf.new }
+// Reads until the input ends, the buffer is full or a read fails, and says how many bytes were read, to the front of the buffer. Where no read failed,
+// the input ends there, or it fills the buffer. Where one failed, so far as it was read the input stands at the front too.
+pub fn read_whole<R: Read>(reader: &mut R, buf: &mut [u8]) -> io::Result<usize>
+    ensures count { IfOk result (λ n. IsPrefixLen n buf.new) }
+    ensures bytes { IfOk result (λ n. Consumes (R.remaining reader.old) (R.remaining reader.new) (take n buf.new)) }
+    ensures whole { IfOk result (λ n. n < length buf.new → IsAtEnd (R.remaining reader.new)) }
+    ensures err { OnErr result ((n : ℕ) × IsPrefixLen n buf.new
+        × Consumes (R.remaining reader.old) (R.remaining reader.new) (take n buf.new)) }
 {
     let mut len: usize = 0;
     while len < buf.len() {
-        let got = read_once(fd, &mut buf[len..]);
-        let more = got.count;
+        let more = read_once(reader, &mut buf[len..])?;
         if more == 0 {
-            return Input { len, whole: got.ok };
+            return Ok(len);
         }
         len += more;
     }
-    Input { len, whole: true }
+    Ok(len)
+}
+
+// Writes all of the bytes, or stops at the first write that fails or takes none of them, and then only a front of them is written.
+pub fn write_whole<W: Write>(out: &mut W, bytes: &[u8]) -> io::Result<()>
+    ensures ok { OnOk result (Appends (W.contents out.old) (W.contents out.new) bytes.now) }
+    ensures err { OnErr result (WritesFront bytes.now (W.contents out.old) (W.contents out.new)) }
+{
+    let mut done: usize = 0;
+    while done < bytes.len() {
+        let more = out.write(&bytes[done..])?;
+        if more == 0 {
+            return Err(io::Error::from(ErrorKind::WriteZero));
+        }
+        done += more;
+    }
+    Ok(())
 }

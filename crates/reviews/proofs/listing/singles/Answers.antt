@@ -1,6 +1,5 @@
 -- The places are filled in turn, each with its role alone. Assumes nothing.
 use native.Mathlib.Omega.{arith}
-use Rattle.roleset.specs.Roles.{with}
 use Rattle.reviews.proofs.Filling.{fill_start, fill_next, fill_end}
 use Rattle.reviews.proofs.listing.singles.Goals as goal
 
