@@ -19,15 +19,23 @@ ghost use Rattle.desk.specs.Desk.{Gives, Next, Prints, PrintsTo, PrintsFront, Le
 use numbers::Answer;
 use program::LONGEST;
 use state::PLACES;
+use std::env::{Env, FillError};
 use std::fmt::Display;
 use std::io::Write;
 use std::process::ExitCode;
 use std::random::RandomSource;
 use std::rt::Files;
-use std::{env, fs, io};
+use std::{fs, io, str};
 
 // The longest policy file, in bytes.
 const LONGEST_FILE: usize = 36048;
+
+// No name of a file is longer than this, in bytes.
+const LONGEST_NAME: usize = 4096;
+
+const TOO_LONG: &str = "File name too long";
+
+const USAGE: &str = "desk: usage: desk POLICY [NEW] < SCRIPT";
 
 // Writes the next bytes of what the script prints from the policy of the file on, of which `count` were written, and counts them. Nothing else
 // writes or counts.
@@ -164,19 +172,57 @@ fn read_policy(rt: &impl Files, path: &str, file: &mut [u8]) -> io::Result<usize
     streams::read_whole(&mut opened, file)
 }
 
-fn main(rt: HostRuntime) -> ExitCode {
-    let mut args = match env::args(&rt) {
-        Ok(args) => args,
-        Err(e) => return say(&rt, format_args!("desk: the names: {e}")),
+// Says why a name could not be taken.
+fn refuse_name<R: Eprint>(rt: &R, which: &str, why: &str) -> ExitCode {
+    say(rt, format_args!("desk: {which}: {why}"))
+}
+
+// Loads the file of the first name, runs the script on it, and saves what is left under the second name, where there is one. A name is text.
+fn start<R: Input + Print + Eprint + Alloc + Files + RandomSource>(
+    rt: &R,
+    path: &[u8],
+    name: Option<&[u8]>,
+) -> ExitCode {
+    let Ok(path) = str::from_utf8(path) else {
+        return refuse_name(rt, "the policy file's name", "it is no text");
     };
-    let _program = args.next();
-    let (Some(path), name, None) = (args.next(), args.next(), args.next()) else {
-        return say(&rt, "desk: usage: desk POLICY [NEW] < SCRIPT");
+    let name = match name {
+        None => None,
+        Some(bytes) => match str::from_utf8(bytes) {
+            Ok(text) => Some(text),
+            Err(_) => return refuse_name(rt, "the name to save under", "it is no text"),
+        },
     };
     // One byte more than the longest file is asked for, to tell a longer one, which is not of the form.
     let mut file = [0u8; LONGEST_FILE + 1];
-    match read_policy(&rt, path.as_str(), &mut file) {
-        Ok(len) => work(&rt, &file[..len], name.as_ref().map(|name| name.as_str())),
-        Err(e) => say(&rt, format_args!("{path}: {e}")),
+    match read_policy(rt, path, &mut file) {
+        Ok(len) => work(rt, &file[..len], name),
+        Err(e) => say(rt, format_args!("{path}: {e}")),
+    }
+}
+
+fn main(rt: HostRuntime) -> ExitCode {
+    let mut path = [0u8; LONGEST_NAME];
+    let path_len = match rt.arg(1, &mut path) {
+        Ok(len) => len,
+        Err(FillError::NotPresent) => return say(&rt, USAGE),
+        Err(FillError::TooLong) => {
+            return refuse_name(&rt, "the policy file's name", TOO_LONG);
+        }
+    };
+    let mut name = [0u8; LONGEST_NAME];
+    let name_len = match rt.arg(2, &mut name) {
+        Ok(len) => Some(len),
+        Err(FillError::NotPresent) => None,
+        Err(FillError::TooLong) => {
+            return refuse_name(&rt, "the name to save under", TOO_LONG);
+        }
+    };
+    match (rt.arg(3, &mut []), name_len) {
+        (Err(FillError::NotPresent), None) => start(&rt, &path[..path_len], None),
+        (Err(FillError::NotPresent), Some(len)) => {
+            start(&rt, &path[..path_len], Some(&name[..len]))
+        }
+        _ => say(&rt, USAGE),
     }
 }

@@ -1,6 +1,5 @@
 -- The loop's invariant: no set passed has the role. Assumes nothing.
 use borrow.Author.Rules.{rules}
-use mathlib.Core.Bool.{false}
 use mathlib.Core.Path.{◌≡◌, sym, ap, ◌∙◌}
 use native.Mathlib.Omega.{arith}
 use Rattle.roleset.specs.Roles.{has}
