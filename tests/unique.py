@@ -20,9 +20,9 @@ from pathlib import Path
 ROOT = Path(__file__).resolve().parent.parent
 HOME = ROOT / "crates" / "unique"
 
-# Public functions with no line (docs/DECISIONS.md, 'Exceptions to uniqueness'): two borrow a struct, and a contract over one cannot be cited; of the
-# third, what a call of the C library reads no contract can say.
-WITHOUT = {"textlines.next", "textlines.bump", "streams.read_whole"}
+# Public functions with no line (docs/DECISIONS.md, 'Exceptions to uniqueness'): two borrow a struct, and a contract over one cannot be cited; the
+# others take a reader or a writer of any type, and how far it comes before it fails no contract can say.
+WITHOUT = {"textlines.next", "textlines.bump", "streams.read_whole", "streams.write_whole"}
 
 # Promises that have another's law: they are that promise by definition, or two crates use one name.
 LAW_OF = {
