@@ -12,7 +12,8 @@ fn put_lead(buf: &mut [u8], at: usize, n: u16, place: u16) -> usize
     requires { 0 < place }
     ensures { Put buf.old at (lead place n) buf.new result }
 {
-    if place <= n {
+    let reaches = place <= n;
+    if reaches {
         let d = (n / place % 10) as u8;
         return put(buf, at, 48 + d);
     }

@@ -163,7 +163,8 @@ fn work<R: Input + Print + Eprint + Alloc + Files + RandomSource>(
 
 // Reads the policy file of that name. No name, or `-`, stands for no policy yet: the empty policy's file, which is sixteen zero bytes.
 fn read_policy(rt: &impl Files, path: &str, file: &mut [u8]) -> io::Result<usize>
-    ensures { IfOk result (λ n. IsPrefixLen n file.new) }
+    ensures count { IfOk result (λ n. IsPrefixLen n file.new) }
+    ensures length { length file.new ≡ length file.old }
 {
     if path.is_empty() || path == "-" {
         return Ok(file.len().min(16));

@@ -1,10 +1,11 @@
 // A file is saved whole or not at all: it is written beside its name, flushed, and only then given the name. Until then what stood under the name is
 // as it was. Where a step fails, the file beside is removed and what failed is said on standard error.
-ghost use Rattle.std.specs.Prelude.{◌≡◌, ◌<◌, IfOk, OnOk, string_bytes};
+ghost use Rattle.std.specs.Prelude.{◌≡◌, ◌<◌, IfOk, OnOk, OnErr, string_bytes};
 ghost use Rattle.std.specs.Io.KnownBytes.{Appends};
 ghost use Rattle.std.specs.Str.{IsCharBoundary};
 ghost use Rattle.state.specs.View.{view};
 ghost use Rattle.streams.specs.Counts.{IsPrefixLen};
+ghost use Rattle.streams.specs.Writing.{WritesFront};
 ghost use Rattle.desk.specs.Desk.{Leaves, Saved, part_name};
 
 use crate::say;
@@ -45,7 +46,8 @@ fn put_part_name<A: Allocator>(alloc: A, name: &str, number: u64) -> Result<Stri
 // Writes the file of the policy that is left, and waits until its device has it.
 fn fill<F: Write + OpenFile>(file: &[u8], script: &[u8], to: &mut F, bytes: &[u8]) -> io::Result<()>
     requires { Saved file.now script.now bytes.now }
-    ensures { OnOk result (Appends (F.contents to.old) (F.contents to.new) bytes.now) }
+    ensures writes { OnOk result (Appends (F.contents to.old) (F.contents to.new) bytes.now) }
+    ensures front { OnErr result (WritesFront bytes.now (F.contents to.old) (F.contents to.new)) }
 {
     streams::write_whole(to, bytes)?;
     to.sync_all()

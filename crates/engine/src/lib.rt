@@ -87,7 +87,8 @@ fn check(state: &[u64; PLACES], x: Session, op: u16, obj: u16, out: &mut [u16]) 
     if !numbers::is_done(answer) {
         return Review { answer, count: 0 };
     }
-    if out.len() < 2 {
+    let short = out.len() < 2;
+    if short {
         return Review {
             answer: Answer::BufferShort,
             count: 0,

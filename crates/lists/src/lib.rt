@@ -25,7 +25,8 @@ pub fn read(list: &[u16]) -> Listed
         if (r as u32) < bound {
             ascending = false;
         }
-        if 64 <= r {
+        let over = 64 <= r;
+        if over {
             beyond = true;
         }
         roles = roleset::with(roles, r);

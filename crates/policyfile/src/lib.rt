@@ -49,7 +49,8 @@ fn begins(bytes: &[u8], buffer: &[u8]) -> bool
 {
     let mut i: usize = 0;
     while i < bytes.len() {
-        if buffer[i] == bytes[i] {
+        let same = buffer[i] == bytes[i];
+        if same {
             i += 1;
         } else {
             return false;

@@ -76,7 +76,8 @@ fn gives(word: u16, numbers: &[u16], text: &[u8]) -> bool
 pub fn read_line(text: &[u8]) -> Line
     ensures { result ≡ held (parse text.now) }
 {
-    if 512 < text.len() {
+    let long = 512 < text.len();
+    if long {
         return no_line();
     }
     let l = gather(text);

@@ -26,7 +26,8 @@ pub fn breaks(set: RoleSet, held: u64) -> bool
 pub fn bad_cardinality(n: u64, roles: u64) -> bool
     ensures { result ≡ bad_cardinality n roles }
 {
-    if n < 2 {
+    let few = n < 2;
+    if few {
         true
     } else {
         !roleset::at_least(roles, n)

@@ -13,6 +13,10 @@ use Rattle.clibrary.proofs.marruskil_obey.Goals.{Else-out-lt-LONGEST_ANSWER}
 room : (c : Else-out-lt-LONGEST_ANSWER) → length (answer_line (obey (view c.args.state.now) c.args.line.now)) ≤ length c.args.out.now
 room c = omega (arith, longest-answer.holds (view c.args.state.now) c.args.line.now, c.if-out-lt-LONGEST_ANSWER.false)
 
+-- a buffer that holds every command's answer line
+pub obey_aside-requires : goal.obey_aside-requires
+obey_aside-requires c = omega (arith, c.if-out-lt-LONGEST_COMMAND.false)
+
 pub returns : goal.returns
 returns c =
     let answers = c.answer_line-answered.ensures in

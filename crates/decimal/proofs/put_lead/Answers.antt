@@ -3,8 +3,8 @@ use Rattle.text.proofs.Putting.{put-none}
 use Rattle.decimal.proofs.Laws.{lead-there, lead-gone}
 use Rattle.decimal.proofs.put_lead.Goals as goal
 
-pub returns-then-place-n : goal.returns-then-place-n
-returns-then-place-n c = rw (lead-there c.args.place c.args.n c.if-place-n.true) c.put.ensures
+pub returns-then-reaches : goal.returns-then-reaches
+returns-then-reaches c = rw (lead-there c.args.place c.args.n c.if-reaches.true) c.put.ensures
 
 pub returns : goal.returns
-returns c = rw (lead-gone c.args.place c.args.n c.if-place-n.false) (put-none _ _)
+returns c = rw (lead-gone c.args.place c.args.n c.if-reaches.false) (put-none _ _)

@@ -19,10 +19,10 @@ pub returns-then-not-is_done : goal.returns-then-not-is_done
 unfolding ask
 returns-then-not-is_done c = check_refused _ _ _ _ c.check-c.ensures.tells (sym c.is_done.ensures ∙ not-true _ (ap not c.if-not-is_done.true))
 
-pub returns-then-out-lt2 : goal.returns-then-out-lt2
+pub returns-then-short : goal.returns-then-short
 unfolding ask
-returns-then-out-lt2 c = check_short _ _ c.check-c.result _ c.check-c.ensures.tells (answered (goal.at.returns-then-out-lt2 c).Else-not-is_done) (omega (arith, c.if-out-lt2.true))
+returns-then-short c = check_short _ _ c.check-c.result _ c.check-c.ensures.tells (answered (goal.at.returns-then-short c).Else-not-is_done) (omega (arith, c.if-short.true))
 
 pub returns : goal.returns
 unfolding ask
-returns c = check_done _ _ c.check-c.result _ c.check-c.ensures.tells (answered (goal.at.returns c).Else-not-is_done) (omega (arith, c.if-out-lt2.false))
+returns c = check_done _ _ c.check-c.result _ c.check-c.ensures.tells (answered (goal.at.returns c).Else-not-is_done) (omega (arith, c.if-short.false))

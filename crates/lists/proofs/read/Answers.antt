@@ -8,7 +8,7 @@ use Rattle.roleset.proofs.Laws.{with-small}
 use Rattle.model.specs.Lists.{rising, some_from}
 use Rattle.lists.proofs.Turns.{turn_low, turn_high, turn_beyond, turn_within, turn_joins, joining-start, end_rising, end_beyond, end_joins}
 use Rattle.lists.proofs.read.Goals as goal
-use Rattle.lists.proofs.read.Goals.{then-r-bound, else-r-bound, then-r-ge64, else-r-ge64}
+use Rattle.lists.proofs.read.Goals.{then-r-bound, else-r-bound, then-over, else-over}
 use Rattle.lists.proofs.read.Goals.{After-shared_slice_known-in-loop-i-1}
 
 pub loop-i-init : goal.loop-i-init
@@ -38,10 +38,10 @@ loop-i-preserved c =
       | then-r-bound w ↦ rw w.ascending-is (sym (turn_low list i l c.loop-i.ascending c.loop-i.bound w.if-r-bound.true) ∙ inv.1)
       | else-r-bound w ↦ rw w.ascending-is (sym (turn_high list i l c.loop-i.ascending c.loop-i.bound w.if-r-bound.false) ∙ inv.1)
     ] in
-    let within : (c.if-r-ge64.beyond || some_from 64 (drop (i + 1) list)) ≡ some_from 64 list =
-    elim c.if-r-ge64.branch [
-      | then-r-ge64 w ↦ rw w.beyond-is (sym (turn_beyond list i l c.loop-i.beyond 64 w.if-r-ge64.true) ∙ inv.2)
-      | else-r-ge64 w ↦ rw w.beyond-is (sym (turn_within list i l c.loop-i.beyond 64 w.if-r-ge64.false) ∙ inv.2)
+    let within : (c.if-over.beyond || some_from 64 (drop (i + 1) list)) ≡ some_from 64 list =
+    elim c.if-over.branch [
+      | then-over w ↦ rw w.beyond-is (sym (turn_beyond list i l c.loop-i.beyond 64 w.if-over.true) ∙ inv.2)
+      | else-over w ↦ rw w.beyond-is (sym (turn_within list i l c.loop-i.beyond 64 w.if-over.false) ∙ inv.2)
     ] in
     ((omega arith, rw c.with-roles.ensures.is (with-small _ _)), rises, within, rw c.with-roles.ensures.is (turn_joins list i l c.loop-i.roles ∙ inv.3))
 

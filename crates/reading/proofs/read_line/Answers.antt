@@ -66,8 +66,8 @@ given c = let is-full-f : (c.gather-l.result ≡ full (word_in c.args.text.now) 
     let front-f : take c.gather-l.result.count c.gather-l.result.numbers ≡ numbers_in c.args.text.now = ap₂ (λ (n : ℕ) (l : List ℕ). take n l) count-is-f numbers-is-f ∙ padded-front (numbers_in c.args.text.now) in
     c.gives.ensures ∙ ap₂ (λ (k : ℕ) (ns : List ℕ). same (render k ns) c.args.text.now) word-is-f front-f
 
-pub returns-then-text-gt512 : goal.returns-then-text-gt512
-returns-then-text-gt512 c = c.no_line.ensures ∙ ap held (sym (too_long c.args.text.now c.if-text-gt512.true))
+pub returns-then-long : goal.returns-then-long
+returns-then-long c = c.no_line.ensures ∙ ap held (sym (too_long c.args.text.now c.if-long.true))
 
 pub slice_bounds-numbers-end : goal.slice_bounds-numbers-end
 slice_bounds-numbers-end c = within (goal.at.slice_bounds-numbers-end c).Then-ok
@@ -81,7 +81,7 @@ gives-requires c = omega (arith, ap length (front (goal.at.gives-requires c).The
 pub returns-then-gives : goal.returns-then-gives
 returns-then-gives c =
     let text = c.args.text.now in
-    let short : length text ≤ 512 = c.if-text-gt512.false in
+    let short : length text ≤ 512 = c.if-long.false in
     (is-full (goal.at.returns-then-gives c).Then-ok).0
     ∙ sym (ap held (accepted text (both (leb (length text) 512) _ (le-leb _ _ short) (both (shaped (word_in text) (length (numbers_in text))) _ (sym (shape (goal.at.returns-then-gives c).After-is_shaped) ∙ c.if-is_shaped.true) (sym (given (goal.at.returns-then-gives c).After-gives) ∙ c.if-gives.true)))))
 
@@ -92,4 +92,4 @@ pub returns-else-is_shaped : goal.returns-else-is_shaped
 returns-else-is_shaped c = c.no_line-else-is_shaped.ensures ∙ ap held (sym (misshapen c.args.text.now (sym (shape (goal.at.returns-else-is_shaped c).After-is_shaped) ∙ c.if-is_shaped.false)))
 
 pub returns-else-ok : goal.returns-else-ok
-returns-else-ok c = c.no_line-else-ok.ensures ∙ ap held (sym (too_many c.args.text.now c.if-text-gt512.false (bad c.args.text.now c.gather-l.result c.gather-l.ensures c.if-ok.false)))
+returns-else-ok c = c.no_line-else-ok.ensures ∙ ap held (sym (too_many c.args.text.now c.if-long.false (bad c.args.text.now c.gather-l.result c.gather-l.ensures c.if-ok.false)))

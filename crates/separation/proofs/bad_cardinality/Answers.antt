@@ -14,10 +14,10 @@ fewer a n = go (ltb a n) refl
     go true e = e ∙ sym (ap not (lt-leb n a (ltb-true a n e)))
     go false e = e ∙ sym (ap not (le-leb n a (ltb-false a n e)))
 
-pub returns-then-n-lt2 : goal.returns-then-n-lt2
-returns-then-n-lt2 c = rw (lt-ltb c.args.n 2 c.if-n-lt2.true)
+pub returns-then-few : goal.returns-then-few
+returns-then-few c = rw (lt-ltb c.args.n 2 c.if-few.true)
 
-pub returns-else-n-lt2 : goal.returns-else-n-lt2
-returns-else-n-lt2 c =
+pub returns-else-few : goal.returns-else-few
+returns-else-few c =
     let start = c.args in
-    rw (le-ltb start.n 2 c.if-n-lt2.false) (ap not c.at_least.ensures ∙ sym (fewer (count start.roles) start.n))
+    rw (le-ltb start.n 2 c.if-few.false) (ap not c.at_least.ensures ∙ sym (fewer (count start.roles) start.n))
