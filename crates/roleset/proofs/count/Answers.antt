@@ -1,5 +1,7 @@
 -- Of the roles passed, those in the set are counted. Assumes nothing.
-use mathlib.Core.Path.{◌≡◌, refl}
+use mathlib.Core.Bool.{Bool}
+use mathlib.Core.Path.{◌≡◌, refl, sym}
+use Prim.Native.Nat.{ℕ}
 use native.Mathlib.Omega.{arith}
 use Rattle.roleset.specs.Bounded.{tally}
 use Rattle.roleset.specs.Roles.{has, count}
@@ -15,8 +17,17 @@ overflow_add-n c =
     let at = c.before.before.before in
     omega (arith, tally-le at.loop-r.r (has at.before.args.s))
 
+-- What `has` was asked of, and what the test makes of its answer, are facts here and not forms: a pass that asks otherwise is accepted if it is right.
+asked_of : (s r asked : ℕ) (b : Bool) → b ≡ has s asked → asked ≡ r → has s r ≡ b
+asked_of s r asked b e p = rw (← p) (sym e)
+
 pub loop-r-preserved : goal.loop-r-preserved
-loop-r-preserved c = let t = tally-step c.loop-r.r (has c.args.s) in (omega arith, grind (arith, t))
+loop-r-preserved c =
+    let s = c.args.s in
+    let r = c.loop-r.r in
+    let asked : has s r ≡ c.has.result = asked_of s r _ c.has.result c.has.ensures (omega arith) in
+    let step = tally-step r (has s) in
+    (omega arith, grind (arith, step, asked))
 
 pub returns : goal.returns
 unfolding count
