@@ -5,15 +5,17 @@ use mathlib.Core.Path.{◌≡◌, refl, sym, subst, ◌∙◌}
 use Prim.Native.Nat.{ℕ, zero, suc, ◌^◌, ◌-◌, ◌<◌}
 use native.Mathlib.Omega.{arith}
 use lib.Dec.{eqb}
-use borrow.Author.Tests.{eqb-true}
+use native.Mathlib.Decide.{ℕ_discrete}
+use borrow.Author.Tests.{eqb-true, eq-eqb, ne_eqb}
 use Rattle.roleset.specs.Bounded.{some}
 use Rattle.roleset.specs.Roles.{has, without, union, is_empty}
 use Rattle.roleset.proofs.BoundedLaws.{clash, and_left, and_both, or_left, or_right, or_cases, not_yes, agree, never}
-use Rattle.roleset.proofs.Laws.{those-small, has-none, has-union, has-without, union-small, ext}
+use Rattle.roleset.proofs.Laws.{those-small, has-none, has-union, has-without, union-small, ext, is_empty-none}
+use Rattle.roleset.proofs.Taking.{not-zero}
 use Rattle.hierarchy.specs.Lines.{line}
 use Rattle.hierarchy.specs.Walks.{juniors_of, walk, longer_chain}
-use Rattle.hierarchy.proofs.WalkLaws.{junior_of, of_junior, walk_on, walk_small}
-use Rattle.hierarchy.proofs.ChainLaws.{longer_on}
+use Rattle.hierarchy.proofs.WalkLaws.{junior_of, of_junior, walk_empty, walk_stopped, walk_on, walk_small}
+use Rattle.hierarchy.proofs.ChainLaws.{longer_empty, longer_stopped, longer_on}
 
 module _ (lines : ℕ → ℕ) where
   pub juniors_small : (front : ℕ) → juniors_of lines front < 2 ^ 64
@@ -68,6 +70,19 @@ walk_step lines zero front next met more last n e p s q = absurd (n refl)
 walk_step lines (suc m) front next met more last n e p s q =
     let same : suc m - 1 ≡ m = omega arith in
     q ∙ rw (s, p, same, walk_on lines m front e) (union_assoc met front (walk lines m (juniors_of lines front)))
+
+-- with no role in the front, or none allowed, the walk adds none, and no longer chain starts but where the front has one
+pub walk-over : (lines : ℕ → ℕ) (allowed front met : ℕ) → met < 2 ^ 64 → (front ≡ 0) ⊎ ((front ≡ 0 → ⊥) × (allowed ≡ 0)) → met ≡ union met (walk lines allowed front)
+walk-over lines allowed front met l (inl e) = rw (walk_empty lines allowed front (rw e is_empty-none)) (sym (union-none met l))
+walk-over lines allowed front met l (inr e) = rw (e.1, walk_stopped lines front) (sym (union-none met l))
+
+pub longer-over : (lines : ℕ → ℕ) (allowed front : ℕ) → front < 2 ^ 64 → (front ≡ 0) ⊎ ((front ≡ 0 → ⊥) × (allowed ≡ 0)) → not (eqb front 0) ≡ longer_chain lines allowed front
+longer-over lines allowed front l e = go (ℕ_discrete front 0) e
+  where
+    go : Dec (front ≡ 0) → (front ≡ 0) ⊎ ((front ≡ 0 → ⊥) × (allowed ≡ 0)) → not (eqb front 0) ≡ longer_chain lines allowed front
+    go (yes p) e = rw (eq-eqb front 0 p) (sym (longer_empty lines allowed front (rw p is_empty-none)))
+    go (no p) (inl e) = absurd (p e)
+    go (no p) (inr e) = rw (ne_eqb front 0 p, e.1) (sym (longer_stopped lines front (not-zero front l p)))
 
 -- what a walk from a front adds to no roles is the walk
 pub walk-begun : (lines : ℕ → ℕ) (n front : ℕ) → union 0 (walk lines n front) ≡ walk lines n front

@@ -1,7 +1,7 @@
-// What roles inherit through direct lines, over `juniors: [u64; 64]`: bit j of place s is the line (s, j).
+// What roles inherit through direct lines, wherever the lines stand.
 #![tactic(auto)]
 
-ghost use Rattle.std.specs.Prelude.{◌≡◌, ℕ, ◌<◌, length};
+ghost use Rattle.std.specs.Prelude.{◌≡◌, ℕ, ◌<◌};
 ghost use Rattle.roleset.specs.Roles.{union};
 ghost use Rattle.hierarchy.specs.Lines.{table_of};
 ghost use Rattle.hierarchy.specs.Walks.{juniors_of, walk, longer_chain, turned, Reaches, ReachesUp, TellsCircle};
@@ -9,51 +9,60 @@ ghost use Rattle.hierarchy.specs.Marks.{Marked};
 
 use numbers::Role;
 
-// The roles directly below some role of the front. It takes the front's lowest role and drops it, as long as there is one.
-fn juniors_of(juniors: &[u64; 64], front: u64) -> u64
-    ensures { result ≡ juniors_of (table_of juniors.now) front }
+// What holds direct lines: it tells for each role the set of the roles directly below it. The walk is one, over a table that may be a changed one and over the lent state itself.
+pub trait Lines {
+    ghost table: { Self → ℕ → ℕ };
+
+    // The roles directly below the role.
+    fn below(&self, s: Role) -> u64
+        ensures { result ≡ table self.now s.number };
+}
+
+// A table of junior sets: bit j of place s is the line (s, j).
+impl Lines for [u64; 64] {
+    ghost table = { table_of };
+
+    fn below(&self, s: Role) -> u64 {
+        self.get(usize::from(s.number)).copied().unwrap_or(0)
+    }
+}
+
+// The roles directly below some role of the front.
+fn juniors_of<L: Lines>(lines: &L, front: u64) -> u64
+    ensures { result ≡ juniors_of (L.table lines.now) front }
 {
-    let mut met = 0u64;
-    let mut rest = front;
-    while rest != 0 {
-        let s = roleset::lowest(rest);
-        met = roleset::union(met, juniors[s as usize]);
-        rest = roleset::without(rest, s);
+    let mut met = 0;
+    for s in roleset::members(front) {
+        met = roleset::union(met, lines.below(Role { number: s }));
     }
     met
 }
 
 // The roles met so far, those of the front and all that these inherit, in chains of at most `allowed` roles. The call is the last step, so that the walk needs no stack.
-fn walk_from(juniors: &[u64; 64], front: u64, allowed: u16, met: u64) -> u64
-    ensures { result ≡ union met (walk (table_of juniors.now) allowed front) }
+fn walk_from<L: Lines>(lines: &L, front: u64, allowed: u16, met: u64) -> u64
+    ensures { result ≡ union met (walk (L.table lines.now) allowed front) }
 {
-    if front == 0 {
+    if front == 0 || allowed == 0 {
         return met;
     }
-    if allowed == 0 {
-        return met;
-    }
-    let next = juniors_of(juniors, front);
+    let next = juniors_of(lines, front);
     let more = roleset::union(met, front);
-    walk_from(juniors, next, allowed - 1, more)
+    walk_from(lines, next, allowed - 1, more)
 }
 
 // The roles of a set and all that they inherit, with a circle among the lines or without.
-pub fn reach(juniors: &[u64; 64], from: u64) -> u64
-    ensures { Reaches (table_of juniors.now) from result }
+pub fn reach<L: Lines>(lines: &L, from: u64) -> u64
+    ensures { Reaches (L.table lines.now) from result }
 {
-    walk_from(juniors, from, 64, 0)
+    walk_from(lines, from, 64, 0)
 }
 
 // Does a chain of more than `allowed` roles start in the front?
 fn longer_chain(juniors: &[u64; 64], front: u64, allowed: u16) -> bool
     ensures { result ≡ longer_chain (table_of juniors.now) allowed front }
 {
-    if front == 0 {
-        return false;
-    }
-    if allowed == 0 {
-        return true;
+    if front == 0 || allowed == 0 {
+        return front != 0;
     }
     let next = juniors_of(juniors, front);
     longer_chain(juniors, next, allowed - 1)
@@ -63,20 +72,16 @@ fn longer_chain(juniors: &[u64; 64], front: u64, allowed: u16) -> bool
 pub fn circular(juniors: &[u64; 64]) -> bool
     ensures { TellsCircle (table_of juniors.now) result }
 {
-    longer_chain(juniors, 0xffff_ffff_ffff_ffff, 64)
+    longer_chain(juniors, u64::MAX, 64)
 }
 
 // Adds the role s to t at each place that the set `places` names.
 fn mark(t: &mut [u64; 64], places: u64, s: u16)
-    requires { length t.old ≡ 64 }
     ensures { Marked t.old t.new places s }
 {
-    let mut rest = places;
-    while rest != 0 {
-        let j = roleset::lowest(rest);
+    for j in roleset::members(places) {
         let at = j as usize;
         t[at] = roleset::with(t[at], s);
-        rest = roleset::without(rest, j);
     }
 }
 
@@ -84,12 +89,9 @@ fn mark(t: &mut [u64; 64], places: u64, s: u16)
 pub fn turned(juniors: &[u64; 64]) -> [u64; 64]
     ensures { (k : ℕ) → k < 64 → table_of result k ≡ turned (table_of juniors.now) k }
 {
-    let mut t = [0u64; 64];
-    let mut s = 0u16;
-    while s < 64 {
-        let below = juniors[s as usize];
-        mark(&mut t, below, s);
-        s += 1;
+    let mut t = [0; 64];
+    for (s, below) in juniors.iter().enumerate() {
+        mark(&mut t, *below, s as u16);
     }
     t
 }
@@ -98,7 +100,5 @@ pub fn turned(juniors: &[u64; 64]) -> [u64; 64]
 pub fn at_or_above(juniors: &[u64; 64], r: Role) -> u64
     ensures { ReachesUp (table_of juniors.now) r.number result }
 {
-    let above = turned(juniors);
-    let from = roleset::with(0, r.number);
-    reach(&above, from)
+    reach(&turned(juniors), roleset::with(0, r.number))
 }

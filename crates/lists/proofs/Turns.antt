@@ -1,15 +1,13 @@
 -- One turn of reading a list: what was found so far, with what the rest of the list holds, is what the whole list holds. Assumes nothing.
-use mathlib.Core.Bool.{Bool, true, false, ◌&&◌, ◌||◌, and-true, and-false, or-false}
+use mathlib.Core.Bool.{Bool, ◌&&◌, ◌||◌, and-true, or-false, and_assoc, or_assoc}
 use mathlib.Core.List.{List, ◌∷◌}
-use mathlib.Core.Path.{◌≡◌, refl, ap, ◌∙◌}
+use mathlib.Core.Path.{◌≡◌, ap, ◌∙◌}
 use Prim.Native.Nat.{ℕ, ◌+◌, ◌≤◌, ◌<◌, ◌^◌}
 use native.Mathlib.Numerals.{add-one}
-use lib.Dec.{eqb}
+use lib.Dec.{leb}
 use lib.ListN.{length, get_or, drop, drop_of_length-le}
 use lib.Seq.{drop-cons}
-use borrow.Author.Tests.{le-leb, lt-leb}
 use Rattle.roleset.specs.Roles.{has, those, with}
-use Rattle.roleset.proofs.BoundedLaws.{or_right}
 use Rattle.roleset.proofs.Laws.{has-none, has-with, those-ext, those-has}
 use Rattle.model.specs.Lists.{rising, some_from, listed, set_of}
 
@@ -22,33 +20,20 @@ unfoldable pub joining : ℕ → List ℕ → ℕ
 joining s l = those (λ k. has s k || listed l k)
 
 module _ (l : List ℕ) (i : ℕ) (h : i < length l) where
-  -- A number below the bound: not ascending, whatever follows.
-  pub turn_low : (a : Bool) (bound : ℕ) → get_or l i 0 < bound → (a && rising bound (drop i l)) ≡ false
+  -- The number is above the one before, and the rest above it.
+  pub turn_rising : (a : Bool) (bound : ℕ) → ((a && leb bound (get_or l i 0)) && rising (get_or l i 0 + 1) (drop (i + 1) l)) ≡ (a && rising bound (drop i l))
   unfolding rising
-  turn_low a bound p = rw (next l i h, lt-leb bound (get_or l i 0) p) (and-false a)
+  turn_rising a bound = rw (next l i h, add-one (get_or l i 0)) (and_assoc a _ _)
 
-  -- Any other: ascending if it was so far and the rest is, above it.
-  pub turn_high : (a : Bool) (bound : ℕ) → bound ≤ get_or l i 0 → (a && rising bound (drop i l)) ≡ (a && rising (get_or l i 0 + 1) (drop (i + 1) l))
-  unfolding rising
-  turn_high a bound p = rw (next l i h, le-leb bound (get_or l i 0) p, add-one (get_or l i 0))
-
-  -- A number beyond the range, and one within it.
-  pub turn_beyond : (b : Bool) (n : ℕ) → n ≤ get_or l i 0 → (b || some_from n (drop i l)) ≡ true
+  -- The number is at least n, or one of the rest is.
+  pub turn_beyond : (b : Bool) (n : ℕ) → ((b || leb n (get_or l i 0)) || some_from n (drop (i + 1) l)) ≡ (b || some_from n (drop i l))
   unfolding some_from
-  turn_beyond b n p = rw (next l i h, le-leb n (get_or l i 0) p) (or_right b true refl)
-
-  pub turn_within : (b : Bool) (n : ℕ) → get_or l i 0 < n → (b || some_from n (drop i l)) ≡ (b || some_from n (drop (i + 1) l))
-  unfolding some_from
-  turn_within b n p = rw (next l i h, lt-leb n (get_or l i 0) p)
+  turn_beyond b n = rw (next l i h) (or_assoc b _ _)
 
   -- The number joins the set.
   pub turn_joins : (s : ℕ) → joining (with s (get_or l i 0)) (drop (i + 1) l) ≡ joining s (drop i l)
   unfolding joining listed
-  turn_joins s = rw (next l i h) (those-ext _ _ (λ k p. ap (λ (b : Bool). b || listed (drop (i + 1) l) k) (has-with s (get_or l i 0) k p) ∙ shift (has s k) (eqb k (get_or l i 0)) (listed (drop (i + 1) l) k)))
-    where
-      shift : (x y z : Bool) → ((x || y) || z) ≡ (x || (y || z))
-      shift true y z = refl
-      shift false y z = refl
+  turn_joins s = rw (next l i h) (those-ext _ _ (λ k p. ap (λ (b : Bool). b || listed (drop (i + 1) l) k) (has-with s (get_or l i 0) k p) ∙ or_assoc (has s k) _ _))
 
 -- Before the first number.
 pub joining-start : (l : List ℕ) → joining 0 l ≡ set_of l

@@ -4,6 +4,7 @@
 ghost use Rattle.lists.specs.Reading.{Reads};
 
 // What a list of roles holds: whether it is strictly ascending, whether some number is beyond the roles' range, and the set of its roles.
+// Kept (1): `ascending` stays a flag and `read` gives no Result: its promise `Reads` says what a list holds that is not ascending, too.
 #[derive(Clone, Copy)]
 pub struct Listed {
     pub ascending: bool,
@@ -19,19 +20,12 @@ pub fn read(list: &[u16]) -> Listed
     let mut beyond = false;
     let mut roles: u64 = 0;
     let mut bound: u32 = 0;
-    let mut i: usize = 0;
-    while i < list.len() {
-        let r = list[i];
-        if (r as u32) < bound {
-            ascending = false;
-        }
+    for &r in list {
+        ascending &= bound <= u32::from(r);
         let over = 64 <= r;
-        if over {
-            beyond = true;
-        }
+        beyond |= over;
         roles = roleset::with(roles, r);
-        bound = r as u32 + 1;
-        i += 1;
+        bound = u32::from(r) + 1;
     }
     Listed {
         ascending,

@@ -10,7 +10,8 @@ pub enum Kind {
     Dynamic,
 }
 
-// An SSD or DSD set: roles and a cardinality. One that is not there has no roles and the cardinality 0.
+// An SSD or DSD set: roles and a cardinality. In a state of the engine's own, one that is not there has no roles and the cardinality 0.
+// Kept (1): `there` stays a flag and the set no Option: a state of any numbers may hold roles where no set is there, and `View.set_of`, `norole` and `policycheck::formed` speak of them.
 #[derive(Clone, Copy)]
 pub struct RoleSet {
     pub there: bool,
@@ -18,7 +19,8 @@ pub struct RoleSet {
     pub roles: u64,
 }
 
-// A session: its owner and its active roles. One that is not live has the owner 0 and no roles.
+// A session: its owner and its active roles. In a state of the engine's own, one that is not live has the owner 0 and no roles.
+// Kept (1): `live` stays a flag and the session no Option: a state of any numbers may hold active roles where no session is live, and `View.session_of`, `shedded` of model/specs/Words and `policycheck::formed` speak of them.
 #[derive(Clone, Copy)]
 pub struct SessionRecord {
     pub live: bool,

@@ -2,14 +2,14 @@
 use mathlib.Core.Bool.{Bool, true, false, not, ◌&&◌, ◌||◌, and-true, or-false}
 use mathlib.Core.Logic.{◌⊎◌, inl, inr}
 use mathlib.Core.Path.{◌≡◌, refl, sym, ap, ◌∙◌}
-use Prim.Native.Nat.{ℕ, zero, suc, ◌+◌, ◌*◌, ◌/◌, ◌%◌, ◌^◌, ◌≤◌, ◌<◌}
+use Prim.Native.Nat.{ℕ, zero, suc, ◌+◌, ◌*◌, ◌/◌, ◌%◌, ◌^◌, ◌-◌, ◌≤◌, ◌<◌}
 use native.Mathlib.Omega.{arith}
 use native.Mathlib.Decide.{dec_lt}
 use native.Mathlib.Nat.{mod-lt, mod-eq_of_lt, div-eq_of_lt, one-mul}
 use lib.Dec.{eqb, ltb}
 use lib.Pow.{pow_pos, pow-lt, shr-shr}
 use lib.Bits.{bit_and, bit_or, bit_xor, xor_shr, xor_step, or_lt, and_lt, xor_lt, differ}
-use lib.Count.{count_trailing_zeros, under, trailing_of_zero}
+use lib.Count.{count_trailing_zeros, under}
 use borrow.Author.Tests.{eq-eqb, ne_eqb, eqb-true, lt-ltb}
 use Rattle.roleset.specs.Bounded.{bit}
 use Rattle.roleset.specs.Roles.{has, those, with, without, union, common, minus, subset, is_empty}
@@ -167,5 +167,50 @@ trailing-lowest (suc n) s k h e = go k h e (digit s) (λ j l p. trailing-lowest 
 pub trailing-member : (s : ℕ) → is_empty s ≡ false → Lowest s (count_trailing_zeros 64 s)
 trailing-member s e = let m = is_empty_false s e in trailing-lowest 64 s m.0 m.1 m.2
 
-pub trailing-empty : (s : ℕ) → s < 2 ^ 64 → is_empty s ≡ true → count_trailing_zeros 64 s ≡ 64
-trailing-empty s h e = ap (count_trailing_zeros 64) (is_empty-zero s h e) ∙ trailing_of_zero 64
+-- ---- a number and one less have the same bits above the lowest that is 1, which one less has not
+
+pub member-some : (s r : ℕ) → has s r ≡ true → 0 < s
+member-some s r h = go (dec_lt 0 s)
+  where
+    go : Dec (0 < s) → 0 < s
+    go (yes p) = p
+    go (no p) = clash (has s r) h (let z : s ≡ 0 = omega arith in rw z (has-none r))
+
+eqb-suc : (j r : ℕ) → eqb (suc j) (suc r) ≡ eqb j r
+eqb-suc j r = agree (eqb (suc j) (suc r)) (eqb j r) (λ e. eq-eqb j r (omega (arith, eqb-true (suc j) (suc r) e))) (λ e. eq-eqb (suc j) (suc r) (omega (arith, eqb-true j r e)))
+
+lower-bits : (r s k : ℕ) → Lowest s r → (has s k && has (s - 1) k) ≡ (has s k && not (eqb k r))
+lower-bits zero s k low = go k
+  where
+    odd : s % 2 ≡ 1
+    odd = eqb-true (s % 2) 1 (sym (has-zero s) ∙ low.member)
+
+    go : (j : ℕ) → (has s j && has (s - 1) j) ≡ (has s j && not (eqb j 0))
+    go zero = ap (λ (b : Bool). has s 0 && b) (has-zero (s - 1) ∙ (let e : (s - 1) % 2 ≡ 0 = omega (arith, odd) in rw e))
+    go (suc j) = ap (λ (b : Bool). has s (suc j) && b) (has-half (s - 1) j ∙ ap (λ (x : ℕ). has x j) (let e : (s - 1) / 2 ≡ s / 2 = omega (arith, odd) in e) ∙ sym (has-half s j)) ∙ rw (ne_eqb (suc j) 0 (λ e. omega arith)) (same (has s (suc j)))
+      where
+        same : (b : Bool) → (b && b) ≡ (b && true)
+        same true = refl
+        same false = refl
+lower-bits (suc r) s k low = go k (λ j. lower-bits r (s / 2) j half)
+  where
+    half : Lowest (s / 2) r
+    half = record { member = sym (has-half s r) ∙ low.member; first = λ j l. sym (has-half s j) ∙ low.first (suc j) (omega arith) }
+
+    even : s % 2 ≡ 0
+    even = go (digit s)
+      where
+        go : (s % 2 ≡ 0) ⊎ (s % 2 ≡ 1) → s % 2 ≡ 0
+        go (inl e) = e
+        go (inr e) = clash (has s 0) (has-zero s ∙ rw e) (low.first 0 (omega arith))
+
+    some : 0 < s
+    some = member-some s (suc r) low.member
+
+    go : (j : ℕ) → ((i : ℕ) → (has (s / 2) i && has (s / 2 - 1) i) ≡ (has (s / 2) i && not (eqb i r))) → (has s j && has (s - 1) j) ≡ (has s j && not (eqb j (suc r)))
+    go zero ih = rw (low.first 0 (omega arith))
+    go (suc j) ih = rw (has-half s j, has-half (s - 1) j, eqb-suc j r, let e : (s - 1) / 2 ≡ s / 2 - 1 = omega (arith, even, some) in e) (ih j)
+
+pub lowest-dropped : {s r : ℕ} → s < 2 ^ 64 → Lowest s r → Made (bit_and s (s - 1)) (without s r) (λ k. has s k && not (eqb k r))
+unfolding without
+lowest-dropped {s} {r} l low = made (bit_and s (s - 1)) (λ k. has s k && not (eqb k r)) (λ k. has s k && not (eqb k r)) (and_lt 64 s (s - 1) l (omega arith)) (λ k. has-and s (s - 1) k ∙ lower-bits r s k low) (λ k q. refl)

@@ -1,8 +1,8 @@
 -- Laws of `members`, the ascending list of the k below n that pass a test. Assumes nothing.
-use mathlib.Core.Bool.{Bool, true, false, not, ◌&&◌, and-false, and-true}
+use mathlib.Core.Bool.{Bool, true, false, not, ◌&&◌, ◌||◌, or-false, and-false, and-true}
 use mathlib.Core.List.{List, [], ◌∷◌, ◌++◌, append-nil}
 use mathlib.Core.Logic.{◌⊎◌, inl, inr}
-use mathlib.Core.Path.{◌≡◌, refl, sym, ap₂, ◌∙◌}
+use mathlib.Core.Path.{◌≡◌, refl, sym, ap, ap₂, ◌∙◌}
 use Prim.Native.Nat.{ℕ, zero, suc, ◌+◌, ◌≤◌, ◌<◌}
 use native.Mathlib.Numerals.{add-one}
 use native.Mathlib.Omega.{arith}
@@ -63,3 +63,46 @@ members-lowest (suc n) f g r h e low but = go (last-or-below r n h) (members-low
         let before : (k : ℕ) → k < n → f k ≡ false = λ k l. low k (omega arith) in
         rw (members-none n f before, members-none n g (λ k l. but k (omega arith) ∙ rw (before k l)), here, dropped, p)
     go (inr p) ih = let same : g n ≡ f n = but n (omega arith) ∙ rw (ne_eqb n r (λ q. omega arith)) (and-true (f n)) in rw (ih p e low (λ k l. but k (omega arith)), same)
+
+-- a list of members tells which numbers pass
+among : ℕ → List ℕ → Bool
+among k [] = false
+among k (x ∷ l) = eqb k x || among k l
+
+among-append : (k : ℕ) (l m : List ℕ) → among k (l ++ m) ≡ (among k l || among k m)
+unfolding among
+among-append k [] m = refl
+among-append k (x ∷ l) m = rw (among-append k l m) (or-assoc (eqb k x) (among k l) (among k m))
+  where
+    or-assoc : (a b c : Bool) → (a || (b || c)) ≡ ((a || b) || c)
+    or-assoc true b c = refl
+    or-assoc false b c = refl
+
+among-beyond : (n : ℕ) (f : ℕ → Bool) (k : ℕ) → n ≤ k → among k (members n f) ≡ false
+unfolding members among
+among-beyond zero f k h = refl
+among-beyond (suc n) f k h = among-append k (members n f) (only_if (f n) n) ∙ rw (among-beyond n f k (omega arith)) (other (f n))
+  where
+    other : (b : Bool) → among k (only_if b n) ≡ false
+    other true = rw (ne_eqb k n (λ e. omega arith))
+    other false = refl
+
+among-members : (n : ℕ) (f : ℕ → Bool) (k : ℕ) → k < n → among k (members n f) ≡ f k
+unfolding members among
+among-members zero f k h = absurd (omega arith)
+among-members (suc n) f k h = among-append k (members n f) (only_if (f n) n) ∙ go (last-or-below k n h) (among-members n f k)
+  where
+    here : (b : Bool) → k ≡ n → among k (only_if b n) ≡ b
+    here true e = rw (eq-eqb k n e)
+    here false e = refl
+
+    other : (b : Bool) → k < n → among k (only_if b n) ≡ false
+    other true l = rw (ne_eqb k n (λ e. omega arith))
+    other false l = refl
+
+    go : (k ≡ n) ⊎ (k < n) → (k < n → among k (members n f) ≡ f k) → (among k (members n f) || among k (only_if (f n) n)) ≡ f k
+    go (inl p) ih = rw (among-beyond n f k (omega arith), here (f n) p) (ap f (sym p))
+    go (inr p) ih = rw (ih p, other (f n) p) (or-false (f k))
+
+pub members-tell : (n : ℕ) (f g : ℕ → Bool) → members n f ≡ members n g → (k : ℕ) → k < n → f k ≡ g k
+members-tell n f g e k l = sym (among-members n f k l) ∙ ap (among k) e ∙ among-members n g k l

@@ -2,7 +2,9 @@
 // Its members are bare numbers, and not `numbers::Role`: it is a set of bits, which the state uses for the users too (64 of them to a number) and the policy file for permissions. What kind of number a member is, the functions above say, by their structs and their promises.
 #![tactic(auto)]
 
-ghost use Rattle.std.specs.Prelude.{Bool, true, false, ◌&&◌, ◌||◌, not, ◌≡◌, ℕ, ◌<◌, ◌≤◌, eqb, leb, ltb};
+ghost use Rattle.std.specs.Prelude.{Bool, true, false, ◌&&◌, ◌||◌, not, ◌≡◌, ℕ, ◌<◌, ◌≤◌, ◌^◌, eqb, leb, ltb, MatchOption};
+ghost use Rattle.std.specs.Iterator.{YieldsFirst, item_count};
+ghost use Rattle.roleset.specs.Bounded.{members};
 ghost use Rattle.roleset.specs.Roles.{has, with, without, union, common, minus, subset, is_empty, count};
 ghost use Rattle.roleset.specs.Promises.{Made, Answers, Lowest};
 
@@ -75,38 +77,58 @@ pub fn count(s: u64) -> u16
     n
 }
 
-// The lowest role of s; 64 where it has none.
-pub fn lowest(s: u64) -> u16
-    ensures { (result ≤ 64) × ((is_empty s ≡ false → Lowest s result) × (is_empty s ≡ true → result ≡ 64)) }
+// The lowest role of s, if it has one.
+pub fn lowest(s: u64) -> Option<u16>
+    ensures { MatchOption result (is_empty s ≡ true) (λ r. (r < 64) × Lowest s r) }
 {
-    u64::trailing_zeros(s) as u16
+    if s == 0 {
+        return None;
+    }
+    Some(s.trailing_zeros() as u16)
+}
+
+// An iterator over the roles of a set in ascending order: those that are still to come. One less than a number has the number's lowest 1 as a 0, and the bits above it alike.
+#[derive(Drop)]
+pub struct Ascending {
+    rest: u64,
+    ghost fits: { rest < 2 ^ 64 },
+}
+
+impl Iterator for Ascending {
+    type Item = u16;
+
+    ghost next_gives = { YieldsFirst (λ m. members 64 (has m.rest)) };
+
+    ghost remaining = { item_count (λ m. members 64 (has m.rest)) };
+
+    fn next(&mut self) -> Option<u16> {
+        let r = lowest(self.rest)?;
+        self.rest &= self.rest - 1;
+        Some(r)
+    }
+}
+
+// The roles of s in ascending order. Each turn takes the lowest that is left away.
+pub fn members(s: u64) -> Ascending
+    ensures { result.rest ≡ s }
+{
+    Ascending { rest: s }
 }
 
 // How many roles are in s, for tables where most sets hold none or one: those are not counted.
 pub fn size(s: u64) -> u64
     ensures { (result ≡ count s) × (result ≤ 64) }
 {
-    if s == 0 {
-        return 0;
+    match lowest(s) {
+        None => 0,
+        Some(r) if without(s, r) == 0 => 1,
+        Some(_) => u64::from(count(s)),
     }
-    if without(s, lowest(s)) == 0 {
-        return 1;
-    }
-    count(s) as u64
 }
 
 // Are n roles or more in s? The lowest are taken away until n are, or none is left: a rule asks for two or three, so that it need not know how many there are.
 pub fn at_least(s: u64, n: u64) -> bool
     ensures { result ≡ leb n (count s) }
 {
-    let mut rest = s;
-    let mut left = n;
-    while 0 < left {
-        if rest == 0 {
-            return false;
-        }
-        rest = without(rest, lowest(rest));
-        left -= 1;
-    }
-    true
+    members(s).take(n as usize).count() == n as usize
 }

@@ -12,14 +12,11 @@ use state::PLACES;
 use state::reads::set_named;
 
 // Are as many of the set's roles as its cardinality, or more, among the roles held?
+#[tactic(auto, unfolding(model::specs::Words::breaks))]
 pub fn breaks(set: RoleSet, held: u64) -> bool
     ensures { result ≡ breaks set held }
 {
-    if set.there {
-        roleset::at_least(roleset::common(set.roles, held), set.card)
-    } else {
-        false
-    }
+    set.there && roleset::at_least(roleset::common(set.roles, held), set.card)
 }
 
 // Is the cardinality below 2, or above the number of the roles?
@@ -27,24 +24,12 @@ pub fn bad_cardinality(n: u64, roles: u64) -> bool
     ensures { result ≡ bad_cardinality n roles }
 {
     let few = n < 2;
-    if few {
-        true
-    } else {
-        !roleset::at_least(roles, n)
-    }
+    few || !roleset::at_least(roles, n)
 }
 
 // Do the roles held break some of the sets of this kind?
 pub fn breaks_some(state: &[u64; PLACES], kind: Kind, held: u64) -> bool
     ensures { result ≡ breaks_some (sets_of kind (view state.now)) held }
 {
-    let mut n: u16 = 0;
-    while n < 16 {
-        let set = set_named(state, kind, SetName { number: n });
-        if breaks(set, held) {
-            return true;
-        }
-        n += 1;
-    }
-    false
+    (0..16u16).any(|n| breaks(set_named(state, kind, SetName { number: n }), held))
 }

@@ -2,4 +2,5 @@
 pub mod Tables
 pub mod Slots
 pub mod Stored
+pub mod Reading
 pub mod OneToOne

@@ -3,14 +3,18 @@ use mathlib.Core.Bool.{Bool, true, ◌||◌, or-true}
 use mathlib.Core.List.{List}
 use mathlib.Core.Logic.{◌⊎◌, inl, inr}
 use mathlib.Core.Path.{◌≡◌, refl, sym, ap, ◌∙◌, fun_ext}
-use Prim.Native.Nat.{ℕ, ◌+◌, ◌<◌, ◌≤◌}
+use Prim.Native.Nat.{ℕ, ◌+◌, ◌-◌, ◌<◌, ◌≤◌}
 use native.Mathlib.Omega.{arith}
 use native.Mathlib.Decide.{dec_lt}
 use borrow.Author.Tests.{leb-true, le-leb}
 use lib.Dec.{leb}
 use lib.ListN.{get_or, length, set, take, drop, length-drop, length-set, length-take, get_or-eq_default}
-use lib.Seq.{length-take-le, take-set-lt, drop-set-add, get_or-take, get_or-drop, get_or-set_same, get_or-set_other}
-use Rattle.roleset.proofs.BoundedLaws.{or_cases, last-or-below}
+use lib.Seq.{length-take-le, take-set-lt, drop-set-add, get_or-take, get_or-drop, get_or-set_other}
+use borrow.Author.Rules.{rules}
+use borrow.Rule.Slice.PartMut.{put_mid}
+use Rattle.std.proofs.lemmas.List.{places}
+use Rattle.std.proofs.lemmas.Slice.{between-put_mid}
+use Rattle.roleset.proofs.BoundedLaws.{or_cases}
 use Rattle.hierarchy.specs.Lines.{table_of}
 use Rattle.model.specs.Model.{put}
 use Rattle.state.specs.Stores.{Table}
@@ -27,6 +31,10 @@ part_none l o n k p = get_or-eq_default (take n (drop o l)) 0 {n = k} (rw (lengt
 -- how long a part is
 pub part_length : (l : List ℕ) (o n : ℕ) → o + n ≤ length l → length (take n (drop o l)) ≡ n
 part_length l o n q = length-take-le n (drop o l) (rw (length-drop o l) (omega (arith, q)))
+
+-- what is lent of a state is a table
+pub lent : (l : List ℕ) (o n : ℕ) → o + n ≤ length l → Table n (part l o n) (take n (drop o l))
+lent l o n q = record { long = part_length l o n q; each = refl }
 
 -- ---- what is stored within one part leaves the others
 
@@ -56,10 +64,7 @@ same {o} {n} {l} {after} w p q a = fun_ext (λ k. go k (dec_lt k q))
     go k (yes h) = part_at after p q k h ∙ w.rest (p + k) (side k h (or_cases _ _ a)) ∙ sym (part_at l p q k h)
     go k (no h) = let z : q ≤ k = omega arith in part_none after p q k z ∙ sym (part_none l p q k z)
 
--- nothing changed; the same of more places; and two changes, one after the other
-pub unchanged : (l : List ℕ) (o n : ℕ) → Within o n l l
-unchanged l o n = record { long = refl; rest = λ k h. refl }
-
+-- the same of more places; and two changes, one after the other
 pub wider : {o n : ℕ} {l after : List ℕ} → Within o n l after → (p q : ℕ) → p ≤ o → o + n ≤ p + q → Within p q l after
 wider {o} {n} {l} {after} w p q a b = record { long = w.long; rest = λ k h. w.rest k (go k h) }
   where
@@ -84,29 +89,6 @@ part-store l o n k v p q =
     ap table_of (take-set-lt n (drop o l) k v p) ∙
     set_put (take n (drop o l)) k v 0 (rw (part_length l o n q) p)
 
--- ---- a part filled from an array, place by place: k of its n numbers are stored
-
-pub record Filled (o n k : ℕ) (from l after : List ℕ) : Type 0 where
-  pub within : Within o n l after
-  pub done : (j : ℕ) → j < k → get_or after (o + j) 0 ≡ get_or from j 0
-
-pub fill_start : (o n : ℕ) (from l : List ℕ) → Filled o n 0 from l l
-fill_start o n from l = record { within = unchanged l o n; done = λ j h. absurd (omega arith) }
-
-pub fill-store : (o n k : ℕ) (from l after : List ℕ) → k < n → o + n ≤ length l → Filled o n k from l after → Filled o n (k + 1) from l (set after (o + k) (get_or from k 0))
-fill-store o n k from l after h long f = record { within = then f.within (set-within after o n k (get_or from k 0) h); done = λ j q. go j (last-or-below j k (omega arith)) }
-  where
-    go : (j : ℕ) → (j ≡ k) ⊎ (j < k) → get_or (set after (o + k) (get_or from k 0)) (o + j) 0 ≡ get_or from j 0
-    go j (inl e) = rw e (get_or-set_same after (o + k) (get_or from k 0) 0 (omega (arith, f.within.long)))
-    go j (inr q) = get_or-set_other after (o + k) (o + j) (get_or from k 0) 0 (λ e. omega arith) ∙ f.done j q
-
-pub fill_end : (o n : ℕ) (from l after : List ℕ) → Filled o n n from l after → ◌≡◌ {A = ℕ → ℕ} (part after o n) (part from 0 n)
-fill_end o n from l after f = fun_ext (λ k. go k (dec_lt k n))
-  where
-    go : (k : ℕ) → Dec (k < n) → part after o n k ≡ part from 0 n k
-    go k (yes h) = part_at after o n k h ∙ f.done k h ∙ sym (get_or-take n from k 0 h)
-    go k (no h) = let z : n ≤ k = omega arith in part_none after o n k z ∙ sym (part_none from 0 n k z)
-
 -- a whole array as a part
 pub whole : (l : List ℕ) (n : ℕ) → length l ≡ n → ◌≡◌ {A = ℕ → ℕ} (part l 0 n) (table_of l)
 whole l n long = fun_ext (λ k. go k (dec_lt k n))
@@ -115,30 +97,22 @@ whole l n long = fun_ext (λ k. go k (dec_lt k n))
     go k (yes p) = get_or-take n (drop 0 l) k 0 p ∙ get_or-drop 0 l k 0 ∙ ap (λ (j : ℕ). get_or l j 0) (omega arith)
     go k (no p) = part_none l 0 n k (omega arith) ∙ sym (get_or-eq_default l 0 {n = k} (omega arith))
 
--- ---- an array of its own, copied from a part, place by place
+-- ---- a part written over whole
 
-pub copy-store : (f : ℕ → ℕ) (n k v : ℕ) (table : List ℕ) → k < n → length table ≡ n → v ≡ f k → ((j : ℕ) → j < k → get_or table j 0 ≡ f j) → (j : ℕ) → j < k + 1 → get_or (set table k v) j 0 ≡ f j
-copy-store f n k v table h long e done j q = go (last-or-below j k (omega arith))
-  where
-    go : (j ≡ k) ⊎ (j < k) → get_or (set table k v) j 0 ≡ f j
-    go (inl p) = rw p (get_or-set_same table k v 0 (omega arith) ∙ e)
-    go (inr p) = get_or-set_other table k j v 0 (λ z. omega arith) ∙ done j p
+module _ (o n : ℕ) (l x : List ℕ) (fits : o + n ≤ length l) (long : length x ≡ n) where
+  pub over-within : Within o n l (put_mid o n l x)
+  over-within = record { long = search (rules, places); rest = λ k h. go k h }
+    where
+      go : (k : ℕ) → (k < o) ⊎ (o + n ≤ k) → get_or (put_mid o n l x) k 0 ≡ get_or l k 0
+      go k (inl h) = search (rules, places)
+      go k (inr h) = search (rules, places)
 
-pub copy-end : (o n : ℕ) (l table : List ℕ) → length table ≡ n → ((j : ℕ) → j < n → get_or table j 0 ≡ get_or l (o + j) 0) → Table n (part l o n) table
-copy-end o n l table long done = record { long = long; each = fun_ext (λ k. go k (dec_lt k n)) }
-  where
-    go : (k : ℕ) → Dec (k < n) → get_or table k 0 ≡ part l o n k
-    go k (yes h) = done k h ∙ sym (part_at l o n k h)
-    go k (no h) = let z : n ≤ k = omega arith in get_or-eq_default table 0 {n = k} (omega arith) ∙ sym (part_none l o n k z)
+  pub over-part : ◌≡◌ {A = ℕ → ℕ} (part (put_mid o n l x) o n) (part x 0 n)
+  over-part =
+      let back : (o + n) - o ≡ n = omega arith in
+      ap table_of (rw back at (between-put_mid o n l x (o + n) (omega arith) (omega arith))) ∙ sym (whole x n long)
 
--- ---- states that agree in every place
-
-pub part_same : (l r : List ℕ) (most : ℕ) → ((j : ℕ) → j < most → get_or l j 0 ≡ get_or r j 0) → (o n : ℕ) → o + n ≤ most → ◌≡◌ {A = ℕ → ℕ} (part l o n) (part r o n)
-part_same l r most e o n h = fun_ext (λ k. go k (dec_lt k n))
-  where
-    go : (k : ℕ) → Dec (k < n) → part l o n k ≡ part r o n k
-    go k (yes p) = part_at l o n k p ∙ e (o + k) (omega arith) ∙ sym (part_at r o n k p)
-    go k (no p) = let z : n ≤ k = omega arith in part_none l o n k z ∙ sym (part_none r o n k z)
+-- ---- a state that is 0 in every place
 
 pub part-zero : (l : List ℕ) (most : ℕ) → ((j : ℕ) → j < most → get_or l j 0 ≡ 0) → (o n : ℕ) → o + n ≤ most → ◌≡◌ {A = ℕ → ℕ} (part l o n) (λ k. 0)
 part-zero l most e o n h = fun_ext (λ k. go k (dec_lt k n))

@@ -6,7 +6,8 @@ use Prim.Native.Nat.{ℕ, ◌+◌, ◌-◌, ◌/◌, ◌%◌, ◌<◌, ◌≤◌
 use native.Mathlib.Omega.{arith}
 use lib.Dec.{eqb, leb}
 use borrow.Author.Tests.{eqb-true, eqb-false, leb-false, lt-ltb, le-ltb, eq-eqb, ne_eqb}
-use lib.ListN.{get_or, length, set}
+use borrow.Rule.Slice.PartMut.{put_mid}
+use lib.ListN.{get_or, length, set, replicate, get_or-replicate}
 use Rattle.roleset.specs.Roles.{has}
 use Rattle.roleset.proofs.BoundedLaws.{or-clear}
 use Rattle.roleset.proofs.Laws.{has-none, has-with, has-without}
@@ -17,9 +18,9 @@ use Rattle.model.specs.commands.Sets.{sets_of, with_sets, a_set}
 use Rattle.model.specs.declared.Kind.{Kind}
 use Rattle.model.specs.declared.Kind.TheVariants.{Static, Dynamic}
 use Rattle.state.specs.Places.{holders_at, assigned_at, juniors_at, ssd_cards_at, ssd_roles_at, dsd_cards_at, dsd_roles_at, sets_at, owners_at, active_at, users_at, roles_at, assignment_count_at, grant_count_at, line_count_at, places}
-use Rattle.state.specs.Stores.{in_range, pick_member, set_stored}
+use Rattle.state.specs.Stores.{in_range, pick_member, set_stored, with_active}
 use Rattle.state.specs.View.{part, bits, paired, set_of, session_of, view}
-use Rattle.state.proofs.Slots.{Within, same, wider, then, set-within, part_at, part-store, apart_below, apart_above, part_same, part-zero}
+use Rattle.state.proofs.Slots.{Within, same, wider, then, set-within, part_at, part-store, over-within, over-part, apart_below, apart_above, part-zero}
 
 -- ---- a place within its range, and one beyond it
 
@@ -31,6 +32,9 @@ pub beyond : (n k : ℕ) (before after : Model) → n ≤ k → in_range n k bef
 unfolding in_range
 beyond n k before after h = rw (in_range, le-ltb k n h)
 
+-- what a command's proof asks of a store: that its number is a place, past refusal 1, and what is stored there then
+pub ruleset storing = (in-range, leb-false)
+
 -- past refusal 1 a number is a place of its table, whatever else was asked with it
 pub within : (n k : ℕ) (rest : Bool) → (leb n k || rest) ≡ false → k < n
 within n k rest h = leb-false n k (or-clear (leb n k) rest h).0
@@ -38,10 +42,6 @@ within n k rest h = leb-false n k (or-clear (leb n k) rest h).0
 -- and what is stored there is stored
 pub placed : (n k : ℕ) (before x after : Model) → k < n → after ≡ in_range n k before x → after ≡ x
 placed n k before x after h e = e ∙ in-range n k before x h
-
--- roles at a place of a table, and the count that goes with them
-pub placed-as : (n k : ℕ) (before after : Model) (stored : ℕ → ℕ → Model) (roles new standing count : ℕ) → roles ≡ new → standing ≡ count → k < n → after ≡ in_range n k before (stored roles standing) → after ≡ stored new count
-placed-as n k before after stored roles new standing count is counted h e = placed n k before (stored roles standing) after h e ∙ ap₂ stored is counted
 
 -- ---- the view of a state that differs within one part
 
@@ -249,11 +249,6 @@ user-stored l u there long h =
 
 -- ---- all of a state
 
--- two states that agree in every place mean the same
-pub all_same : (l r : List ℕ) → ((j : ℕ) → j < places → get_or l j 0 ≡ get_or r j 0) → view l ≡ view r
-unfolding view
-all_same l r e j = record { users = bits (part_same l r places e users_at 4 (omega arith) j); roles = part_same l r places e roles_at 1 (omega arith) j 0; juniors = part_same l r places e juniors_at 64 (omega arith) j; assigned = part_same l r places e assigned_at 256 (omega arith) j; holders = part_same l r places e holders_at 4096 (omega arith) j; ssd = paired set_of (part_same l r places e ssd_cards_at 16 (omega arith) j) (part_same l r places e ssd_roles_at 16 (omega arith) j); dsd = paired set_of (part_same l r places e dsd_cards_at 16 (omega arith) j) (part_same l r places e dsd_roles_at 16 (omega arith) j); sessions = paired session_of (part_same l r places e owners_at 64 (omega arith) j) (part_same l r places e active_at 64 (omega arith) j); assignment_count = part_same l r places e assignment_count_at 1 (omega arith) j 0; grant_count = part_same l r places e grant_count_at 1 (omega arith) j 0; line_count = part_same l r places e line_count_at 1 (omega arith) j 0 }
-
 -- where every number is 0, there is nothing
 pub all-zero : (l : List ℕ) → ((j : ℕ) → j < places → get_or l j 0 ≡ 0) → view l ≡ empty
 unfolding view empty
@@ -261,3 +256,39 @@ all-zero l e = zeros ∙ ap (with_users empty) (fun_ext (λ k. has-none (k % 64)
   where
     zeros : view l ≡ with_users empty (bits (λ k. 0))
     zeros j = record { users = bits (part-zero l places e users_at 4 (omega arith) j); roles = part-zero l places e roles_at 1 (omega arith) j 0; juniors = part-zero l places e juniors_at 64 (omega arith) j; assigned = part-zero l places e assigned_at 256 (omega arith) j; holders = part-zero l places e holders_at 4096 (omega arith) j; ssd = paired set_of (part-zero l places e ssd_cards_at 16 (omega arith) j) (part-zero l places e ssd_roles_at 16 (omega arith) j); dsd = paired set_of (part-zero l places e dsd_cards_at 16 (omega arith) j) (part-zero l places e dsd_roles_at 16 (omega arith) j); sessions = paired session_of (part-zero l places e owners_at 64 (omega arith) j) (part-zero l places e active_at 64 (omega arith) j); assignment_count = part-zero l places e assignment_count_at 1 (omega arith) j 0; grant_count = part-zero l places e grant_count_at 1 (omega arith) j 0; line_count = part-zero l places e line_count_at 1 (omega arith) j 0 }
+
+-- an array filled with 0
+pub all_zero : (l : List ℕ) (n : ℕ) → n ≡ places → l ≡ replicate n 0 → view l ≡ empty
+all_zero l n e h = all-zero l (λ j p. rw h (get_or-replicate n j 0 0 (omega arith)))
+
+-- one number that stands alone
+pub roles_stored : (l : List ℕ) (x : ℕ) → length l ≡ places → view (set l roles_at x) ≡ with_roles (view l) x
+unfolding put
+roles_stored l x long = roles_changed l _ (set-within l roles_at 1 0 x (omega arith)) x (ap (λ (f : ℕ → ℕ). f 0) (part-store l roles_at 1 0 x (omega arith) (omega arith)))
+
+-- a part written over with x, and the count beside it
+module _ (l x : List ℕ) (long : length l ≡ places) where
+  pub lines_stored : length x ≡ 64 → (n : ℕ) → view (set (put_mid juniors_at 64 l x) line_count_at n) ≡ with_lines (view l) (part x 0 64) n
+  unfolding put
+  lines_stored h n =
+      let first = over-within juniors_at 64 l x (omega arith) h in
+      lines_counted _ _ (set-within (put_mid juniors_at 64 l x) line_count_at 1 0 n (omega arith)) n (ap (λ (f : ℕ → ℕ). f 0) (part-store (put_mid juniors_at 64 l x) line_count_at 1 0 n (omega arith) (rw first.long (omega arith))))
+      ∙ ap (λ (m : Model). with_lines m m.juniors n) (juniors_changed l _ first _ (over-part juniors_at 64 l x (omega arith) h))
+
+  pub assignments_stored : length x ≡ 256 → (n : ℕ) → view (set (put_mid assigned_at 256 l x) assignment_count_at n) ≡ with_assignments (view l) (part x 0 256) n
+  unfolding put
+  assignments_stored h n =
+      let first = over-within assigned_at 256 l x (omega arith) h in
+      assignments_counted _ _ (set-within (put_mid assigned_at 256 l x) assignment_count_at 1 0 n (omega arith)) n (ap (λ (f : ℕ → ℕ). f 0) (part-store (put_mid assigned_at 256 l x) assignment_count_at 1 0 n (omega arith) (rw first.long (omega arith))))
+      ∙ ap (λ (m : Model). with_assignments m m.assigned n) (assigned_changed l _ first _ (over-part assigned_at 256 l x (omega arith) h))
+
+  pub actives_stored : length x ≡ 64 → view (put_mid active_at 64 l x) ≡ with_sessions (view l) (with_active (view l).sessions (part x 0 64))
+  unfolding view
+  actives_stored h =
+      let first = over-within active_at 64 l x (omega arith) h in
+      sessions_changed l _ (wider first owners_at 128 (omega arith) (omega arith)) _ (ap₂ (paired session_of) (same first owners_at 64 refl) (over-part active_at 64 l x (omega arith) h))
+
+-- the laws of the stores, and those of the sets, whose places the kind decides
+pub ruleset storing_one = (in-range, beyond, roles_stored, user-stored, line_stored, assignment_stored, grant_stored, session_stored, active_stored, one-more-session, all_zero, lines_stored, assignments_stored, actives_stored)
+
+pub ruleset storing_set = (in-range, beyond, sets-fit, set_stored_lem, members_stored, one-more-set)

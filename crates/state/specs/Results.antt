@@ -1,11 +1,19 @@
--- Where a function gives one result, or two: on a refusal there is none. Assumes nothing.
-use Rattle.std.specs.Prelude.{Bool, true, false, List, [], ◌∷◌, ℕ, eqb}
-use Rattle.numbers.specs.Answers.{number_of}
-use Rattle.numbers.specs.declared.Answer.{Answer}
+-- Where a function gives results, or is refused: on a refusal there are none. Assumes nothing.
+use Rattle.std.specs.Prelude.{Bool, true, false, List, [], ◌∷◌, ℕ, Result, Ok, Err}
+use Rattle.numbers.specs.Answers.{refusal_number}
+use Rattle.numbers.specs.declared.Refusal.{Refusal}
+use Rattle.model.specs.Model.{Model}
+use Rattle.model.specs.Sheet.{Told, done, refused}
 
--- the answer is 0, done
-abbrev pub is_done : Answer → Bool
-is_done a = eqb (number_of a) 0
+-- what is told over m: where it is done, the results of what was given, and on a refusal its number and no results
+unfoldable pub told_of : {A : Type 0} → (A → List ℕ) → Result A Refusal → Model → Told
+told_of results (Ok x) m = done (results x) m
+told_of results (Err refusal) m = refused (refusal_number refusal) m
+
+-- the number that was given; 0 on a refusal
+abbrev pub given_number : Result ℕ Refusal → ℕ
+given_number (Ok n) = n
+given_number (Err _) = 0
 
 -- the one result where it is done, and no results on a refusal
 abbrev pub given : Bool → ℕ → List ℕ

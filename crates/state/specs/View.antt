@@ -2,8 +2,7 @@
 use Rattle.std.specs.Prelude.{Bool, not, List, [], ◌≡◌, ℕ, ◌-◌, ◌/◌, ◌%◌, ◌<◌, ◌^◌, eqb, get_or, length, take, drop}
 use Rattle.roleset.specs.Roles.{has}
 use Rattle.hierarchy.specs.Lines.{table_of}
-use Rattle.numbers.specs.Answers.{number_of}
-use Rattle.numbers.specs.declared.Answer.{Answer}
+use Rattle.numbers.specs.Answers.{Answer, number_of}
 use Rattle.model.specs.Model.{Model, RoleSet, Session}
 use Rattle.model.specs.Sheet.{Told}
 use Rattle.state.specs.Places.{holders_at, assigned_at, juniors_at, ssd_cards_at, ssd_roles_at, dsd_cards_at, dsd_roles_at, owners_at, active_at, users_at, roles_at, assignment_count_at, grant_count_at, line_count_at, places}

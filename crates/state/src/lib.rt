@@ -1,4 +1,5 @@
 // The engine's state: one array of numbers, lent. What it means is the model `view` (specs/View); where each part stands is said once more here, for the code (specs/Places has the picture).
+// Kept (5, 6): the C interface lends `uint64_t state[4616]`, whose parts stand side by side (specs/Places): a struct in its place would be a copy, and one that borrows it would be made anew at each call.
 #![tactic(auto)]
 
 pub mod naming;

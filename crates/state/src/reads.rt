@@ -1,28 +1,22 @@
 // One thing of the state, read. What is beyond its range does not exist.
+#![tactic(auto, using(crate::proofs::Reading::reading))]
+
 ghost use Rattle.std.specs.Prelude.{◌≡◌};
 ghost use Rattle.roleset.specs.Roles.{has};
 ghost use Rattle.model.specs.commands.Sets.{sets_of};
 ghost use Rattle.state.specs.View.{view, set_of, session_of};
 
-use crate::naming::less;
-use crate::parts::sets_from;
-use crate::{
-    ACTIVE, ASSIGNED, ASSIGNMENT_COUNT, GRANT_COUNT, HOLDERS, JUNIORS, LINE_COUNT, OWNERS, PLACES,
-    ROLES, USERS,
-};
+use crate::parts::{assigned, holders, juniors, sets_from};
+use crate::{ACTIVE, ASSIGNMENT_COUNT, GRANT_COUNT, LINE_COUNT, OWNERS, PLACES, ROLES, USERS};
 use model::{Kind, RoleSet, SessionRecord};
-use numbers::{Role, Session, SetName, User};
+use numbers::{Numbered, Role, Session, SetName, User};
 
 // Does the user exist?
 pub fn has_user(state: &[u64; PLACES], u: User) -> bool
     ensures { result ≡ (view state.now).users u.number }
 {
-    let word = (u.number / 64) as usize;
-    if word < 4 {
-        roleset::has(state[USERS + word], u.number % 64)
-    } else {
-        false
-    }
+    let at = USERS + (u.number / 64) as usize;
+    !u.is_beyond() && roleset::has(state[at], u.number % 64)
 }
 
 // The roles that exist.
@@ -39,51 +33,51 @@ pub fn has_role(state: &[u64; PLACES], r: Role) -> bool
     roleset::has(state[ROLES], r.number)
 }
 
+// Kept (2): what these three share is the library's `get`; each is asked by a number of another type, and promises another field of the view.
 // The roles directly below the role.
 pub fn directly_below(state: &[u64; PLACES], r: Role) -> u64
     ensures { result ≡ (view state.now).juniors r.number }
 {
-    let at = r.number as usize;
-    if at < 64 { state[JUNIORS + at] } else { 0 }
+    juniors(state).get(r.number as usize).copied().unwrap_or(0)
 }
 
 // The roles assigned to the user.
 pub fn assigned_to(state: &[u64; PLACES], u: User) -> u64
     ensures { result ≡ (view state.now).assigned u.number }
 {
-    let at = u.number as usize;
-    if at < 256 { state[ASSIGNED + at] } else { 0 }
+    assigned(state).get(u.number as usize).copied().unwrap_or(0)
 }
 
 // The roles that hold the permission.
 pub fn holders_of(state: &[u64; PLACES], p: usize) -> u64
     ensures { result ≡ (view state.now).holders p }
 {
-    if p < 4096 { state[HOLDERS + p] } else { 0 }
+    holders(state).get(p).copied().unwrap_or(0)
 }
 
+// Kept (2): a set and a session are two records of the model (`RoleSet`, `SessionRecord`), which its definitions and theorems name field by field.
 // The set with this cardinality, by the number that stands for it, and these roles.
 fn set_of(card: u64, roles: u64) -> RoleSet
     ensures { result ≡ set_of card roles }
 {
     RoleSet {
         there: card != 0,
-        card: less(card, 1),
+        card: card.saturating_sub(1),
         roles,
     }
 }
 
 // The set of this kind by this name.
+#[tactic(auto, using(crate::proofs::Reading::reading_set))]
 pub fn set_named(state: &[u64; PLACES], kind: Kind, name: SetName) -> RoleSet
     ensures { result ≡ sets_of kind (view state.now) name.number }
 {
-    let at = name.number as usize;
-    if at < 16 {
-        let from = sets_from(kind);
-        set_of(state[from + at], state[from + 16 + at])
-    } else {
-        set_of(0, 0)
+    if name.is_beyond() {
+        return set_of(0, 0);
     }
+    let from = sets_from(kind);
+    let at = name.number as usize;
+    set_of(state[from + at], state[from + 16 + at])
 }
 
 // The session with this owner, by the number that stands for it, and these active roles.
@@ -92,7 +86,7 @@ fn session_of(owner: u64, active: u64) -> SessionRecord
 {
     SessionRecord {
         live: owner != 0,
-        owner: less(owner, 1),
+        owner: owner.saturating_sub(1),
         active,
     }
 }
@@ -101,14 +95,14 @@ fn session_of(owner: u64, active: u64) -> SessionRecord
 pub fn session_at(state: &[u64; PLACES], x: Session) -> SessionRecord
     ensures { result ≡ (view state.now).sessions x.number }
 {
-    let at = x.number as usize;
-    if at < 64 {
-        session_of(state[OWNERS + at], state[ACTIVE + at])
-    } else {
-        session_of(0, 0)
+    if x.is_beyond() {
+        return session_of(0, 0);
     }
+    let at = x.number as usize;
+    session_of(state[OWNERS + at], state[ACTIVE + at])
 }
 
+// Kept (2): one number each, and what is promised of it; there is nothing to share.
 // How many assignments stand.
 pub fn assignment_count(state: &[u64; PLACES]) -> u64
     ensures { result ≡ (view state.now).assignment_count }

@@ -1,11 +1,10 @@
 -- What one turn of a sweep does to one session: shedding, and ending. Assumes nothing.
-use mathlib.Core.Bool.{Bool, true, false, ◌&&◌}
+use mathlib.Core.Bool.{Bool, true, false}
 use mathlib.Core.Logic.{◌⊎◌, inl, inr}
 use mathlib.Core.Path.{◌≡◌, refl, sym, ap, ◌∙◌, fun_ext}
 use Prim.Native.Nat.{ℕ, ◌+◌, ◌≤◌, ◌<◌}
 use native.Mathlib.Omega.{arith}
 use native.Mathlib.Decide.{dec_lt}
-use lib.Dec.{eqb}
 use Rattle.roleset.specs.Roles.{common}
 use Rattle.roleset.proofs.BoundedLaws.{last-or-below}
 use Rattle.hierarchy.specs.Walks.{reach}

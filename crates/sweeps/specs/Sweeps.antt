@@ -1,5 +1,5 @@
 -- What the sweeps over all users and over all sessions give. Assumes nothing.
-use Rattle.std.specs.Prelude.{Bool, false, List, map, ◌≡◌, ℕ, ◌<◌, length}
+use Rattle.std.specs.Prelude.{Bool, List, map, ◌≡◌, ℕ, ◌<◌, length}
 use Rattle.roleset.specs.Bounded.{some}
 use Rattle.roleset.specs.Roles.{without}
 use Rattle.hierarchy.specs.Lines.{table_of}
@@ -19,10 +19,6 @@ own_roles Dynamic m s = (m.sessions s).active
 -- the rule of the kind is broken for some user, or in some session, of m, with these lines
 abbrev pub asks_rule : Kind → Model → (ℕ → ℕ) → Bool
 asks_rule kind m juniors = some (asked_of kind) (λ i. breaks_some (sets_of kind m) (reach juniors (own_roles kind m i)))
-
--- b says whether one of those who have these roles themselves breaks the rule with all that these inherit by the lines, where having no role does not
-abbrev pub Asked : (ℕ → Bool) → (ℕ → ℕ) → List ℕ → Bool → Type 0
-Asked rule lines own b = rule 0 ≡ false → b ≡ some (length own) (λ i. rule (reach lines (table_of own i)))
 
 -- the active roles that each session keeps
 pub record ShedsAll (juniors assigned : ℕ → ℕ) (sessions : ℕ → Session) (kept : List ℕ) : Type 0 where

@@ -1,15 +1,16 @@
 // Sweeps over all users and over all sessions of the lent state, one walk each. Where lines or assignments are to change, a sweep goes over tables as they will be, and nothing is stored yet.
 #![tactic(auto)]
 
-ghost use Rattle.std.specs.Prelude.{◌≡◌};
+ghost use Rattle.std.specs.Prelude.{◌≡◌, ◌<◌, MatchOption};
 ghost use Rattle.hierarchy.specs.Lines.{table_of};
 ghost use Rattle.model.specs.Model.{Session};
-ghost use Rattle.model.specs.Words.{breaks, breaks_some, shedded};
+ghost use Rattle.model.specs.Words.{shedded};
 ghost use Rattle.model.specs.commands.Sessions.{lowest_free};
-ghost use Rattle.model.specs.commands.Sets.{sets_of, broken};
+ghost use Rattle.model.specs.commands.Sets.{asked_of, broken};
 ghost use Rattle.model.specs.commands.Users.{open_of, all_ended, has_open};
+ghost use Rattle.state.specs.Stores.{Table};
 ghost use Rattle.state.specs.View.{part, view};
-ghost use Rattle.sweeps.specs.Sweeps.{asks_rule, Asked, ShedsAll, Strips};
+ghost use Rattle.sweeps.specs.Sweeps.{own_roles, asks_rule, ShedsAll, Strips};
 
 use model::{Kind, RoleSet, SessionRecord};
 use numbers::{Role, Session, User};
@@ -20,32 +21,19 @@ use state::reads::session_at;
 use state::stores::close_session;
 
 // All 64 roles.
-const ALL_ROLES: u64 = 18446744073709551615;
+const ALL_ROLES: u64 = u64::MAX;
 
-// Does one of those who have these roles themselves break a rule of the kind, with these lines? The first ends the sweep, and one with no role is not walked for: a closed session costs no walk. It is asked only where having no role breaks none.
-fn ask_each<'a>(
-    state: &'a [u64; PLACES],
-    kind: Kind,
-    juniors: &'a [u64; 64],
-    own: &'a [u64],
-) -> bool
-    ensures { Asked (breaks_some (sets_of kind (view state.now))) (table_of juniors.now) own.now result }
+// The roles that those have themselves of whom a rule of the kind is asked: the users, or the sessions.
+fn own_roles(state: &[u64; PLACES], kind: Kind) -> &[u64]
+    ensures { Table (asked_of kind) (own_roles kind (view state.now)) result.now }
 {
-    let mut i: usize = 0;
-    while i < own.len() {
-        let roles = own[i];
-        i += 1;
-        if roles != 0 {
-            let held = hierarchy::reach(juniors, roles);
-            if breaks_some(state, kind, held) {
-                return true;
-            }
-        }
+    match kind {
+        Kind::Static => assigned(state),
+        Kind::Dynamic => active(state),
     }
-    false
 }
 
-// Is a rule of the kind broken for some user, or in some session, with these lines? Where having no role breaks one, everybody does; where having all 64 breaks none, nobody does, so that with no set of the kind there is no sweep.
+// Is a rule of the kind broken for some user, or in some session, with these lines? Where having no role breaks one, everybody does; where having all 64 breaks none, nobody does, so that with no set of the kind there is no sweep. Else the first ends it, and one with no role is not walked for: a closed session costs no walk.
 pub fn ask_rule<'a>(state: &'a [u64; PLACES], kind: Kind, juniors: &'a [u64; 64]) -> bool
     ensures { result ≡ asks_rule kind (view state.now) (table_of juniors.now) }
 {
@@ -55,28 +43,9 @@ pub fn ask_rule<'a>(state: &'a [u64; PLACES], kind: Kind, juniors: &'a [u64; 64]
     if !breaks_some(state, kind, ALL_ROLES) {
         return false;
     }
-    match kind {
-        Kind::Static => ask_each(state, kind, juniors, assigned(state)),
-        Kind::Dynamic => ask_each(state, kind, juniors, active(state)),
-    }
-}
-
-// Does one of those who have these roles themselves break the rule of the set? As above.
-fn ask_each_of_set<'a>(state: &'a [u64; PLACES], set: RoleSet, own: &'a [u64]) -> bool
-    ensures { Asked (breaks set) (view state.now).juniors own.now result }
-{
-    let mut k: usize = 0;
-    while k < own.len() {
-        let roles = own[k];
-        k += 1;
-        if roles != 0 {
-            let held = walking::reach(state, roles);
-            if breaks(set, held) {
-                return true;
-            }
-        }
-    }
-    false
+    own_roles(state, kind).iter().any(|roles| {
+        *roles != 0 && breaks_some(state, kind, hierarchy::reach(juniors, *roles))
+    })
 }
 
 // Is the rule of the set broken? A static one is asked of the roles that each user is authorised for, a dynamic one of those that are effective in each session.
@@ -86,10 +55,8 @@ pub fn ask_set(state: &[u64; PLACES], kind: Kind, set: RoleSet) -> bool
     if breaks(set, 0) {
         return true;
     }
-    match kind {
-        Kind::Static => ask_each_of_set(state, set, assigned(state)),
-        Kind::Dynamic => ask_each_of_set(state, set, active(state)),
-    }
+    own_roles(state, kind).iter().any(|roles| *roles != 0
+        && breaks(set, walking::reach(state, *roles)))
 }
 
 // What one session keeps of its active roles; a closed one stays as it is.
@@ -99,11 +66,7 @@ fn left_to<'a>(juniors: &'a [u64; 64], assigned: &'a [u64; 256], session: Sessio
     if !session.live {
         return session.active;
     }
-    let mut held = 0u64;
-    let owner = session.owner;
-    if owner < 256 {
-        held = assigned[owner as usize];
-    }
+    let held = assigned.get(session.owner as usize).copied().unwrap_or(0);
     let authorised = hierarchy::reach(juniors, held);
     roleset::common(session.active, authorised)
 }
@@ -116,12 +79,10 @@ pub fn shed<'a>(
 ) -> [u64; 64]
     ensures { ShedsAll (table_of juniors.now) (part assigned.now 0 256) (view state.now).sessions result }
 {
-    let mut active = [0u64; 64];
-    let mut k: u16 = 0;
-    while k < 64 {
-        let session = session_at(state, Session { number: k });
-        active[k as usize] = left_to(juniors, assigned, session);
-        k += 1;
+    let mut active = [0; 64];
+    for (k, kept) in active.iter_mut().enumerate() {
+        let session = session_at(state, Session { number: k as u16 });
+        *kept = left_to(juniors, assigned, session);
     }
     active
 }
@@ -130,30 +91,18 @@ pub fn shed<'a>(
 fn open_of(session: SessionRecord, u: User) -> bool
     ensures { result ≡ open_of u.number session }
 {
-    let live = session.live;
-    let owner = session.owner;
-    let user = u.number as u64;
-    if !live {
-        return false;
-    }
-    if owner == user {
-        return true;
-    }
-    false
+    session.live && session.owner == u64::from(u.number)
 }
 
 // The sessions of the user end; another's stay.
 pub fn end_all(state: &mut [u64; PLACES], u: User)
     ensures { view state.new ≡ all_ended (view state.old) u.number }
 {
-    let mut k: u16 = 0;
-    while k < 64 {
+    for k in 0..64 {
         let x = Session { number: k };
-        let session = session_at(state, x);
-        if open_of(session, u) {
+        if open_of(session_at(state, x), u) {
             close_session(state, x);
         }
-        k += 1;
     }
 }
 
@@ -161,45 +110,34 @@ pub fn end_all(state: &mut [u64; PLACES], u: User)
 pub fn has_open(state: &[u64; PLACES], u: User) -> bool
     ensures { result ≡ has_open (view state.now) u.number }
 {
-    let mut at: u16 = 0;
-    while at < 64 {
-        let session = session_at(state, Session { number: at });
-        if open_of(session, u) {
-            return true;
-        }
-        at += 1;
-    }
-    false
+    (0..64u16).any(|k| open_of(session_at(state, Session { number: k }), u))
 }
 
-// The session with the lowest number that no live one has; session 64, which is beyond its range, where there is none.
-pub fn lowest_free(state: &[u64; PLACES]) -> Session
-    ensures { result ≡ record { number = lowest_free (view state.now) } }
+// The session with the lowest number that no live one has; none where all 64 are live.
+#[tactic(auto, using(crate::proofs::Free::look_on, crate::proofs::Free::look_found, crate::proofs::Free::look_end))]
+pub fn lowest_free(state: &[u64; PLACES]) -> Option<Session>
+    ensures { MatchOption result (lowest_free (view state.now) ≡ 64) (λ x. (x.number ≡ lowest_free (view state.now)) × (x.number < 64)) }
 {
-    let mut k: u16 = 0;
-    while k < 64 {
-        let x = Session { number: k };
+    for number in 0..64 {
+        let x = Session { number };
         let session = session_at(state, x);
         if !session.live {
-            return x;
+            return Some(x);
         }
-        k += 1;
     }
-    Session { number: 64 }
+    None
 }
 
 // The role is taken out of every set of a table, and how many had it.
 pub fn strip(table: &mut [u64], r: Role) -> u64
     ensures { Strips table.old table.new r.number result }
 {
-    let mut n: u64 = 0;
-    let mut k: usize = 0;
-    while k < table.len() {
-        if roleset::has(table[k], r.number) {
+    let mut n = 0;
+    for set in table.iter_mut() {
+        if roleset::has(*set, r.number) {
             n += 1;
         }
-        table[k] = roleset::without(table[k], r.number);
-        k += 1;
+        *set = roleset::without(*set, r.number);
     }
     n
 }

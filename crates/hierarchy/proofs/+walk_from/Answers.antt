@@ -1,17 +1,10 @@
 -- The walk is that of the definition. Assumes nothing.
-use mathlib.Core.Path.{sym}
-use Rattle.roleset.proofs.Laws.{is_empty-none}
-use Rattle.hierarchy.specs.Lines.{table_of}
-use Rattle.hierarchy.proofs.WalkLaws.{walk_empty, walk_stopped}
 use Rattle.roleset.proofs.Taking.{not-zero}
-use Rattle.hierarchy.proofs.Fronts.{union-none, walk_step}
+use Rattle.hierarchy.proofs.Fronts.{walk-over, walk_step}
 use Rattle.hierarchy.proofs.+walk_from.Goals as goal
 
 pub returns-then-front-eq0 : goal.returns-then-front-eq0
-returns-then-front-eq0 t c = rw (walk_empty (table_of c.args.juniors.now) c.args.allowed c.args.front (rw c.if-front-eq0.true is_empty-none)) (sym (union-none c.args.met c.ranges.met.fits))
-
-pub returns-then-allowed-eq0 : goal.returns-then-allowed-eq0
-returns-then-allowed-eq0 t c = rw (c.if-allowed-eq0.true, walk_stopped (table_of c.args.juniors.now) c.args.front) (sym (union-none c.args.met c.ranges.met.fits))
+returns-then-front-eq0 g t c = walk-over (g.L.Lines.table c.args.lines.now) c.args.allowed c.args.front c.args.met c.ranges.met.fits c.then-front-eq0.either
 
 pub returns : goal.returns
-returns t c = walk_step (table_of c.args.juniors.now) c.args.allowed c.args.front c.juniors_of-next.result c.args.met c.union-more.result c.walk_from.result c.if-allowed-eq0.false (not-zero c.args.front c.ranges.front.fits c.if-front-eq0.false) c.juniors_of-next.ensures c.union-more.ensures.is c.walk_from.ensures
+returns g t c = walk_step (g.L.Lines.table c.args.lines.now) c.args.allowed c.args.front c.juniors_of-next.result c.args.met c.union-more.result c.walk_from.result c.if-allowed-eq0.false (not-zero c.args.front c.ranges.front.fits c.if-front-eq0.false) c.juniors_of-next.ensures c.union-more.ensures.is c.walk_from.ensures

@@ -2,4 +2,4 @@
 use Rattle.hierarchy.proofs.+walk_from.Given as goal
 
 abbrev pub decreases-walk_from : goal.decreases-walk_from
-decreases-walk_from l = l.allowed
+decreases-walk_from g l = l.allowed

@@ -11,4 +11,4 @@ pub returns : goal.returns
 unfolding at_or_above
 returns c =
     let lines = table_of c.args.juniors.now in
-    above-reaches lines c.args.r.number c.reach.result (c.reach.ensures.is ∙ rw c.with-from.ensures.is (reach-ext (table_of c.turned-above.result) (turned lines) (with none c.args.r.number) c.turned-above.ensures))
+    above-reaches lines c.args.r.number c.reach.result (c.reach.ensures.is ∙ rw c.with.ensures.is (reach-ext (table_of c.turned.result) (turned lines) (with none c.args.r.number) c.turned.ensures))

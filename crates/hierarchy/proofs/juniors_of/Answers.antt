@@ -1,31 +1,26 @@
 -- What is met so far, with the juniors of the roles that are left, is what is asked. Assumes nothing.
-use mathlib.Core.Path.{sym, ap, ◌∙◌}
+use mathlib.Core.Path.{◌≡◌, sym, ◌∙◌}
 use native.Mathlib.Omega.{arith}
-use Rattle.roleset.specs.Roles.{count}
-use Rattle.roleset.proofs.Laws.{union-small, without-small}
-use Rattle.hierarchy.specs.Lines.{table_of}
-use Rattle.roleset.proofs.Taking.{Taken, lowest-taken}
+use Rattle.std.proofs.Common.{rules}
+use Rattle.roleset.proofs.Laws.{union-small}
+use Rattle.roleset.proofs.Taking.{next, at-end}
 use Rattle.hierarchy.proofs.Fronts.{juniors_step, juniors_begin, juniors_end}
 use Rattle.hierarchy.proofs.juniors_of.Goals as goal
-use Rattle.hierarchy.proofs.juniors_of.Goals.{After-lowest-s}
 
-pub loop-rest-init : goal.loop-rest-init
-loop-rest-init c = (omega arith, omega arith, juniors_begin (table_of c.args.juniors.now) c.args.front)
+pub loop-s-init : goal.loop-s-init
+loop-s-init g c =
+    let all : c.into_iter-s-iterator.result.rest ≡ c.args.front = search rules in
+    (omega arith, rw all (juniors_begin (g.L.Lines.table c.args.lines.now) c.args.front))
 
--- the role taken is one that is left
-taken : (c : After-lowest-s) → Taken c.loop-rest.rest c.lowest-s.result
-taken c = lowest-taken _ _ c.loop-rest.invariant.1 c.loop-rest-test.true c.lowest-s.ensures.1.0
-
-pub bounds-juniors-s : goal.bounds-juniors-s
-bounds-juniors-s c = omega (arith, (taken (goal.at.bounds-juniors-s c).After-lowest-s).small)
-
-pub loop-rest-smaller : goal.loop-rest-smaller
-loop-rest-smaller c = omega (arith, ap count c.without-rest.ensures.is, (taken (goal.at.loop-rest-smaller c).After-lowest-s).fewer)
-
-pub loop-rest-preserved : goal.loop-rest-preserved
-loop-rest-preserved c = (rw c.union-met.ensures.is (union-small _ _), rw c.without-rest.ensures.is (without-small _ _), rw (c.union-met.ensures.is, c.without-rest.ensures.is) (juniors_step (table_of c.args.juniors.now) c.loop-rest.rest c.lowest-s.result (taken (goal.at.loop-rest-preserved c).After-lowest-s).small (taken (goal.at.loop-rest-preserved c).After-lowest-s).member c.loop-rest.met ∙ c.loop-rest.invariant.2))
+pub loop-s-preserved : goal.loop-s-preserved
+loop-s-preserved g c =
+    let lines = g.L.Lines.table c.args.lines.now in
+    let at = c.loop-s in
+    let taken = next at.s-iterator.fits c.next.new.self.fits c.in-Some.ensures.steps in
+    (rw c.union-met.ensures.is (union-small _ _), rw (c.union-met.ensures.is, c.below.ensures, taken.rest) (juniors_step lines at.s-iterator.rest c.in-Some.s taken.small taken.lowest.member at.met ∙ at.invariant.1))
 
 pub returns : goal.returns
-returns c =
-    let lines = table_of c.args.juniors.now in
-    sym (juniors_end lines c.loop-rest.met c.loop-rest.invariant.0) ∙ (rw c.loop-rest-test.false at c.loop-rest.invariant.2)
+returns g c =
+    let at = c.loop-s in
+    let none = at-end at.s-iterator.fits c.in-None.ensures.steps.0 in
+    sym (juniors_end (g.L.Lines.table c.args.lines.now) at.met at.invariant.0) ∙ (rw none at at.invariant.1)

@@ -1,36 +1,25 @@
 -- Marking the places that are left gives what is asked. Assumes nothing.
-use mathlib.Core.Path.{refl, sym, ap, ◌∙◌}
-use native.Mathlib.Omega.{arith}
+use mathlib.Core.Path.{sym, ◌∙◌}
 use lib.ListN.{length-set}
-use Rattle.roleset.specs.Roles.{count}
-use Rattle.roleset.proofs.Laws.{has-none, without-small}
-use Rattle.roleset.proofs.Taking.{Taken, lowest-taken}
+use Rattle.roleset.proofs.Laws.{has-none}
+use Rattle.roleset.proofs.Taking.{next, at-end}
 use Rattle.hierarchy.proofs.Marking.{mark-step}
 use Rattle.hierarchy.proofs.mark.Goals as goal
-use Rattle.hierarchy.proofs.mark.Goals.{After-lowest-j}
-
-pub loop-rest-init : goal.loop-rest-init
-loop-rest-init c = (c.requires, omega arith, λ k l. refl)
-
--- the place taken is one that is left
-taken : (c : After-lowest-j) → Taken c.loop-rest.rest c.lowest-j.result
-taken c = lowest-taken _ _ c.loop-rest.invariant.1 c.loop-rest-test.true c.lowest-j.ensures.1.0
 
 pub bounds-t-at : goal.bounds-t-at
-bounds-t-at c = omega (arith, (taken (goal.at.bounds-t-at c).After-lowest-j).small)
+bounds-t-at c = (next c.loop-j.j-iterator.fits c.next.new.self.fits c.in-Some.ensures.steps).small
 
-pub bounds-t-at-in-loop-rest : goal.bounds-t-at-in-loop-rest
-bounds-t-at-in-loop-rest c = omega (arith, (taken (goal.at.bounds-t-at-in-loop-rest c).After-lowest-j).small)
+pub bounds-t-at-in-loop-j : goal.bounds-t-at-in-loop-j
+bounds-t-at-in-loop-j c = (next c.loop-j.j-iterator.fits c.next.new.self.fits c.in-Some.ensures.steps).small
 
-pub loop-rest-smaller : goal.loop-rest-smaller
-loop-rest-smaller c = omega (arith, ap count c.without-rest.ensures.is, (taken (goal.at.loop-rest-smaller c).After-lowest-j).fewer)
-
-pub loop-rest-preserved : goal.loop-rest-preserved
-loop-rest-preserved c =
-    let head = c.loop-rest in
-    (length-set head.t c.lowest-j.result c.with.result ∙ head.invariant.0, rw c.without-rest.ensures.is (without-small _ _), λ k l. rw (c.with.ensures.is, c.without-rest.ensures.is) (mark-step head.t head.rest c.lowest-j.result c.args.s head.invariant.0 (taken (goal.at.loop-rest-preserved c).After-lowest-j).small (taken (goal.at.loop-rest-preserved c).After-lowest-j).member k l ∙ head.invariant.2 k l))
+pub loop-j-preserved : goal.loop-j-preserved
+loop-j-preserved c =
+    let head = c.loop-j in
+    let taken = next head.j-iterator.fits c.next.new.self.fits c.in-Some.ensures.steps in
+    (length-set head.t c.in-Some.j c.with.result ∙ head.invariant.0, λ k l. rw (c.with.ensures.is, taken.rest) (mark-step head.t head.j-iterator.rest c.in-Some.j c.args.s head.invariant.0 taken.small taken.lowest.member k l ∙ head.invariant.1 k l))
 
 pub returns : goal.returns
 returns c =
-    let head = c.loop-rest in
-    record { size = head.invariant.0; each = λ k l. sym (rw (c.loop-rest-test.false, has-none k)) ∙ head.invariant.2 k l }
+    let head = c.loop-j in
+    let none = at-end head.j-iterator.fits c.in-None.ensures.steps.0 in
+    record { size = head.invariant.0; each = λ k l. sym (rw (none, has-none k)) ∙ head.invariant.1 k l }

@@ -6,17 +6,14 @@ use Rattle.hierarchy.proofs.Marking.{seniors-begin, seniors-step, seniors-end, z
 use Rattle.hierarchy.proofs.turned.Goals as goal
 
 pub loop-s-init : goal.loop-s-init
-loop-s-init c = (refl, omega arith, λ k l. zeros k l ∙ sym (seniors-begin (table_of c.args.juniors.now) k))
-
-pub mark-requires : goal.mark-requires
-mark-requires c = c.loop-s.invariant.0
+loop-s-init c = (refl, λ k l. zeros k l ∙ sym (seniors-begin (table_of c.args.juniors.now) k))
 
 pub loop-s-preserved : goal.loop-s-preserved
 loop-s-preserved c =
     let lines = table_of c.args.juniors.now in
-    (c.mark.ensures.size, omega arith, λ k l. c.mark.ensures.each k l ∙ rw (c.loop-s.invariant.2 k l) (seniors-step lines c.loop-s.s k))
+    (c.mark.ensures.size, λ k l. c.mark.ensures.each k l ∙ rw (c.loop-s.invariant.1 k l) (seniors-step lines c.loop-s.s k))
 
 pub returns : goal.returns
 returns c = λ k l.
     let full : c.loop-s.s ≡ 64 = omega arith in
-    c.loop-s.invariant.2 k l ∙ rw full (seniors-end (table_of c.args.juniors.now) k)
+    c.loop-s.invariant.1 k l ∙ rw full (seniors-end (table_of c.args.juniors.now) k)

@@ -1,13 +1,10 @@
 -- Place k holds the seniors of k among the roles passed. Assumes nothing.
 use mathlib.Core.Path.{◌≡◌}
-use Prim.Native.Nat.{ℕ, ◌-◌, ◌<◌, ◌≤◌}
+use Prim.Native.Nat.{ℕ, ◌<◌}
 use lib.ListN.{length}
 use Rattle.hierarchy.specs.Lines.{table_of}
 use Rattle.hierarchy.proofs.Marking.{seniors_below}
 use Rattle.hierarchy.proofs.turned.Given as goal
 
 abbrev pub invariant-loop-s : goal.invariant-loop-s
-invariant-loop-s l = (length l.t ≡ 64) × (l.s ≤ 64) × ((k : ℕ) → k < 64 → table_of l.t k ≡ seniors_below (table_of l.juniors) l.s k)
-
-abbrev pub decreases-loop-s : goal.decreases-loop-s
-decreases-loop-s l = 64 - l.s
+invariant-loop-s l = (length l.t ≡ 64) × ((k : ℕ) → k < 64 → table_of l.t k ≡ seniors_below (table_of l.juniors) l.s k)

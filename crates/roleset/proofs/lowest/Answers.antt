@@ -1,11 +1,15 @@
--- The lowest bit that is 1 is the lowest member. Assumes nothing.
-use native.Mathlib.Omega.{arith}
-use lib.Count.{trailing_le}
-use Rattle.roleset.proofs.Machine.{trailing-member, trailing-empty}
+-- The lowest bit that is 1 is the lowest member; the number 0 has no bit that is 1. Assumes nothing.
+use mathlib.Core.Path.{ap, ◌∙◌}
+use Rattle.roleset.specs.Roles.{is_empty}
+use Rattle.roleset.proofs.Laws.{is_empty-none, member-small}
+use Rattle.roleset.proofs.Machine.{trailing-member}
+use Rattle.roleset.proofs.Taking.{not-zero}
 use Rattle.roleset.proofs.lowest.Goals as goal
 
-pub overflow_cast-result : goal.overflow_cast-result
-overflow_cast-result c = omega (arith, trailing_le 64 c.args.s)
+pub returns-then-s-eq0 : goal.returns-then-s-eq0
+returns-then-s-eq0 c = ap is_empty c.if-s-eq0.true ∙ is_empty-none
 
 pub returns : goal.returns
-returns c = (trailing_le 64 c.args.s, (trailing-member c.args.s, trailing-empty c.args.s c.ranges.s.fits))
+returns c =
+    let low = trailing-member c.args.s (not-zero c.args.s c.ranges.s.fits c.if-s-eq0.false) in
+    (member-small c.args.s _ c.ranges.s.fits low.member, low)

@@ -2,19 +2,15 @@
 use mathlib.Core.Path.{◌≡◌, sym, ap, ◌∙◌}
 use native.Mathlib.Omega.{arith}
 use Rattle.roleset.specs.Roles.{without, count}
-use Rattle.roleset.proofs.Laws.{count_none}
-use Rattle.roleset.proofs.Taking.{lowest-taken}
+use Rattle.roleset.proofs.Laws.{count_none, count-without, is_empty-zero}
 use Rattle.roleset.proofs.size.Goals as goal
 
-pub returns-then-s-eq0 : goal.returns-then-s-eq0
-returns-then-s-eq0 c =
-    let zero : c.before.args.s ≡ 0 = omega arith in
-    (sym (ap count zero ∙ count_none), omega arith)
+pub returns-in-None : goal.returns-in-None
+returns-in-None c = (sym (ap count (is_empty-zero c.args.s c.ranges.s.fits c.in-None.ensures) ∙ count_none), omega arith)
 
-pub returns-then-without-eq0 : goal.returns-then-without-eq0
-returns-then-without-eq0 c =
-    let start = c.before.before.before.before in
-    let low = c.before.before in
-    let taken = lowest-taken start.args.s low.lowest.result start.ranges.s.fits low.before.if-s-eq0.false low.lowest.ensures.1.0 in
-    let rest : count (without start.args.s low.lowest.result) ≡ 0 = ap count (sym c.before.without.ensures.is ∙ c.if-without-eq0.true) ∙ count_none in
-    (omega (arith, taken.fewer, rest), omega arith)
+pub returns-in-Some : goal.returns-in-Some
+returns-in-Some c =
+    let r = c.in-Some.r in
+    let low = c.in-Some.ensures in
+    let rest : count (without c.args.s r) ≡ 0 = ap count (sym c.without.ensures.is ∙ c.if-without-eq0.true) ∙ count_none in
+    (omega (arith, count-without c.args.s r low.0 low.1.member, rest), omega arith)

@@ -1,4 +1,4 @@
--- Whether the set shares as many roles with those held is the definition's own test. Assumes nothing.
+-- What the set's roles and the roles held have in common is counted. Assumes nothing.
 use mathlib.Core.Path.{ap, ◌∙◌}
 use Prim.Native.Nat.{ℕ}
 use lib.Dec.{leb}
@@ -8,8 +8,4 @@ use Rattle.separation.proofs.breaks.Goals as goal
 
 pub returns-then-set : goal.returns-then-set
 unfolding breaks
-returns-then-set c = rw (breaks, c.if-set.true) (c.at_least.ensures ∙ ap (λ (shared : ℕ). leb c.args.set.card (count shared)) c.common.ensures.is)
-
-pub returns-else-set : goal.returns-else-set
-unfolding breaks
-returns-else-set c = rw c.if-set.false
+returns-then-set c = rw c.if-set.true (c.at_least.ensures ∙ ap (λ (s : ℕ). leb c.args.set.card (count s)) c.common.ensures.is)

@@ -1,33 +1,30 @@
 -- Having no role, and else one by one, by the table of the kind. Assumes nothing.
-use mathlib.Core.Bool.{Bool, false}
-use mathlib.Core.Path.{◌≡◌, sym, ◌∙◌}
-use Rattle.roleset.specs.Bounded.{some}
+use borrow.Author.Rules.{rules}
+use borrow.Author.Tests.{tests}
+use mathlib.Core.Bool.{◌&&◌, not}
+use mathlib.Core.Path.{sym, ◌∙◌}
+use lib.Dec.{eqb}
+use Rattle.std.proofs.lemmas.Iterator.{YieldsList-from_slice}
+use Rattle.std.proofs.lemmas.Iterator.Search.{any_from_yields_List}
+use Rattle.hierarchy.specs.Walks.{reach}
 use Rattle.model.specs.Words.{breaks}
-use Rattle.model.specs.commands.Sets.{asked_of, broken}
-use Rattle.model.specs.declared.Kind.TheVariants.{Static, Dynamic}
+use Rattle.model.specs.commands.Sets.{asked_of}
 use Rattle.separation.proofs.Breaking.{breaks-any}
 use Rattle.state.specs.View.{view}
 use Rattle.sweeps.specs.Sweeps.{own_roles}
-use Rattle.sweeps.proofs.Asking.{breaking, set-broken, asks_any, asked-some, table-of, asked_of_table}
+use Rattle.sweeps.proofs.Asking.{set-broken, asks_any, asked-some, asked-any}
 use Rattle.sweeps.proofs.ask_set.Goals as goal
-use Rattle.sweeps.proofs.ask_set.Goals.{Else-breaks, Start}
-
--- the promise, in the words of the sweep
-says : (c : Start) {b : Bool} → b ≡ some (asked_of c.args.kind) (breaking (breaks c.args.set) ((view c.args.state.now).juniors) (own_roles c.args.kind (view c.args.state.now))) → b ≡ broken c.args.kind (view c.args.state.now) c.args.set
-says c e = e ∙ sym (set-broken c.args.kind (view c.args.state.now) c.args.set)
 
 pub returns-then-breaks : goal.returns-then-breaks
 returns-then-breaks c =
-    says (goal.at.returns-then-breaks c).Start (asks_any (breaks c.args.set) ((view c.args.state.now).juniors) (own_roles c.args.kind (view c.args.state.now)) (asked_of c.args.kind) (asked-some c.args.kind) (λ held. breaks-any _ held (sym c.breaks.ensures ∙ c.if-breaks.true)))
+    let m = view c.args.state.now in
+    asks_any (breaks c.args.set) m.juniors (own_roles c.args.kind m) (asked_of c.args.kind) (asked-some c.args.kind) (λ held. breaks-any _ held (sym c.breaks.ensures ∙ c.if-breaks.true))
+    ∙ sym (set-broken c.args.kind m c.args.set)
 
--- having no role does not break it
-idle : (c : Else-breaks) → (breaks c.args.set) 0 ≡ false
-idle c = sym c.breaks.ensures ∙ c.if-breaks.false
-
-pub returns-in-Static : goal.returns-in-Static
-returns-in-Static c =
-    says (goal.at.returns-in-Static c).Start (asked_of_table (breaks c.args.set) ((view c.args.state.now).juniors) (own_roles c.args.kind (view c.args.state.now)) (asked_of c.args.kind) _ _ (table-of Static c.args.kind (view c.args.state.now) _ c.in-Static.is c.assigned.ensures) (idle (goal.at.returns-in-Static c).Else-breaks) c.ask_each_of_set.ensures)
-
-pub returns-in-Dynamic : goal.returns-in-Dynamic
-returns-in-Dynamic c =
-    says (goal.at.returns-in-Dynamic c).Start (asked_of_table (breaks c.args.set) ((view c.args.state.now).juniors) (own_roles c.args.kind (view c.args.state.now)) (asked_of c.args.kind) _ _ (table-of Dynamic c.args.kind (view c.args.state.now) _ c.in-Dynamic.is c.active.ensures) (idle (goal.at.returns-in-Dynamic c).Else-breaks) c.ask_each_of_set-in-Dynamic.ensures)
+pub returns : goal.returns
+returns c =
+    let m = view c.args.state.now in
+    let rule = breaks c.args.set in
+    asked-any rule m.juniors (own_roles c.args.kind m) (asked_of c.args.kind) _ _ c.own_roles.ensures (sym c.breaks.ensures ∙ c.if-breaks.false)
+    (any_from_yields_List (λ r. not (eqb r 0) && rule (reach m.juniors r)) _ _ _ c.any.ensures.ran (YieldsList-from_slice c.own_roles.result.now cc) (λ x b q k. (search rules, search (rules, tests))))
+    ∙ sym (set-broken c.args.kind m c.args.set)

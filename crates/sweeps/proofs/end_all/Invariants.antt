@@ -1,11 +1,7 @@
 -- The loop's invariant: the sessions passed are ended if they are the user's, and all else is as before. Assumes nothing.
-use Prim.Native.Nat.{◌≤◌, ◌-◌}
 use Rattle.state.specs.View.{view}
 use Rattle.sweeps.proofs.SweepSteps.{Ended}
 use Rattle.sweeps.proofs.end_all.Given as goal
 
 abbrev pub invariant-loop-k : goal.invariant-loop-k
-invariant-loop-k l = (l.k ≤ 64) × Ended (view l.initial.state) l.u.number l.k (view l.state)
-
-abbrev pub decreases-loop-k : goal.decreases-loop-k
-decreases-loop-k l = 64 - l.k
+invariant-loop-k l = Ended (view l.initial.state) l.u.number l.k (view l.state)
