@@ -1,4 +1,4 @@
--- The lowest role of a set is looked at, and dropped: what was found and how many are left to look at. Assumes nothing.
+-- The next role of a set is looked at: what was found and how many are left to look at. Assumes nothing.
 use mathlib.Core.Bool.{Bool, true, false, not, ◌&&◌, and-false, and-true}
 use mathlib.Core.List.{List, ◌∷◌}
 use mathlib.Core.Path.{◌≡◌, sym, ap, ◌∙◌}
@@ -8,10 +8,10 @@ use native.Mathlib.Omega.{arith}
 use lib.ListN.{length}
 use borrow.Author.Tests.{ne_eqb}
 use Rattle.roleset.specs.Bounded.{members}
-use Rattle.roleset.specs.Promises.{Lowest}
 use Rattle.roleset.specs.Roles.{has, without, common, is_empty}
 use Rattle.roleset.proofs.BoundedLaws.{clash, never, and_both, not_yes}
 use Rattle.roleset.proofs.Laws.{has-none, has-common, has-without, those-ext, is_empty-true, is_empty-intro}
+use Rattle.roleset.proofs.Taking.{Next}
 use Rattle.roleset.proofs.MembersLaws.{members-none, members-lowest, members-most}
 use Rattle.model.specs.Lists.{up_to_first}
 use Rattle.model.proofs.Looking.{first_passes, first-fails, up-to-first-most}
@@ -35,26 +35,26 @@ seen_none holders = ap (λ (l : List ℕ). length (up_to_first (has holders) l))
 pub found_none : (holders : ℕ) → found 0 holders ≡ false
 found_none holders = ap not (is_empty-intro (common 0 holders) (λ k h. has-common 0 holders k h ∙ rw (has-none k)))
 
--- ---- the lowest of the rest
+-- ---- the next of the rest
 
-module _ (rest r holders : ℕ) (small : r < 64) (lowest : Lowest rest r) where
+module _ {rest r t : ℕ} (holders : ℕ) (taken : Next rest r t) where
   -- it stands first among them
-  stands : members 64 (has rest) ≡ r ∷ members 64 (has (without rest r))
-  stands = members-lowest 64 (has rest) (has (without rest r)) r small lowest.member lowest.first (has-without rest r)
+  stands : members 64 (has rest) ≡ r ∷ members 64 (has t)
+  stands = rw taken.rest (members-lowest 64 (has rest) (has (without rest r)) r taken.small taken.lowest.member taken.lowest.first (has-without rest r))
 
-  pub passed_seen : has holders r ≡ false → seen rest holders ≡ suc (seen (without rest r) holders)
-  passed_seen e = ap (λ (l : List ℕ). length (up_to_first (has holders) l)) stands ∙ ap (λ (l : List ℕ). length l) (first-fails (has holders) r (members 64 (has (without rest r))) e)
+  pub passed_seen : has holders r ≡ false → seen rest holders ≡ suc (seen t holders)
+  passed_seen e = ap (λ (l : List ℕ). length (up_to_first (has holders) l)) stands ∙ ap (λ (l : List ℕ). length l) (first-fails (has holders) r (members 64 (has t)) e)
 
-  pub passed_found : has holders r ≡ false → found (without rest r) holders ≡ found rest holders
+  pub passed_found : has holders r ≡ false → found t holders ≡ found rest holders
   unfolding common
-  passed_found e = ap (λ (s : ℕ). not (is_empty s)) (those-ext _ _ (λ k h. go k h (ℕ_discrete k r)))
+  passed_found e = rw taken.rest (ap (λ (s : ℕ). not (is_empty s)) (those-ext _ _ (λ k h. go k h (ℕ_discrete k r))))
     where
       go : (k : ℕ) → k < 64 → Dec (k ≡ r) → (has (without rest r) k && has holders k) ≡ (has rest k && has holders k)
       go k h (yes p) = let off : has holders k ≡ false = ap (has holders) p ∙ e in rw off (and-false (has (without rest r) k) ∙ sym (and-false (has rest k)))
       go k h (no p) = let same : has (without rest r) k ≡ has rest k = has-without rest r k h ∙ rw (ne_eqb k r p) (and-true (has rest k)) in rw same
 
   pub held_seen : has holders r ≡ true → seen rest holders ≡ 1
-  held_seen e = ap (λ (l : List ℕ). length (up_to_first (has holders) l)) stands ∙ ap (λ (l : List ℕ). length l) (first_passes (has holders) r (members 64 (has (without rest r))) e)
+  held_seen e = ap (λ (l : List ℕ). length (up_to_first (has holders) l)) stands ∙ ap (λ (l : List ℕ). length l) (first_passes (has holders) r (members 64 (has t)) e)
 
   pub held_found : has holders r ≡ true → found rest holders ≡ true
-  held_found e = not_yes (is_empty (common rest holders)) (never (is_empty (common rest holders)) (λ empty. clash (has (common rest holders) r) (has-common rest holders r small ∙ and_both (has rest r) (has holders r) lowest.member e) (is_empty-true (common rest holders) empty r small)))
+  held_found e = not_yes (is_empty (common rest holders)) (never (is_empty (common rest holders)) (λ empty. clash (has (common rest holders) r) (has-common rest holders r taken.small ∙ and_both (has rest r) (has holders r) taken.lowest.member e) (is_empty-true (common rest holders) empty r taken.small)))

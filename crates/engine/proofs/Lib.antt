@@ -1,2 +1,2 @@
-mod Asking
-mod Telling
+pub mod Asking
+pub mod Telling

@@ -1,22 +1,15 @@
--- What a command tells, with a result and without one, as a step hands it back. Assumes nothing.
-use mathlib.Core.Bool.{false}
+-- What a command tells that opens no session, as a step hands it back. Assumes nothing.
 use mathlib.Core.List.{List}
-use mathlib.Core.Path.{◌≡◌, refl, ap}
+use mathlib.Core.Path.{◌≡◌, refl}
 use Prim.Native.Nat.{ℕ}
-use Rattle.numbers.specs.declared.Answer.{Answer}
-use Rattle.model.specs.Sheet.{Told}
+use Rattle.std.specs.Prelude.{Ok, Err}
+use Rattle.numbers.specs.Answers.{Answer}
 use Rattle.state.specs.View.{told}
-use Rattle.sessions.specs.Answering.{Opens, told_opened}
-use Rattle.state.specs.Results.{is_done}
-use Rattle.sessions.specs.declared.Opened.{Opened}
-use Rattle.engine.specs.Stepping.{Steps}
+use Rattle.state.specs.Results.{told_of}
+use Rattle.engine.specs.Plain.{no_session}
+use Rattle.engine.specs.Stepping.{told_stepped}
 
--- a command that gives no result
-pub plain-steps : (t : Told) (a : Answer) (l : List ℕ) → told a l ≡ t → Steps t (record { answer = a; result = false; opened = record { number = 0 } }) l
-unfolding told
-plain-steps t a l h = record { answer = ap (λ (x : Told). x.answer) h; results = ap (λ (x : Told). x.results) h; silent = λ e. refl; after = ap (λ (x : Told). x.after) h }
-
--- a session that was opened, or was not
-pub opened-steps : (t : Told) (o : Opened) (l : List ℕ) → Opens t o l → Steps t (record { answer = o.answer; result = is_done o.answer; opened = o.session }) l
-unfolding told_opened
-opened-steps t o l h = record { answer = ap (λ (x : Told). x.answer) h.tells; results = ap (λ (x : Told). x.results) h.tells; silent = h.silent; after = ap (λ (x : Told). x.after) h.tells }
+pub plain_tells : (a : Answer) (l : List ℕ) → told_stepped (no_session a) l ≡ told a l
+unfolding told told_of
+plain_tells (Ok _) l = refl
+plain_tells (Err _) l = refl

@@ -1,56 +1,30 @@
 // Every command through one function, and every question through another.
 #![tactic(auto)]
 
-ghost use Rattle.std.specs.Prelude.{false, ◌≡◌};
+ghost use Rattle.std.specs.Prelude.{◌≡◌};
 ghost use Rattle.model.specs.Step.{step};
 ghost use Rattle.model.specs.declared.Question.TheVariants.{Check};
 ghost use Rattle.state.specs.View.{view};
-ghost use Rattle.state.specs.Results.{is_done};
 ghost use Rattle.reviews.specs.Reviewing.{AskedAny};
-ghost use Rattle.engine.specs.Stepping.{Steps};
+ghost use Rattle.engine.specs.Plain.{no_session};
+ghost use Rattle.engine.specs.Stepping.{told_stepped};
 
 use model::{Command, Question};
-use numbers::{Answer, Session};
-use reviews::Review;
-use sessions::Opened;
+use numbers::{Answer, Refusal, Session};
 use state::PLACES;
 
-// What a step hands back: the answer, whether the command has a result, and that result, the session that `session` opened (0 where there is none).
-#[derive(Clone, Copy)]
-pub struct Stepped {
-    pub answer: Answer,
-    pub result: bool,
-    pub opened: Session,
-}
-
-// The answer of a command that gives no result.
-fn plain(answer: Answer) -> Stepped
-    ensures { result ≡ record { answer = answer; result = false; opened = record { number = 0 } } }
+// The answer of a command that opens no session.
+fn plain(answer: Answer) -> Result<Option<Session>, Refusal>
+    ensures { result ≡ no_session answer }
 {
-    Stepped {
-        answer,
-        result: false,
-        opened: Session { number: 0 },
-    }
+    answer?;
+    Ok(None)
 }
 
-// A session that was opened, or was not: where it was, its number is the result.
-fn opening(o: Opened) -> Stepped
-    ensures { result ≡ record { answer = o.answer; result = is_done o.answer; opened = o.session } }
-{
-    let answer = o.answer;
-    let opened = o.session;
-    let result = numbers::is_done(answer);
-    Stepped {
-        answer,
-        result,
-        opened,
-    }
-}
-
-// The command on the state; `list` is the roles that `ssd`, `dsd` and `session` name.
-pub fn step(state: &mut [u64; PLACES], c: Command, list: &[u16]) -> Stepped
-    ensures { Steps (step (view state.old) c list.now) result state.new }
+// The command on the state; `list` is the roles that `ssd`, `dsd` and `session` name. It gives the session that `session` opened, and no other command gives anything.
+#[tactic(auto, using(crate::proofs::Telling::plain_tells), unfolding(model::specs::Step::step, state::specs::Results::told_of))]
+pub fn step(state: &mut [u64; PLACES], c: Command, list: &[u16]) -> Result<Option<Session>, Refusal>
+    ensures { told_stepped result state.new ≡ step (view state.old) c list.now }
 {
     match c {
         Command::AddUser(u) => plain(users::user(state, u)),
@@ -70,7 +44,7 @@ pub fn step(state: &mut [u64; PLACES], c: Command, list: &[u16]) -> Stepped
         Command::SetCardinality(kind, name, n) => plain(sets::set_cardinality(
             state, kind, name, n,
         )),
-        Command::OpenSession(u) => opening(sessions::session(state, u, list)),
+        Command::OpenSession(u) => Ok(Some(sessions::session(state, u, list)?)),
         Command::Activate(u, x, r) => plain(sessions::activate(state, u, x, r)),
         Command::DropActive(u, x, r) => plain(sessions::drop(state, u, x, r)),
         Command::EndSession(u, x) => plain(sessions::end(state, u, x)),
@@ -79,28 +53,29 @@ pub fn step(state: &mut [u64; PLACES], c: Command, list: &[u16]) -> Stepped
 }
 
 // `check` with its two results in the buffer: 1 for yes or 0 for no, and how many effective roles it looked at; 15 too, where the buffer has fewer than two places.
-fn check(state: &[u64; PLACES], x: Session, op: u16, obj: u16, out: &mut [u16]) -> Review
+#[tactic(auto, using(crate::proofs::Asking::check_refused, crate::proofs::Asking::check_short, crate::proofs::Asking::check_done), unfolding(model::specs::Questions::ask))]
+fn check(
+    state: &[u64; PLACES],
+    x: Session,
+    op: u16,
+    obj: u16,
+    out: &mut [u16],
+) -> Result<usize, Refusal>
     ensures { AskedAny (view state.now) (Check x op obj) out.old out.new result }
 {
-    let c = checking::check(state, x, op, obj);
-    let answer = c.answer;
-    if !numbers::is_done(answer) {
-        return Review { answer, count: 0 };
-    }
+    let found = checking::check(state, x, op, obj)?;
     let short = out.len() < 2;
     if short {
-        return Review {
-            answer: Answer::BufferShort,
-            count: 0,
-        };
+        return Err(Refusal::BufferShort);
     }
-    out[0] = c.yes as u16;
-    out[1] = c.looked;
-    Review { answer, count: 2 }
+    out[0] = found.yes as u16;
+    out[1] = found.looked;
+    Ok(2)
 }
 
-// Any question, with its results in the buffer. The answer of `check` is 15 too where the buffer has fewer than two places.
-pub fn ask(state: &[u64; PLACES], q: Question, out: &mut [u16]) -> Review
+// Any question, with its results at the front of the buffer, and how many they are. The answer of `check` is 15 too where the buffer has fewer than two places.
+#[tactic(auto, using(crate::proofs::Asking::asked_arm))]
+pub fn ask(state: &[u64; PLACES], q: Question, out: &mut [u16]) -> Result<usize, Refusal>
     ensures { AskedAny (view state.now) q out.old out.new result }
 {
     match q {

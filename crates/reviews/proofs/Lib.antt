@@ -4,6 +4,5 @@ pub mod Agreeing
 pub mod Promised
 mod Writing
 mod Settling
-mod Filling
-mod Walking
+mod Meeting
 pub mod WhichReview

@@ -1,13 +1,16 @@
 -- What a promise leaves open: nothing, whatever the buffer. Assumes nothing.
 use mathlib.Core.Bool.{Bool, true, false}
 use mathlib.Core.List.{List, [], ◌∷◌}
-use mathlib.Core.Path.{◌≡◌, refl, sym, ap, ap₂, ◌∙◌}
+use mathlib.Core.Path.{◌≡◌, refl, sym, ap, ◌∙◌}
 use Prim.Native.Nat.{ℕ, ◌≤◌}
 use native.Mathlib.Omega.{arith}
 use lib.Dec.{eqb}
 use lib.ListN.{length}
 use borrow.Author.Tests.{le-ltb, eqb-true}
 use Rattle.roleset.proofs.BoundedLaws.{clash}
+use Rattle.std.proofs.Common.{Result, Ok, Err}
+use Rattle.numbers.specs.Answers.{number_of}
+use Rattle.numbers.specs.declared.Refusal as numbered
 use Rattle.numbers.proofs.Answers.{number-one-to-one}
 use Rattle.numbers.specs.declared.Session.{Session}
 use Rattle.model.specs.Model.{Model}
@@ -16,9 +19,9 @@ use Rattle.model.specs.Questions.{assigned_users, assigned_roles, auth_users, au
 use Rattle.model.specs.commands.Sessions.{check}
 use Rattle.model.specs.declared.Question.{Question}
 use Rattle.model.specs.declared.Question.TheVariants.{Check, AssignedUsers, AssignedRoles, AuthUsers, AuthRoles, RolePerms, UserPerms, SessionRoles, SessionPerms, RoleOps, UserOps, Sets, SetRoles, SetCount}
-use Rattle.reviews.specs.declared.Review.{Review}
+use Rattle.state.specs.Results.{given_number}
 use Rattle.reviews.specs.Reviewing.{Reviewed, fitted, refusals}
-use Rattle.reviews.proofs.Settling.{done-room}
+use Rattle.reviews.proofs.Settling.{refused-not-done, done-room}
 use Rattle.reviews.proofs.WhichReview.{is_review}
 
 -- ---- the room
@@ -71,7 +74,13 @@ asked-with-room m room q h = rw (le-ltb room (length (ask m room q).results) (re
 
 -- ---- one promise has one outcome
 
+-- an answer's number, and how many results there are, leave no more open
+one-outcome : (x y : Result ℕ numbered.Refusal) → number_of x ≡ number_of y → given_number x ≡ given_number y → x ≡ y
+one-outcome (Ok n) (Ok k) e f = ap Ok f
+one-outcome (Ok n) (Err b) e f = absurd (refused-not-done b (sym e))
+one-outcome (Err a) (Ok k) e f = absurd (refused-not-done a e)
+one-outcome (Err a) (Err b) e f = let same = number-one-to-one (Err a) (Err b) e in cc
+
 -- Two outcomes that meet the promise of a question are equal, and so are the buffers that they leave.
-pub reviewed-one : (told : Told) (before after after' : List ℕ) (x y : Review) → Reviewed told before after x → Reviewed told before after' y → (x ≡ y) × (after ≡ after')
-reviewed-one told before after after' x y p q =
-    (ap₂ (λ (a : Rattle.numbers.specs.declared.Answer.Answer) (n : ℕ). record { answer = a; count = n }) (number-one-to-one x.answer y.answer (p.answer ∙ sym q.answer)) (p.count ∙ sym q.count), p.buffer ∙ sym q.buffer)
+pub reviewed-one : (told : Told) (before after after' : List ℕ) (x y : Result ℕ numbered.Refusal) → Reviewed told before after x → Reviewed told before after' y → (x ≡ y) × (after ≡ after')
+reviewed-one told before after after' x y p q = (one-outcome x y (p.answer ∙ sym q.answer) (p.count ∙ sym q.count), p.buffer ∙ sym q.buffer)

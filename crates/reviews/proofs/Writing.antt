@@ -2,14 +2,18 @@
 use mathlib.Core.Bool.{Bool, true, false}
 use mathlib.Core.List.{List, [], ◌∷◌, ◌++◌}
 use mathlib.Core.Logic.{◌⊎◌, inl, inr}
-use mathlib.Core.Path.{◌≡◌, sym, ap, ◌∙◌}
+use mathlib.Core.Path.{◌≡◌, refl, sym, ap, ◌∙◌}
 use Prim.Native.Nat.{ℕ, zero, suc, ◌+◌, ◌≤◌, ◌<◌}
 use native.Mathlib.Omega.{arith}
-use lib.ListN.{length, drop, set, length-append, length-drop}
-use lib.Seq.{drop-cons, set-append_seam, append_snoc}
-use Rattle.roleset.specs.Bounded.{tally, members}
+use lib.ListN.{length, take, drop, set, length-append, length-drop}
+use lib.Seq.{take-length, drop-cons, set-append_seam, append_snoc}
+use Rattle.std.proofs.Common.{count_by, add-one}
+use Rattle.std.proofs.lemmas.List.Sums.{count_by_more_yes, count_by_more_no}
+use Rattle.roleset.specs.Bounded.{bit, tally, members}
 use Rattle.roleset.proofs.BoundedLaws.{last-or-below}
 use Rattle.roleset.proofs.MembersLaws.{members-start, members-taken, members-left, members-length, members-most}
+use Rattle.hierarchy.specs.Lines.{table_of}
+use Rattle.reviews.specs.Reviewing.{meets, touched, meeting}
 
 -- the list at the front of the buffer, and every place past it as before
 abbrev pub over : List ℕ → List ℕ → List ℕ
@@ -46,6 +50,22 @@ taken-length k f e = omega (arith, ap length (members-taken k f e), length-appen
 member-fits : (n k : ℕ) (f : ℕ → Bool) → k < n → f k ≡ true → length (members k f) < length (members n f)
 member-fits n k f h e = omega (arith, members-fewer n (k + 1) f (omega arith), taken-length k f e)
 
+-- ---- how many are to be listed
+
+-- the elements that pass among the first k are as many as their places
+tallied : (p : ℕ → Bool) (xs : List ℕ) (k : ℕ) → k ≤ length xs → count_by p (take k xs) ≡ tally k (λ j. p (table_of xs j))
+unfolding tally
+tallied p xs zero h = refl
+tallied p xs (suc k) h = go (p (table_of xs k)) refl (tallied p xs k (omega arith))
+  where
+    go : (b : Bool) → p (table_of xs k) ≡ b → count_by p (take k xs) ≡ tally k (λ j. p (table_of xs j)) → count_by p (take (suc k) xs) ≡ bit (p (table_of xs k)) + tally k (λ j. p (table_of xs j))
+    go true e ih = rw e (omega (arith, rw (add-one k) at (count_by_more_yes p xs k 0 (omega arith) e), ih))
+    go false e ih = rw e (omega (arith, rw (add-one k) at (count_by_more_no p xs k 0 (omega arith) e), ih))
+
+pub meeting-length : (roles : ℕ) (table : List ℕ) → count_by (meets roles) table ≡ length (meeting roles table)
+unfolding meeting
+meeting-length roles table = ap (count_by (meets roles)) (sym (take-length table)) ∙ tallied (meets roles) table (length table) (omega arith) ∙ sym (members-length (length table) (touched roles table))
+
 -- ---- a loop that lists
 
 -- k places are passed: so many of them pass the test, and their list stands at the front of the buffer
@@ -81,3 +101,7 @@ module _ (f : ℕ → Bool) (before : List ℕ) where
         next =
             rw (w.front, w.count)
             (over-next (members k f) before k (omega (arith, member-fits size k f h e)) ∙ ap (λ (l : List ℕ). over l before) (sym (members-taken k f e)))
+
+    -- past the last place the whole list is written
+    pub written_end : (k n : ℕ) (out : List ℕ) → k ≡ size → Written f before k n out → (n ≡ length (members size f)) × (out ≡ over (members size f) before)
+    written_end k n out e w = (w.count ∙ ap (λ (j : ℕ). length (members j f)) e, w.front ∙ ap (λ (j : ℕ). over (members j f) before) e)

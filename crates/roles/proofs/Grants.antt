@@ -45,19 +45,12 @@ unmoved n k m = go (ltb k n)
     go true = refl
     go false = refl
 
-module _ (m : Model) (p r old : ℕ) (is : old ≡ m.holders p) where
-  -- the role holds the permission: the store takes it out, and counts one less
-  pub held : (after : Model) (roles standing : ℕ) → has old r ≡ true → roles ≡ without old r → standing ≡ m.grant_count - 1 → after ≡ in_range 4096 p m (with_grants m (put m.holders p roles) standing) → after ≡ in_range 4096 p m (ungranted m p r)
-  held after roles standing there gone counted e =
-      let one : has (m.holders p) r ≡ true = ap (λ (x : ℕ). has x r) (sym is) ∙ there in
-      e ∙ ap (in_range 4096 p m) (ap₂ (λ (x n : ℕ). with_grants m (put m.holders p x) n) (gone ∙ ap (λ (x : ℕ). without x r) is) (counted ∙ sym (ap (λ (b : Bool). m.grant_count - bit b) one)))
-
-  -- it does not: nothing is stored
-  pub not_held : old < 2 ^ 64 → has old r ≡ false → m ≡ in_range 4096 p m (ungranted m p r)
-  not_held small absent =
-      let none : has (m.holders p) r ≡ false = ap (λ (x : ℕ). has x r) (sym is) ∙ absent in
-      let stays : without (m.holders p) r ≡ m.holders p = ap (λ (x : ℕ). without x r) (sym is) ∙ without-absent old r small absent ∙ is in
-      sym (ap (in_range 4096 p m) (ap₂ (with_grants m) (ap (put m.holders p) stays ∙ put_back m.holders p) (ap (λ (b : Bool). m.grant_count - bit b) none ∙ omega arith)) ∙ unmoved 4096 p m)
+-- a role that does not hold the permission: nothing is stored
+pub not_held : (m : Model) (p r old : ℕ) → old ≡ m.holders p → old < 2 ^ 64 → has old r ≡ false → m ≡ in_range 4096 p m (ungranted m p r)
+not_held m p r old is small absent =
+    let none : has (m.holders p) r ≡ false = ap (λ (x : ℕ). has x r) (sym is) ∙ absent in
+    let stays : without (m.holders p) r ≡ m.holders p = ap (λ (x : ℕ). without x r) (sym is) ∙ without-absent old r small absent ∙ is in
+    sym (ap (in_range 4096 p m) (ap₂ (with_grants m) (ap (put m.holders p) stays ∙ put_back m.holders p) (ap (λ (b : Bool). m.grant_count - bit b) none ∙ omega arith)) ∙ unmoved 4096 p m)
 
 -- the role taken from the holders of the permissions below n
 unfoldable pub ungranted_to : ℕ → ℕ → (ℕ → ℕ) → ℕ → ℕ

@@ -1,5 +1,5 @@
 // The commands `role` and `norole`.
-#![tactic(auto)]
+#![tactic(auto, using(state::proofs::Stored::storing), unfolding(model::specs::Sheet::settle, model::specs::Sheet::verdict, state::specs::View::told, model::specs::commands::Users::role, model::specs::commands::Users::norole))]
 
 ghost use Rattle.std.specs.Prelude.{◌≡◌};
 ghost use Rattle.model.specs.commands.Sets.{sets_of};
@@ -9,9 +9,8 @@ ghost use Rattle.state.specs.View.{part, view, told};
 ghost use Rattle.roles.specs.Leaving.{ungranted, all_ungranted, leaving};
 
 use model::Kind;
-use numbers::{Answer, Role, SetName};
+use numbers::{Answer, Numbered, Refusal, Role, SetName};
 use state::PLACES;
-use state::naming::{either, less};
 use state::parts::{assigned_table, juniors_table};
 use state::reads::{
     assignment_count, grant_count, has_role, holders_of, line_count, roles, set_named,
@@ -22,30 +21,25 @@ use state::stores::{put_all_active, put_assignments, put_holders, put_lines, put
 pub fn role(state: &mut [u64; PLACES], r: Role) -> Answer
     ensures { told result state.new ≡ role (view state.old) r.number }
 {
-    if numbers::role_beyond(r) {
-        return Answer::BeyondRange;
+    if r.is_beyond() {
+        return Err(Refusal::BeyondRange);
     }
     if has_role(state, r) {
-        return Answer::AlreadyThere;
+        return Err(Refusal::AlreadyThere);
     }
     let new = roleset::with(roles(state), r.number);
     put_roles(state, new);
-    Answer::Done
+    Ok(())
 }
 
 // Does the role stand in some set of this kind?
 fn in_set(state: &[u64; PLACES], kind: Kind, r: Role) -> bool
     ensures { result ≡ in_set (sets_of kind (view state.now)) r.number }
 {
-    let mut n: u16 = 0;
-    while n < 16 {
+    (0..16).any(|n| {
         let set = set_named(state, kind, SetName { number: n });
-        if roleset::has(set.roles, r.number) {
-            return true;
-        }
-        n += 1;
-    }
-    false
+        roleset::has(set.roles, r.number)
+    })
 }
 
 // The role holds the permission no longer, and a grant that went is counted; past the last permission nothing is stored.
@@ -54,7 +48,7 @@ fn ungrant(state: &mut [u64; PLACES], p: usize, r: Role)
 {
     let old = holders_of(state, p);
     if roleset::has(old, r.number) {
-        let left = less(grant_count(state), 1);
+        let left = grant_count(state).saturating_sub(1);
         put_holders(state, p, roleset::without(old, r.number), left);
     }
 }
@@ -63,30 +57,28 @@ fn ungrant(state: &mut [u64; PLACES], p: usize, r: Role)
 fn ungrant_all(state: &mut [u64; PLACES], r: Role)
     ensures { view state.new ≡ all_ungranted (view state.old) r.number }
 {
-    let mut p: usize = 0;
-    while p < 4096 {
+    for p in 0..4096 {
         ungrant(state, p, r);
-        p += 1;
     }
 }
 
+// A table of role sets without a role, and how many lines or assignments went with it.
+#[derive(Drop)]
+struct Left<const N: usize> {
+    table: [u64; N],
+    gone: u64,
+}
+
 // The role and its grants go; the lines and the assignments become these, of which so many less stand.
-fn put_without<'a>(
-    state: &mut [u64; PLACES],
-    r: Role,
-    juniors: &'a [u64; 64],
-    lines: u64,
-    assigned: &'a [u64; 256],
-    assignments: u64,
-)
-    ensures { view state.new ≡ leaving (view state.old) r.number (part juniors.now 0 64) lines (part assigned.now 0 256) assignments }
+fn put_without(state: &mut [u64; PLACES], r: Role, lines: &Left<64>, assignments: &Left<256>)
+    ensures { view state.new ≡ leaving (view state.old) r.number (part lines.now.table 0 64) lines.now.gone (part assignments.now.table 0 256) assignments.now.gone }
 {
     let left = roleset::without(roles(state), r.number);
     put_roles(state, left);
-    let lines_left = less(line_count(state), lines);
-    put_lines(state, juniors, lines_left);
-    let assignments_left = less(assignment_count(state), assignments);
-    put_assignments(state, assigned, assignments_left);
+    let lines_left = line_count(state).saturating_sub(lines.gone);
+    put_lines(state, &lines.table, lines_left);
+    let assignments_left = assignment_count(state).saturating_sub(assignments.gone);
+    put_assignments(state, &assignments.table, assignments_left);
     ungrant_all(state, r);
 }
 
@@ -94,27 +86,32 @@ fn put_without<'a>(
 pub fn norole(state: &mut [u64; PLACES], r: Role) -> Answer
     ensures { told result state.new ≡ norole (view state.old) r.number }
 {
-    if numbers::role_beyond(r) {
-        return Answer::BeyondRange;
+    if r.is_beyond() {
+        return Err(Refusal::BeyondRange);
     }
     if !has_role(state, r) {
-        return Answer::Missing;
+        return Err(Refusal::Missing);
     }
-    if either(
-        in_set(state, Kind::Static, r),
-        in_set(state, Kind::Dynamic, r),
-    ) {
-        return Answer::StandsInSet;
+    if in_set(state, Kind::Static, r) || in_set(state, Kind::Dynamic, r) {
+        return Err(Refusal::StandsInSet);
     }
     let at = r.number as usize;
     let mut juniors = juniors_table(state);
     let above = sweeps::strip(&mut juniors, r);
     let below = roleset::count(juniors[at]) as u64;
     juniors[at] = 0;
+    let lines = Left {
+        table: juniors,
+        gone: above + below,
+    };
     let mut assigned = assigned_table(state);
     let held = sweeps::strip(&mut assigned, r);
-    let kept = sweeps::shed(&juniors, &assigned, state);
-    put_without(state, r, &juniors, above + below, &assigned, held);
+    let assignments = Left {
+        table: assigned,
+        gone: held,
+    };
+    let kept = sweeps::shed(&lines.table, &assignments.table, state);
+    put_without(state, r, &lines, &assignments);
     put_all_active(state, &kept);
-    Answer::Done
+    Ok(())
 }

@@ -1,19 +1,9 @@
 -- The permissions of the roles that one walk from the active roles reaches. Assumes nothing.
-use mathlib.Core.Bool.{not}
-use mathlib.Core.Path.{refl, sym, ap}
-use Rattle.model.specs.Model.{Session}
+use Rattle.std.proofs.Common.{rules}
 use Rattle.model.specs.Questions.{ask, session_perms}
-use Rattle.reviews.proofs.Walking.{table_fits, walked, told_perms}
+use Rattle.reviews.proofs.Settling.{told_shared}
 use Rattle.reviews.proofs.session_perms.Goals as goal
 
 pub returns : goal.returns
 unfolding ask session_perms
-returns c =
-    let found = c.session_at-session.ensures in
-    told_perms _ (sym c.session_beyond.ensures) (ap (λ (x : Session). not x.live) (sym found)) (walked _ (ap (λ (x : Session). x.active) found) c.reach-met.ensures) c.holders.ensures c.review.ensures
-
-pub review-requires : goal.review-requires
-review-requires c = table_fits c.holders.ensures refl
-
-pub shape_of-out : goal.shape_of-out
-shape_of-out c = c.review.auto.out
+returns c = told_shared _ _ _ 4096 _ _ c.in_ok-named.ensures c.is_beyond.ensures (search rules) (search rules) c.holders.ensures c.list.ensures

@@ -1,30 +1,16 @@
--- The loop's invariant: no set passed has the role. Assumes nothing.
-use borrow.Author.Rules.{rules}
-use mathlib.Core.Path.{◌≡◌, sym, ap, ◌∙◌}
-use native.Mathlib.Omega.{arith}
+-- What each of the 16 sets is asked: whether it has the role. Assumes nothing.
+use Rattle.std.proofs.Common.{rules, tests, refl, ◌∙◌}
+use Rattle.std.proofs.lemmas.Iterator.{YieldsList-from_range}
+use Rattle.std.proofs.lemmas.Iterator.Search.{any_from_yields_List}
 use Rattle.roleset.specs.Roles.{has}
-use Rattle.roleset.proofs.BoundedLaws.{some-start, some_more, some-intro}
-use Rattle.model.specs.Model.{RoleSet}
 use Rattle.model.specs.commands.Sets.{sets_of}
 use Rattle.model.specs.commands.Users.{in_set}
 use Rattle.state.specs.View.{view}
+use Rattle.roles.proofs.Finding.{any-some}
 use Rattle.roles.proofs.in_set.Goals as goal
-use Rattle.roles.proofs.in_set.Goals.{After-has}
-
-pub loop-n-init : goal.loop-n-init
-loop-n-init c = (search rules, some-start _)
-
--- what the test finds
-found : (c : After-has) → has (sets_of c.args.kind (view c.args.state.now) c.loop-n.n).roles c.args.r.number ≡ c.has.result
-found c = ap (λ (x : RoleSet). has x.roles c.args.r.number) (sym c.set_named-set.ensures) ∙ sym c.has.ensures
-
-pub returns-then-has : goal.returns-then-has
-unfolding in_set
-returns-then-has c = sym (some-intro 16 (λ k. has (sets_of c.args.kind (view c.args.state.now) k).roles c.args.r.number) c.loop-n.n c.loop-n-test.true (found (goal.at.returns-then-has c).After-has ∙ c.if-has.true))
-
-pub loop-n-preserved : goal.loop-n-preserved
-loop-n-preserved c = (search rules, some_more _ _ c.loop-n.invariant.1 (found (goal.at.loop-n-preserved c).After-has ∙ c.if-has.false))
 
 pub returns : goal.returns
 unfolding in_set
-returns c = let whole : c.loop-n.n ≡ 16 = omega arith in sym (rw whole at c.loop-n.invariant.1)
+returns c =
+    any_from_yields_List (λ n. has (sets_of c.args.kind (view c.args.state.now) n).roles c.args.r.number) _ _ _ c.any.ensures.ran (YieldsList-from_range 0 16 16 (cc) refl) (λ x b q k. search (rules, tests))
+    ∙ any-some 16 _

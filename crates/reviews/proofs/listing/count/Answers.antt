@@ -1,36 +1,11 @@
--- The places passed that have one of the roles are counted: their list's length. Assumes nothing.
-use mathlib.Core.Bool.{Bool}
-use mathlib.Core.Path.{◌≡◌, sym, ap, ◌∙◌}
-use Prim.Native.Nat.{ℕ}
-use native.Mathlib.Omega.{arith}
-use lib.ListN.{length}
-use Rattle.roleset.specs.Bounded.{members}
-use Rattle.roleset.proofs.MembersLaws.{members-start, members-left, members-most}
-use Rattle.reviews.specs.Reviewing.{touched, meeting}
-use Rattle.reviews.proofs.Writing.{taken-length}
+-- The sets that pass are as many as their places. Assumes nothing.
+use mathlib.Core.Path.{◌≡◌, ◌∙◌}
+use Rattle.std.proofs.Common.{rules, count_by}
+use Rattle.reviews.specs.Reviewing.{meets}
+use Rattle.reviews.proofs.Writing.{meeting-length}
 use Rattle.reviews.proofs.listing.count.Goals as goal
-use Rattle.reviews.proofs.listing.count.Goals.{then-meet, else-meet}
-
-pub loop-k-init : goal.loop-k-init
-loop-k-init c = (omega arith, sym (ap length (members-start _)))
-
-pub overflow_add-n : goal.overflow_add-n
-overflow_add-n c = let a = c.args in omega (arith, members-most c.loop-k.k (touched a.roles a.table.now))
-
-pub loop-k-preserved : goal.loop-k-preserved
-loop-k-preserved c =
-    let a = c.args in
-    let at = c.loop-k in
-    let f : ℕ → Bool = touched a.roles a.table.now in
-    let met = sym c.meet.ensures in
-    elim c.if-meet.branch [
-      | then-meet w ↦ (omega arith, omega (arith, w.n-is, at.invariant.1, taken-length at.k f (met ∙ w.if-meet.true)))
-      | else-meet w ↦ (omega arith, w.n-is ∙ at.invariant.1 ∙ sym (ap length (members-left at.k f (met ∙ w.if-meet.false))))
-    ]
 
 pub returns : goal.returns
-unfolding meeting
 returns c =
-    let a = c.args in
-    let whole : c.loop-k.k ≡ length a.table.now = omega arith in
-    c.loop-k.invariant.1 ∙ ap (λ (n : ℕ). length (members n (touched a.roles a.table.now))) whole
+    let found : c.count.result ≡ count_by (meets c.args.roles) c.args.table.now = search rules in
+    found ∙ meeting-length c.args.roles c.args.table.now

@@ -1,41 +1,19 @@
--- Tables that are filled place by place, and the lists of their places. Assumes nothing.
+-- The places of a table that have one of some roles, as each review names them. Assumes nothing.
 use mathlib.Core.Bool.{Bool, true, false, not, ◌&&◌}
 use mathlib.Core.List.{List}
-use mathlib.Core.Logic.{◌⊎◌, inl, inr}
-use mathlib.Core.Path.{◌≡◌, refl, sym, ap, ◌∙◌}
-use Prim.Native.Nat.{ℕ, ◌+◌, ◌≤◌, ◌<◌}
-use native.Mathlib.Omega.{arith}
-use lib.ListN.{length, set, length-set}
-use lib.Seq.{get_or-set_same, get_or-set_other}
-use borrow.Author.Tests.{eq-eqb, eqb-true}
+use mathlib.Core.Path.{◌≡◌, refl, sym, ap, ap₂, ◌∙◌}
+use Prim.Native.Nat.{ℕ, ◌<◌}
+use lib.Dec.{leb}
+use lib.ListN.{length}
+use borrow.Author.Tests.{eq-eqb, eqb-true, leb-false}
 use Rattle.roleset.specs.Bounded.{bit, some, members}
 use Rattle.roleset.specs.Roles.{has, pack, those, none, with, common, is_empty}
-use Rattle.roleset.proofs.BoundedLaws.{last-or-below, and_left, and_right, and_both, not_yes, yes-not, agree}
+use Rattle.roleset.proofs.BoundedLaws.{and_left, and_right, and_both, not_yes, yes-not, agree}
 use Rattle.roleset.proofs.Laws.{has-common, has-with, has-none, those-ext, is_empty_false}
 use Rattle.roleset.proofs.MembersLaws.{members-ext}
-use Rattle.hierarchy.specs.Lines.{table_of}
 use Rattle.hierarchy.proofs.WalkLaws.{not-empty}
+use Rattle.state.specs.Stores.{Table}
 use Rattle.reviews.specs.Reviewing.{meets, touched, meeting}
-
--- a table of n places, the first k of which hold what f says
-pub record Filled (f : ℕ → ℕ) (n k : ℕ) (t : List ℕ) : Type 0 where
-  pub few : k ≤ n
-  pub long : length t ≡ n
-  pub each : (j : ℕ) → j < k → table_of t j ≡ f j
-
-module _ {f : ℕ → ℕ} {n : ℕ} where
-  pub fill_start : {t : List ℕ} → length t ≡ n → Filled f n 0 t
-  fill_start h = record { few = omega arith; long = h; each = λ j l. absurd (omega arith) }
-
-  pub fill_next : {k v : ℕ} {t : List ℕ} → k < n → v ≡ f k → Filled f n k t → Filled f n (k + 1) (set t k v)
-  fill_next {k} {v} {t} h e s = record { few = omega arith; long = length-set t k v ∙ s.long; each = λ j l. go j (last-or-below j k (omega arith)) }
-    where
-      go : (j : ℕ) → (j ≡ k) ⊎ (j < k) → table_of (set t k v) j ≡ f j
-      go j (inl p) = rw p (get_or-set_same t k v 0 (omega (arith, s.long)) ∙ e)
-      go j (inr p) = get_or-set_other t k j v 0 (λ q. omega arith) ∙ s.each j p
-
-  pub fill_end : {k : ℕ} {t : List ℕ} → n ≤ k → Filled f n k t → (j : ℕ) → j < n → table_of t j ≡ f j
-  fill_end h s j l = s.each j (omega arith)
 
 -- the places that have one of the roles are the members that the test names
 pub meeting-members : (roles : ℕ) (table : List ℕ) (n : ℕ) (f : ℕ → Bool) → length table ≡ n → ((k : ℕ) → k < n → f k ≡ touched roles table k) → members n f ≡ meeting roles table
@@ -75,3 +53,21 @@ pub meets-bit : (b : Bool) → b ≡ meets 1 (bit b)
 unfolding common is_empty those pack some has
 meets-bit true = refl
 meets-bit false = refl
+
+-- ---- the lists of the tables of the state, where the code has found the roles asked for
+
+-- the places whose set shares a role with those asked for, as with the permissions that roles hold
+pub shared-listed : (n : ℕ) (f : ℕ → ℕ) (roles asked : ℕ) (table : List ℕ) → Table n f table → roles ≡ asked → meeting roles table ≡ members n (λ k. meets asked (f k))
+shared-listed n f roles asked table t e = sym (meeting-members roles table n (λ k. meets asked (f k)) t.long (λ k l. ap₂ (λ (w : ℕ) (g : ℕ → ℕ). meets w (g k)) (sym e) (sym t.each)))
+
+-- the same, with the place's set named first, as with the users that are authorised
+pub turned-listed : (n : ℕ) (f : ℕ → ℕ) (roles asked : ℕ) (table : List ℕ) → Table n f table → roles ≡ asked → meeting roles table ≡ members n (λ k. meets (f k) asked)
+turned-listed n f roles asked table t e = shared-listed n f roles asked table t e ∙ members-ext n (λ k. meets asked (f k)) (λ k. meets (f k) asked) (λ k l. meets-turned asked (f k))
+
+-- the places whose set has the role
+pub having-listed : (n : ℕ) (f : ℕ → ℕ) (roles r : ℕ) (table : List ℕ) → Table n f table → roles ≡ with none r → leb 64 r ≡ false → meeting roles table ≡ members n (λ k. has (f k) r)
+having-listed n f roles r table t e h = shared-listed n f roles (with none r) table t e ∙ members-ext n (λ k. meets (with none r) (f k)) (λ k. has (f k) r) (λ k l. sym (has-meets (f k) r (leb-false 64 r h)))
+
+-- the operations that the roles hold
+pub operations-listed : (n : ℕ) (f : ℕ → ℕ) (roles asked : ℕ) → roles ≡ asked → members n (λ k. meets roles (f k)) ≡ members n (λ k. meets asked (f k))
+operations-listed n f roles asked e = ap (λ (w : ℕ). members n (λ k. meets w (f k))) e
