@@ -2,7 +2,8 @@
 use mathlib.Core.Bool.{Bool, true, false}
 use mathlib.Core.List.{List}
 use mathlib.Core.Path.{◌≡◌, sym, ap, ap₂, ◌∙◌}
-use Prim.Native.Nat.{ℕ, ◌+◌, ◌%◌, ◌≤◌, ◌<◌}
+use Prim.Native.Nat.{ℕ, ◌+◌, ◌%◌, ◌≤◌, ◌<◌, ◌^◌}
+use lib.ListN.{get_or}
 use native.Mathlib.Decide.{dec_lt}
 use native.Mathlib.Omega.{arith}
 use Rattle.roleset.specs.Roles.{has}
@@ -12,9 +13,9 @@ use Rattle.model.specs.Model.{RoleSet, Session, absent_set, closed_session}
 use Rattle.model.specs.commands.Sets.{sets_of}
 use Rattle.model.specs.declared.Kind.{Kind}
 use Rattle.model.specs.declared.Kind.TheVariants.{Static, Dynamic}
-use Rattle.state.specs.Places.{holders_at, assigned_at, juniors_at, sets_at, owners_at, active_at, users_at}
+use Rattle.state.specs.Places.{roles_at, holders_at, assigned_at, juniors_at, sets_at, owners_at, active_at, users_at}
 use Rattle.state.specs.View.{set_of, session_of, view}
-use Rattle.state.proofs.Slots.{part_none}
+use Rattle.state.proofs.Slots.{part_none, part_at}
 use Rattle.state.proofs.Stored.{set_at}
 use Rattle.policycheck.specs.Tests.{Ranged}
 
@@ -49,6 +50,11 @@ module _ (l : List ℕ) where
       go : Dec (k < n) → k < n
       go (yes p) = p
       go (no p) = clash b e (past (omega arith))
+
+  -- the number that holds the roles is one of the state's
+  pub roles-small : ((i : ℕ) → get_or l i 0 < 2 ^ 64) → (view l).roles < 2 ^ 64
+  unfolding view
+  roles-small h = rw (part_at l roles_at 1 0 (omega arith)) (h roles_at)
 
   pub ranged : Ranged (view l)
   ranged = record {

@@ -73,3 +73,18 @@ encode-size m f =
     (more (grants_part m.holders) _ 12290 12870 (grants-size m l)
     (more (sets_part m.ssd) _ 2146 10724 (sets-size m.ssd)
     (more (sets_part m.dsd) (sessions_part m.sessions) 2146 8578 (sets-size m.dsd) (sessions-size m.sessions)))))))
+
+-- Of any model whatever, the file's length is far below 2 ^ 64.
+pub encode-most : (m : Model) → length (encode m) ≤ 1668304
+unfolding encode
+encode-most m =
+    more (users_part m.users) _ 514 1667790 (users-size m.users)
+    (more (role_list m.roles) _ 130 1667660 (list-size m.roles)
+    (more (lines_part m.juniors) _ 16386 1651274 (pairs-size 4096 m.juniors)
+    (more (assigned_part m.assigned) _ 65538 1585736 (pairs-size 16384 m.assigned)
+    (more (grants_part m.holders) _ 1572866 12870 (section-size grant_entry 6 262144 (λ k. omega arith) (members 262144 (grant_in m.holders)) (members-most 262144 (grant_in m.holders)))
+    (more (sets_part m.ssd) _ 2146 10724 (sets-size m.ssd)
+    (more (sets_part m.dsd) (sessions_part m.sessions) 2146 8578 (sets-size m.dsd) (sessions-size m.sessions)))))))
+  where
+    pairs-size : (n : ℕ) (table : ℕ → ℕ) → length (section pair_entry (members n (pair_in table))) ≤ 2 + 4 * n
+    pairs-size n table = section-size pair_entry 4 n (λ k. omega arith) (members n (pair_in table)) (members-most n (pair_in table))

@@ -21,9 +21,7 @@ use Rattle.text.specs.Bytes.{two, section}
 use Rattle.text.specs.Places.{word_at, read_section}
 use Rattle.text.proofs.Reading.{Stands, stands-left, stands-right, word_back, each_member, section_back}
 use Rattle.policyform.specs.Encode.{role_list, pair_entry, pair_in, grant_entry, grant_in, users_part, lines_part, assigned_part, grants_part, sets_part, sessions_part}
-use Rattle.policyread.specs.declared.Pairs.{Pairs}
-use Rattle.policyread.specs.declared.Pairs.TheVariants.{Lines, Assignments}
-use Rattle.policyread.specs.Steps.{user_added, pair_added, grant_added, read_user, read_role, read_roles, read_pair, read_grant, read_entry, read_set, read_session}
+use Rattle.policyread.specs.Steps.{user_added, line_added, assignment_added, grant_added, read_user, read_role, read_roles, read_pair, read_line, read_assignment, read_grant, read_entry, read_set, read_session}
 use Rattle.policyread.proofs.Folds.{roles-back, records_back, Numbered, grid_back}
 
 -- ---- one table of the model, and the model with another one in its place
@@ -78,23 +76,23 @@ module _ (bytes : List ℕ) where
         marking t k = put t (row k) (with (t (row k)) (col k))
 
   -- the lines and the assignments
-  pairs_read : (pairs : Pairs) (get : Model → ℕ → ℕ) (into : Model → (ℕ → ℕ) → Model) → Part get into → (size : ℕ) → ((m : Model) (i r : ℕ) → pair_added pairs m i r ≡ in_range size i m (into m (put (get m) i (with (get m i) r)))) → (limit : ℕ) → size ≤ 256 → limit < 65536 → (table : ℕ → ℕ) → ((i : ℕ) → table i < 2 ^ 64) → ((i : ℕ) → size ≤ i → table i ≡ 0) → length (members (64 * size) (pair_in table)) ≤ limit → (m : Model) (at : ℕ) (rest : List ℕ) → Stands bytes at (section pair_entry (members (64 * size) (pair_in table))) rest → read_section bytes limit (read_pair pairs bytes) at (into m (λ i. 0)) ≡ (at + length (section pair_entry (members (64 * size) (pair_in table))), into m table)
+  pairs_read : (add : Model → ℕ → ℕ → Model) (get : Model → ℕ → ℕ) (into : Model → (ℕ → ℕ) → Model) → Part get into → (size : ℕ) → ((m : Model) (i r : ℕ) → add m i r ≡ in_range size i m (into m (put (get m) i (with (get m i) r)))) → (limit : ℕ) → size ≤ 256 → limit < 65536 → (table : ℕ → ℕ) → ((i : ℕ) → table i < 2 ^ 64) → ((i : ℕ) → size ≤ i → table i ≡ 0) → length (members (64 * size) (pair_in table)) ≤ limit → (m : Model) (at : ℕ) (rest : List ℕ) → Stands bytes at (section pair_entry (members (64 * size) (pair_in table))) rest → read_section bytes limit (read_pair add bytes) at (into m (λ i. 0)) ≡ (at + length (section pair_entry (members (64 * size) (pair_in table))), into m table)
   unfolding read_pair
-  pairs_read pairs get into part size stored limit few low = marks_read get into part size (64 * size) (λ k. k / 64) (λ k. k % 64) (λ i r. 64 * i + r) fit pair_entry (read_pair pairs bytes) one limit low
+  pairs_read add get into part size stored limit few low = marks_read get into part size (64 * size) (λ k. k / 64) (λ k. k % 64) (λ i r. 64 * i + r) fit pair_entry (read_pair add bytes) one limit low
     where
       fit : Numbered size (64 * size) (λ k. k / 64) (λ k. k % 64) (λ i r. 64 * i + r)
       fit = record { within = λ i r h p. omega arith; place = λ i r h p. omega arith; role = λ i r h p. omega arith; number = λ k. omega arith; inside = λ k h. omega arith }
 
-      one : (k at : ℕ) (a : Model) (rest : List ℕ) → k < 64 * size → Stands bytes at (pair_entry k) rest → read_pair pairs bytes (at, a) ≡ (at + length (pair_entry k), in_range size (k / 64) a (into a (put (get a) (k / 64) (with (get a (k / 64)) (k % 64)))))
+      one : (k at : ℕ) (a : Model) (rest : List ℕ) → k < 64 * size → Stands bytes at (pair_entry k) rest → read_pair add bytes (at, a) ≡ (at + length (pair_entry k), in_range size (k / 64) a (into a (put (get a) (k / 64) (with (get a (k / 64)) (k % 64)))))
       one k at a rest p s =
-          ap₂ (λ (i r : ℕ). (at + 4, pair_added pairs a i r)) (word_back (k / 64) (omega arith) (stands-left (two (k / 64)) (two (k % 64)) s)) (word_back (k % 64) (omega arith) (stands-right (two (k / 64)) (two (k % 64)) s))
+          ap₂ (λ (i r : ℕ). (at + 4, add a i r)) (word_back (k / 64) (omega arith) (stands-left (two (k / 64)) (two (k % 64)) s)) (word_back (k % 64) (omega arith) (stands-right (two (k / 64)) (two (k % 64)) s))
           ∙ ap (λ (x : Model). (at + 4, x)) (stored a (k / 64) (k % 64))
 
-  pub lines_read_lem : (table : ℕ → ℕ) → ((i : ℕ) → table i < 2 ^ 64) → ((i : ℕ) → 64 ≤ i → table i ≡ 0) → length (members 4096 (pair_in table)) ≤ 512 → (m : Model) (at : ℕ) (rest : List ℕ) → Stands bytes at (lines_part table) rest → read_section bytes 512 (read_pair Lines bytes) at (with_lines m (λ i. 0) 0) ≡ (at + length (lines_part table), with_lines m table 0)
-  lines_read_lem = pairs_read Lines (λ m. m.juniors) (λ m t. with_lines m t 0) (record { got = λ m t. refl; over = λ m t u. refl }) 64 (λ m i r. refl) 512 (omega arith) (omega arith)
+  pub lines_read_lem : (table : ℕ → ℕ) → ((i : ℕ) → table i < 2 ^ 64) → ((i : ℕ) → 64 ≤ i → table i ≡ 0) → length (members 4096 (pair_in table)) ≤ 512 → (m : Model) (at : ℕ) (rest : List ℕ) → Stands bytes at (lines_part table) rest → read_section bytes 512 (read_line bytes) at (with_lines m (λ i. 0) 0) ≡ (at + length (lines_part table), with_lines m table 0)
+  lines_read_lem = pairs_read line_added (λ m. m.juniors) (λ m t. with_lines m t 0) (record { got = λ m t. refl; over = λ m t u. refl }) 64 (λ m i r. refl) 512 (omega arith) (omega arith)
 
-  pub assignments_read_lem : (table : ℕ → ℕ) → ((i : ℕ) → table i < 2 ^ 64) → ((i : ℕ) → 256 ≤ i → table i ≡ 0) → length (members 16384 (pair_in table)) ≤ 2048 → (m : Model) (at : ℕ) (rest : List ℕ) → Stands bytes at (assigned_part table) rest → read_section bytes 2048 (read_pair Assignments bytes) at (with_assignments m (λ i. 0) 0) ≡ (at + length (assigned_part table), with_assignments m table 0)
-  assignments_read_lem = pairs_read Assignments (λ m. m.assigned) (λ m t. with_assignments m t 0) (record { got = λ m t. refl; over = λ m t u. refl }) 256 (λ m i r. refl) 2048 (omega arith) (omega arith)
+  pub assignments_read_lem : (table : ℕ → ℕ) → ((i : ℕ) → table i < 2 ^ 64) → ((i : ℕ) → 256 ≤ i → table i ≡ 0) → length (members 16384 (pair_in table)) ≤ 2048 → (m : Model) (at : ℕ) (rest : List ℕ) → Stands bytes at (assigned_part table) rest → read_section bytes 2048 (read_assignment bytes) at (with_assignments m (λ i. 0) 0) ≡ (at + length (assigned_part table), with_assignments m table 0)
+  assignments_read_lem = pairs_read assignment_added (λ m. m.assigned) (λ m t. with_assignments m t 0) (record { got = λ m t. refl; over = λ m t u. refl }) 256 (λ m i r. refl) 2048 (omega arith) (omega arith)
 
   pub grants_read_lem : (table : ℕ → ℕ) → ((i : ℕ) → table i < 2 ^ 64) → ((i : ℕ) → 4096 ≤ i → table i ≡ 0) → length (members 262144 (grant_in table)) ≤ 2048 → (m : Model) (at : ℕ) (rest : List ℕ) → Stands bytes at (grants_part table) rest → read_section bytes 2048 (read_grant bytes) at (with_grants m (λ i. 0) 0) ≡ (at + length (grants_part table), with_grants m table 0)
   unfolding read_grant

@@ -1,5 +1,5 @@
 -- The laws that the proofs share; crates above cite `Whole`.
-mod Loops
+mod InOrder
 mod Folds
 mod Back
 pub mod Whole

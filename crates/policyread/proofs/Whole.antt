@@ -2,7 +2,7 @@
 -- section after section. Assumes nothing.
 use mathlib.Core.Bool.{Bool, true, false}
 use mathlib.Core.List.{List, [], ◌++◌, append-nil}
-use mathlib.Core.Path.{◌≡◌, refl, sym, ap, ap₂, ◌∙◌, fun_ext}
+use mathlib.Core.Path.{◌≡◌, refl, sym, ap, ap₂, subst, ◌∙◌, fun_ext}
 use Prim.Native.Nat.{ℕ, ◌≤◌, ◌<◌, ◌^◌}
 use native.Mathlib.Omega.{arith}
 use lib.Dec.{eqb}
@@ -24,9 +24,8 @@ use Rattle.text.proofs.Reading.{Stands, stands-left, stands-right}
 use Rattle.policyform.specs.Encode.{role_list, users_part, lines_part, assigned_part, grants_part, sets_part, sessions_part, encode}
 use Rattle.policyform.specs.Form.{Formed, FileOf}
 use Rattle.policyform.proofs.Size.{few-lines, few-assigned, few-grants}
-use Rattle.policyread.specs.declared.Pairs.TheVariants.{Lines, Assignments}
-use Rattle.policyread.specs.Steps.{read_user, read_roles, read_grant, read_set, read_session}
-use Rattle.policyread.specs.Gathered.{users_read, roles_after, roles_read, pairs_read, lines_read, assigned_read, grants_read, ssd_read, dsd_read, sessions_read, counted, gathered}
+use Rattle.policyread.specs.Steps.{Reading, From, Read, entries, read_user, read_role, read_roles, read_line, read_assignment, read_grant, read_set, read_session}
+use Rattle.policyread.specs.Gathered.{users_read, roles_after, roles_read, lines_read, assigned_read, grants_read, ssd_read, dsd_read, sessions_read, counted, gathered}
 use Rattle.policyread.proofs.Back.{users_read_lem, roles_read_lem, lines_read_lem, assignments_read_lem, grants_read_lem, sets_read_lem, sessions_read_lem}
 
 -- ---- what a file may hold has nothing beyond its ranges
@@ -87,8 +86,8 @@ gathered-file bytes m file =
     let s8 = stands-right (sets_part m.dsd) from8 s7 in
     let e1 : users_read bytes ≡ _ = users_read_lem bytes empty m.users f.users 0 _ (stands-left (users_part m.users) from2 s1) in
     let e2 : roles_read bytes ≡ _ = roles-after bytes _ e1 (roles_read_lem bytes m.roles _ _ f.roles (stands-left (role_list m.roles) from3 s2)) in
-    let e3 : lines_read bytes ≡ _ = ap (pairs_read Lines bytes) e2 ∙ lines_read_lem bytes m.juniors (λ i. (f.juniors i).small) (no_juniors m f) (few-lines m f.limits) m2 _ _ (stands-left (lines_part m.juniors) from4 s3) in
-    let e4 : assigned_read bytes ≡ _ = ap (pairs_read Assignments bytes) e3 ∙ assignments_read_lem bytes m.assigned (λ i. (f.assigned i).small) (no_assigned m f) (few-assigned m f.limits) m3 _ _ (stands-left (assigned_part m.assigned) from5 s4) in
+    let e3 : lines_read bytes ≡ _ = ap (λ (q : ℕ × Model). read_section bytes 512 (read_line bytes) q.0 q.1) e2 ∙ lines_read_lem bytes m.juniors (λ i. (f.juniors i).small) (no_juniors m f) (few-lines m f.limits) m2 _ _ (stands-left (lines_part m.juniors) from4 s3) in
+    let e4 : assigned_read bytes ≡ _ = ap (λ (q : ℕ × Model). read_section bytes 2048 (read_assignment bytes) q.0 q.1) e3 ∙ assignments_read_lem bytes m.assigned (λ i. (f.assigned i).small) (no_assigned m f) (few-assigned m f.limits) m3 _ _ (stands-left (assigned_part m.assigned) from5 s4) in
     let e5 : grants_read bytes ≡ _ = ap (λ (q : ℕ × Model). read_section bytes 2048 (read_grant bytes) q.0 q.1) e4 ∙ grants_read_lem bytes m.holders (λ i. (f.holders i).small) (no_holders m f) (few-grants m f.limits) m4 _ _ (stands-left (grants_part m.holders) from6 s5) in
     let e6 : ssd_read bytes ≡ _ = ap (λ (q : ℕ × Model). read_section bytes 16 (read_set Static bytes) q.0 q.1) e5 ∙ sets_read_lem bytes Static m.ssd (λ n. (f.ssd n).absent) (λ n. (f.ssd n).named) (λ n. (f.ssd n).small) (λ n. (f.ssd n).members.small) m5 _ _ (stands-left (sets_part m.ssd) from7 s6) in
     let e7 : dsd_read bytes ≡ _ = ap (λ (q : ℕ × Model). read_section bytes 16 (read_set Dynamic bytes) q.0 q.1) e6 ∙ sets_read_lem bytes Dynamic m.dsd (λ n. (f.dsd n).absent) (λ n. (f.dsd n).named) (λ n. (f.dsd n).small) (λ n. (f.dsd n).members.small) m6 _ _ (stands-left (sets_part m.dsd) from8 s7) in
@@ -139,28 +138,34 @@ all-counted m m1 m2 m3 lines assigned granted below held holding n1 n2 n3 h1 e1 
     let r3 : m3 ≡ with_grants m2 m2.holders granted = e3 ∙ in-range 4096 0 m2 _ (omega arith) ∙ ap (λ (t : ℕ → ℕ). with_grants m2 t granted) (put-again m2.holders 0 holding h3) in
     r3 ∙ ap (λ (x : Model). with_grants x x.holders granted) (r2 ∙ ap (λ (x : Model). with_assignments x x.assigned assigned) r1) ∙ rw (n1, n2, n3)
 
+-- a state, and what is left of the bytes past a place
+record Here (bytes file : List ℕ) (m : Model) (p : ℕ × Model) : Type 0 where
+  pub left : From bytes p.0 file
+  pub is : m ≡ p.1
+
+here_past : {read : Reading Model} {bytes x y : List ℕ} {m n : Model} {p : ℕ × Model} → Read read x m y n → Here bytes x m p → Here bytes y n (read bytes p)
+here_past {read} {bytes} {y = y} {p = p} r h = record {
+  left = subst (λ (v : Model). From bytes (read bytes (p.0, v)).0 y) h.is (r.left bytes p.0 h.left);
+  is = r.is bytes p.0 h.left ∙ ap (λ (v : Model). (read bytes (p.0, v)).1) h.is;
+}
+
 -- A state whose sections were read one after another, from an empty one, and that was counted then, holds what is gathered.
-pub gathered-state : (bytes : List ℕ) (m0 m1 m2 m3 m4 m5 m6 m7 m8 m9 : Model) (p1 p2 p3 p4 p5 p6 p7 p8 roles : ℕ) →
+pub gathered-state : (bytes f1 f2 f3 f4 f5 f6 f7 f8 : List ℕ) (m0 m1 m2 m3 m4 m5 m6 m7 m8 m9 : Model) (roles : ℕ) →
     m0 ≡ empty →
-    (p1, m1) ≡ read_section bytes 256 (read_user bytes) 0 m0 →
-    (p2, roles) ≡ read_roles bytes p1 →
+    Read (entries 256 read_user) bytes m0 f1 m1 →
+    Read (entries 64 read_role) f1 0 f2 roles →
     m2 ≡ with_roles m1 roles →
-    (p3, m3) ≡ pairs_read Lines bytes (p2, m2) →
-    (p4, m4) ≡ pairs_read Assignments bytes (p3, m3) →
-    (p5, m5) ≡ read_section bytes 2048 (read_grant bytes) p4 m4 →
-    (p6, m6) ≡ read_section bytes 16 (read_set Static bytes) p5 m5 →
-    (p7, m7) ≡ read_section bytes 16 (read_set Dynamic bytes) p6 m6 →
-    (p8, m8) ≡ read_section bytes 64 (read_session bytes) p7 m7 →
+    Read (entries 512 read_line) f2 m2 f3 m3 →
+    Read (entries 2048 read_assignment) f3 m3 f4 m4 →
+    Read (entries 2048 read_grant) f4 m4 f5 m5 →
+    Read (entries 16 (read_set Static)) f5 m5 f6 m6 →
+    Read (entries 16 (read_set Dynamic)) f6 m6 f7 m7 →
+    Read (entries 64 read_session) f7 m7 f8 m8 →
     m9 ≡ counted m8 →
     m9 ≡ gathered bytes
-unfolding gathered users_read roles_read lines_read assigned_read grants_read ssd_read dsd_read sessions_read
-gathered-state bytes m0 m1 m2 m3 m4 m5 m6 m7 m8 m9 p1 p2 p3 p4 p5 p6 p7 p8 roles g0 g1 g2 e2 g3 g4 g5 g6 g7 g8 e9 =
-    let r1 : (p1, m1) ≡ users_read bytes = g1 ∙ ap (λ (x : Model). read_section bytes 256 (read_user bytes) 0 x) g0 in
-    let r2 : (p2, m2) ≡ roles_read bytes = ap (λ (x : Model). (p2, x)) e2 ∙ ap (λ (q : ℕ × ℕ). (q.0, with_roles m1 q.1)) g2 ∙ ap (roles_after bytes) r1 in
-    let r3 : (p3, m3) ≡ lines_read bytes = g3 ∙ ap (pairs_read Lines bytes) r2 in
-    let r4 : (p4, m4) ≡ assigned_read bytes = g4 ∙ ap (pairs_read Assignments bytes) r3 in
-    let r5 : (p5, m5) ≡ grants_read bytes = g5 ∙ ap (λ (q : ℕ × Model). read_section bytes 2048 (read_grant bytes) q.0 q.1) r4 in
-    let r6 : (p6, m6) ≡ ssd_read bytes = g6 ∙ ap (λ (q : ℕ × Model). read_section bytes 16 (read_set Static bytes) q.0 q.1) r5 in
-    let r7 : (p7, m7) ≡ dsd_read bytes = g7 ∙ ap (λ (q : ℕ × Model). read_section bytes 16 (read_set Dynamic bytes) q.0 q.1) r6 in
-    let r8 : (p8, m8) ≡ sessions_read bytes = g8 ∙ ap (λ (q : ℕ × Model). read_section bytes 64 (read_session bytes) q.0 q.1) r7 in
-    e9 ∙ ap (λ (q : ℕ × Model). counted q.1) r8
+unfolding gathered users_read roles_read lines_read assigned_read grants_read ssd_read dsd_read sessions_read read_roles entries
+gathered-state bytes f1 f2 f3 f4 f5 f6 f7 f8 m0 m1 m2 m3 m4 m5 m6 m7 m8 m9 roles g0 g1 g2 e2 g3 g4 g5 g6 g7 g8 e9 =
+    let r1 : Here bytes f1 m1 (users_read bytes) = here_past g1 (record { left = record { is = refl }; is = g0 }) in
+    let r2 : Here bytes f2 m2 (roles_read bytes) = record { left = g2.left bytes (users_read bytes).0 r1.left; is = e2 ∙ ap₂ with_roles r1.is (g2.is bytes (users_read bytes).0 r1.left) } in
+    let r8 = here_past g8 (here_past g7 (here_past g6 (here_past g5 (here_past g4 (here_past g3 r2))))) in
+    e9 ∙ ap counted r8.is

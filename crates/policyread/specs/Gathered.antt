@@ -4,9 +4,7 @@ use Rattle.std.specs.Prelude.{List, ℕ}
 use Rattle.model.specs.Model.{Model, empty, with_roles, with_juniors, with_assigned, with_holders}
 use Rattle.model.specs.declared.Kind.TheVariants.{Static, Dynamic}
 use Rattle.text.specs.Places.{read_section}
-use Rattle.policyread.specs.declared.Pairs.{Pairs}
-use Rattle.policyread.specs.declared.Pairs.TheVariants.{Lines, Assignments}
-use Rattle.policyread.specs.Steps.{read_user, read_roles, pairs_most, read_pair, read_grant, read_set, read_session}
+use Rattle.policyread.specs.Steps.{read_user, read_roles, read_line, read_assignment, read_grant, read_set, read_session}
 
 -- each section: the place past it, and what is gathered so far
 unfoldable pub users_read : List ℕ → ℕ × Model
@@ -18,15 +16,11 @@ roles_after bytes p = ((read_roles bytes p.0).0, with_roles p.1 (read_roles byte
 unfoldable pub roles_read : List ℕ → ℕ × Model
 roles_read bytes = roles_after bytes (users_read bytes)
 
--- the lines, or the assignments, past what was read before
-abbrev pub pairs_read : Pairs → List ℕ → ℕ × Model → ℕ × Model
-pairs_read pairs bytes p = read_section bytes (pairs_most pairs) (read_pair pairs bytes) p.0 p.1
-
 unfoldable pub lines_read : List ℕ → ℕ × Model
-lines_read bytes = pairs_read Lines bytes (roles_read bytes)
+lines_read bytes = read_section bytes 512 (read_line bytes) (roles_read bytes).0 (roles_read bytes).1
 
 unfoldable pub assigned_read : List ℕ → ℕ × Model
-assigned_read bytes = pairs_read Assignments bytes (lines_read bytes)
+assigned_read bytes = read_section bytes 2048 (read_assignment bytes) (lines_read bytes).0 (lines_read bytes).1
 
 unfoldable pub grants_read : List ℕ → ℕ × Model
 grants_read bytes = read_section bytes 2048 (read_grant bytes) (assigned_read bytes).0 (assigned_read bytes).1

@@ -1,6 +1,6 @@
 -- How each entry of the file is gathered, without asking whether it is one: bytes past the end are 0, and what is out of range is dropped.
 -- Nobody need believe these: that the file of a model is gathered as this model is a law (proofs/Whole). Assumes nothing.
-use Rattle.std.specs.Prelude.{true, List, ◌≡◌, ℕ, ◌+◌, ◌≤◌}
+use Rattle.std.specs.Prelude.{true, List, ◌≡◌, ℕ, ◌+◌, drop}
 use Rattle.roleset.specs.Roles.{with}
 use Rattle.model.specs.Model.{Model, put, with_users, with_lines, with_assignments, with_grants}
 use Rattle.model.specs.Words.{permission}
@@ -9,17 +9,17 @@ use Rattle.model.specs.commands.Sets.{a_set}
 use Rattle.model.specs.declared.Kind.{Kind}
 use Rattle.state.specs.Stores.{in_range, set_stored}
 use Rattle.text.specs.Places.{word_at, read_section}
-use Rattle.policyread.specs.declared.Pairs.{Pairs}
-use Rattle.policyread.specs.declared.Pairs.TheVariants.{Lines, Assignments}
 
 -- ---- one entry more. How many lines, assignments and grants stand is counted at the end, and 0 until then.
 
 abbrev pub user_added : Model → ℕ → Model
 user_added m u = in_range 256 u m (with_users m (put m.users u true))
 
-abbrev pub pair_added : Pairs → Model → ℕ → ℕ → Model
-pair_added Lines m s j = in_range 64 s m (with_lines m (put m.juniors s (with (m.juniors s) j)) 0)
-pair_added Assignments m u r = in_range 256 u m (with_assignments m (put m.assigned u (with (m.assigned u) r)) 0)
+abbrev pub line_added : Model → ℕ → ℕ → Model
+line_added m s j = in_range 64 s m (with_lines m (put m.juniors s (with (m.juniors s) j)) 0)
+
+abbrev pub assignment_added : Model → ℕ → ℕ → Model
+assignment_added m u r = in_range 256 u m (with_assignments m (put m.assigned u (with (m.assigned u) r)) 0)
 
 abbrev pub grant_added : Model → ℕ → ℕ → Model
 grant_added m p r = in_range 4096 p m (with_grants m (put m.holders p (with (m.holders p) r)) 0)
@@ -38,12 +38,15 @@ read_user bytes p = (p.0 + 2, user_added p.1 (word_at bytes p.0))
 unfoldable pub read_role : List ℕ → ℕ × ℕ → ℕ × ℕ
 read_role bytes p = (p.0 + 2, with p.1 (word_at bytes p.0))
 
-abbrev pub pairs_most : Pairs → ℕ
-pairs_most Lines = 512
-pairs_most Assignments = 2048
+-- two numbers
+unfoldable pub read_pair : (Model → ℕ → ℕ → Model) → List ℕ → ℕ × Model → ℕ × Model
+read_pair add bytes p = (p.0 + 4, add p.1 (word_at bytes p.0) (word_at bytes (p.0 + 2)))
 
-unfoldable pub read_pair : Pairs → List ℕ → ℕ × Model → ℕ × Model
-read_pair pairs bytes p = (p.0 + 4, pair_added pairs p.1 (word_at bytes p.0) (word_at bytes (p.0 + 2)))
+abbrev pub read_line : List ℕ → ℕ × Model → ℕ × Model
+read_line = read_pair line_added
+
+abbrev pub read_assignment : List ℕ → ℕ × Model → ℕ × Model
+read_assignment = read_pair assignment_added
 
 unfoldable pub read_grant : List ℕ → ℕ × Model → ℕ × Model
 read_grant bytes p = (p.0 + 6, grant_added p.1 (permission (word_at bytes (p.0 + 2)) (word_at bytes (p.0 + 4))) (word_at bytes p.0))
@@ -64,13 +67,22 @@ read_session = read_entry session_added
 
 -- ---- what the code's functions say
 
--- the section was read from a place, to the next place and what there is then; the next place is at most so far on
-pub record Got {A : Type 0} (read : ℕ × A) (at most place : ℕ) (after : A) : Type 0 where
-  pub is : (place, after) ≡ read
-  pub room : place ≤ at + most
+-- how something is read of any bytes
+abbrev pub Reading : Type 0 → Type 0
+Reading A = List ℕ → ℕ × A → ℕ × A
 
--- two numbers and a list of roles were read from a place, to the next place
-pub record GotEntry (bytes : List ℕ) (at first second place roles : ℕ) : Type 0 where
-  pub leads : first ≡ word_at bytes at
-  pub follows : second ≡ word_at bytes (at + 2)
-  pub list : Got (read_roles bytes (at + 4)) (at + 4) 130 place roles
+abbrev pub Step : Type 0
+Step = Reading Model
+
+-- a section of at most so many entries
+unfoldable pub entries : {A : Type 0} → ℕ → Reading A → Reading A
+entries most step bytes p = read_section bytes most (step bytes) p.0 p.1
+
+-- what is left of the bytes from a place on
+pub record From (bytes : List ℕ) (at : ℕ) (rest : List ℕ) : Type 0 where
+  pub is : rest ≡ drop at bytes
+
+-- it was read where `before` was left: what is left then, and what there is then
+pub record Read {A : Type 0} (reading : Reading A) (before : List ℕ) (a : A) (rest : List ℕ) (after : A) : Type 0 where
+  pub left : (bytes : List ℕ) (at : ℕ) → From bytes at before → From bytes (reading bytes (at, a)).0 rest
+  pub is : (bytes : List ℕ) (at : ℕ) → From bytes at before → after ≡ (reading bytes (at, a)).1

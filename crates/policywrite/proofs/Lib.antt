@@ -1,6 +1,5 @@
 -- The laws that the proofs share.
 mod Sections
-mod Taking
-mod Rows
+mod Appended
+mod Numbered
 mod Turning
-mod Under

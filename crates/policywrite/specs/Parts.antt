@@ -1,20 +1,24 @@
--- A part of the file that is written: its bytes, and that it is no longer than so many; and the rows of grants that one permission is marked in.
--- Assumes nothing.
-use Rattle.std.specs.Prelude.{Bool, ◌||◌, ◌&&◌, List, ◌≡◌, ℕ, ◌+◌, ◌/◌, ◌%◌, ◌≤◌, ◌<◌, eqb, length}
+-- What is written: bytes, at a pen's place; the entries of a section, by their numbers; and the grants of one permission. Assumes nothing.
+use Rattle.std.specs.Prelude.{Bool, ◌&&◌, List, [], ◌++◌, ◌≡◌, ℕ, zero, suc, ◌+◌, ◌*◌, ◌/◌, ◌%◌, ◌<◌, ◌^◌, eqb, length, map}
+use Rattle.roleset.specs.Bounded.{members}
 use Rattle.roleset.specs.Roles.{has}
-use Rattle.hierarchy.specs.Lines.{table_of}
 use Rattle.text.specs.Places.{Wrote}
-use Rattle.policyform.specs.Encode.{pair_in}
+use Rattle.policywrite.specs.declared.Pen.{Pen}
 
-pub record Part (before after : List ℕ) (at place most : ℕ) (bytes : List ℕ) : Type 0 where
-  pub wrote : Wrote before after at place bytes
-  pub room : place ≤ at + most
+-- The bytes are written into the same buffer, as long as the place past them is a number of 64 bits.
+pub record Writes (before after : Pen) (bytes : List ℕ) : Type 0 where
+  pub same : after.out.ghost_name ≡ before.out.ghost_name
+  pub wrote : before.at + length bytes < 2 ^ 64 → Wrote before.out.now after.out.now before.at after.at bytes
+
+-- the numbers of the members of the set at place k of a table, 64 to a place
+abbrev pub row : (ℕ → ℕ) → ℕ → List ℕ
+row table k = map (λ r. 64 * k + r) (members 64 (has (table k)))
+
+-- what there is at each number below n, in their order
+unfoldable pub below : (ℕ → List ℕ) → ℕ → List ℕ
+below at zero = []
+below at (suc n) = below at n ++ at n
 
 -- grant k is of the permission p, to a role of the set
 abbrev pub granted : ℕ → ℕ → ℕ → Bool
 granted set p k = eqb (k % 4096) p && has set (k / 4096)
-
--- rows of grants, 64 to a row, after the permission p was granted to each role of the set: as many rows, the grants that were there, and those
-pub record Marked (before after : List ℕ) (set p : ℕ) : Type 0 where
-  pub size : length after ≡ 4096
-  pub each : (k : ℕ) → k < 262144 → pair_in (table_of after) k ≡ (pair_in (table_of before) k || granted set p k)

@@ -1,267 +1,298 @@
 // Writes the file of a state, section by section. What would stand past the buffer's end is dropped, so that a buffer too short tells the length all the same.
 #![tactic(auto)]
 
-ghost use Rattle.std.specs.Prelude.{ℕ, ◌+◌, ◌<◌, ◌≤◌, ◌*◌, ◌^◌, ◌++◌, ◌≡◌, length, replicate};
-ghost use Rattle.roleset.specs.Bounded.{members};
-ghost use Rattle.roleset.specs.Roles.{has};
+ghost use Rattle.std.specs.Prelude.{◌||◌, ℕ, List, ◌<◌, ◌≤◌, ◌++◌, ◌≡◌, length};
+ghost use Rattle.std.proofs.lemmas.List.Edits.{sets};
+ghost use Rattle.roleset.specs.Bounded.{only_if};
 ghost use Rattle.hierarchy.specs.Lines.{table_of};
 ghost use Rattle.model.specs.commands.Sets.{sets_of};
 ghost use Rattle.state.specs.View.{view};
 ghost use Rattle.text.specs.Bytes.{two, flat, section};
 ghost use Rattle.text.specs.Places.{Wrote};
-ghost use Rattle.policyform.specs.Encode.{role_list, pair_entry, pair_in, grant_entry, grant_in, grants_part, users_part, sets_part, sessions_part, encode};
-ghost use Rattle.policywrite.specs.Parts.{Part, Marked};
+ghost use Rattle.policyform.specs.Encode.{role_list, pair_entry, pair_in, grant_entry, grant_in, set_entry, session_entry, grants_part, encode};
+ghost use Rattle.policywrite.specs.Parts.{Writes, granted, row, below};
 
 use model::Kind;
 use numbers::{Session, SetName, User};
 use state::{PLACES, parts, reads};
 
-// Writes the number x at a place, and gives the place past it. What would stand past the buffer's end is dropped.
-fn put_word(out: &mut [u8], at: usize, x: usize) -> usize
-    requires { at < 2 ^ 40 }
-    ensures { Wrote out.old out.new at result (two x) }
+// Kept (4): no `to_le_bytes`: x is any usize, and a cast loses nothing, so that its remainder by 65,536 would be taken first; the second byte is put only where the buffer reaches so far.
+// Writes the number x at a place. What would stand past the buffer's end is dropped.
+fn put_word(out: &mut [u8], at: usize, x: usize)
+    ensures { out.new ≡ sets out.old at (two x) }
 {
-    let next = at + 2;
     if at < out.len() {
         out[at] = (x % 256) as u8;
         if at + 1 < out.len() {
             out[at + 1] = (x / 256 % 256) as u8;
         }
     }
-    next
 }
 
-// Two numbers.
-fn put_pair(first: usize, second: usize, out: &mut [u8], at: usize) -> usize
-    requires { at < 2 ^ 36 }
-    ensures { Wrote out.old out.new at result (two first ++ two second) }
-{
-    let middle = put_word(out, at, first);
-    put_word(out, middle, second)
+// A lent buffer, and the place to write at, which goes on past the buffer's end. It stops at the last number of 64 bits, which no file reaches.
+#[derive(Drop)]
+struct Pen<'a> {
+    out: &'a mut [u8],
+    at: usize,
 }
 
-// Three numbers.
-fn put_three(first: usize, second: usize, third: usize, out: &mut [u8], at: usize) -> usize
-    requires { at < 2 ^ 35 }
-    ensures { Wrote out.old out.new at result (two first ++ (two second ++ two third)) }
+impl Pen<'_> {
+    // A number.
+    fn word(&mut self, x: usize)
+        ensures { Writes self.old self.new (two x) }
+    {
+        put_word(self.out, self.at, x);
+        self.at = self.at.saturating_add(2);
+    }
+
+    // Two numbers.
+    fn pair(&mut self, first: usize, second: usize)
+        ensures { Writes self.old self.new (two first ++ two second) }
+    {
+        self.word(first);
+        self.word(second);
+    }
+
+    // The roles of a set, after their count.
+    fn roles(&mut self, set: u64)
+        ensures { Writes self.old self.new (role_list set) }
+    {
+        self.word(usize::from(roleset::count(set)));
+        for r in roleset::members(set) {
+            self.word(usize::from(r));
+        }
+    }
+
+    // Two numbers and the roles of a set, as sets and sessions are written.
+    fn entry(&mut self, first: usize, second: usize, roles: u64)
+        ensures { Writes self.old self.new (two first ++ (two second ++ role_list roles)) }
+    {
+        self.pair(first, second);
+        self.roles(roles);
+    }
+}
+
+// A section of the file. Its entries are numbered in their order: `put` is what is written of the one with a number, and `numbers` are those that stand at k.
+trait Section {
+    ghost put: { Self → ℕ → List ℕ };
+
+    ghost numbers: { Self → ℕ → List ℕ };
+
+    // Writes the entries at k, and tells how many they are.
+    fn put_at(&self, k: u16, pen: &mut Pen) -> usize
+        ensures few { result ≤ 64 }
+        ensures all { result ≡ length (numbers self.now k) }
+        ensures written { Writes pen.old pen.new (flat (put self.now) (numbers self.now k)) };
+}
+
+// The whole section: the entries at each k below `most`, after their count, which is written last.
+fn put_section<S: Section>(part: &S, most: u16, pen: &mut Pen)
+    ensures { Writes pen.old pen.new (section (S.put part.now) (below (S.numbers part.now) most)) }
 {
-    let others = put_word(out, at, first);
-    put_pair(second, third, out, others)
+    let count_at = pen.at;
+    pen.at = count_at.saturating_add(2);
+    let mut n = 0;
+    for k in 0..most {
+        n += part.put_at(k, pen);
+    }
+    put_word(pen.out, count_at, n);
 }
 
 // The users that exist.
-fn put_users(state: &[u64; PLACES], out: &mut [u8], at: usize) -> usize
-    requires { at < 2 ^ 32 }
-    ensures { Part out.old out.new at result 514 (users_part (view state.now).users) }
-{
-    let mut n: usize = 0;
-    let mut next = at + 2;
-    let mut k: u16 = 0;
-    while k < 256 {
-        let u = User { number: k };
-        k += 1;
-        if reads::has_user(state, u) {
-            next = put_word(out, next, u.number as usize);
-            n += 1;
+#[derive(Drop)]
+struct Users<'a> {
+    state: &'a [u64; PLACES],
+}
+
+impl<'a> Section for Users<'a> {
+    ghost put = { λ _. two };
+
+    ghost numbers = { λ s k. only_if ((view s.state.now).users k) k };
+
+    fn put_at(&self, k: u16, pen: &mut Pen) -> usize {
+        if reads::has_user(self.state, User { number: k }) {
+            pen.word(usize::from(k));
+            1
+        } else {
+            0
         }
     }
-    put_word(out, at, n);
-    next
-}
-
-// The roles of a set. It takes the lowest role and drops it, as long as there is one.
-fn put_roles(set: u64, out: &mut [u8], at: usize) -> usize
-    requires { at < 2 ^ 32 }
-    ensures { Part out.old out.new at result 130 (role_list set) }
-{
-    let mut next = put_word(out, at, roleset::count(set) as usize);
-    let mut rest = set;
-    while rest != 0 {
-        let r = roleset::lowest(rest);
-        next = put_word(out, next, r as usize);
-        rest = roleset::without(rest, r);
-    }
-    next
-}
-
-// The pairs of one place of a table: the place and each member of the set there.
-fn put_row(place: usize, set: u64, out: &mut [u8], at: usize) -> usize
-    requires { at < 2 ^ 34 }
-    ensures { Wrote out.old out.new at result (flat (λ r. pair_entry (64 * place + r)) (members 64 (has set))) }
-{
-    let mut next = at;
-    let mut rest = set;
-    while rest != 0 {
-        let r = roleset::lowest(rest);
-        next = put_pair(place, r as usize, out, next);
-        rest = roleset::without(rest, r);
-    }
-    next
-}
-
-// The lines, or the assignments: each pair of a place and a member of the set there. A pair takes four bytes, so that the place past the last one tells how many there are.
-fn put_pairs(table: &[u64], out: &mut [u8], at: usize) -> usize
-    requires { (at < 2 ^ 32) × (length table.now ≤ 256) }
-    ensures { Part out.old out.new at result 65538 (section pair_entry (members (64 * length table.now) (pair_in (table_of table.now)))) }
-{
-    let mut next = at + 2;
-    let mut k: usize = 0;
-    while k < table.len() {
-        let place = k;
-        k += 1;
-        let set = table[place];
-        if set != 0 {
-            next = put_row(place, set, out, next);
-        }
-    }
-    put_word(out, at, (next - at - 2) / 4);
-    next
-}
-
-// Adds the grant of the permission p to each role of the set: grant 4096 * r + p is bit p % 64 of row 64 * r + p / 64.
-fn mark(rows: &mut [u64; 4096], set: u64, p: usize)
-    requires { (length rows.old ≡ 4096) × (p < 4096) }
-    ensures { Marked rows.old rows.new set p }
-{
-    let mut rest = set;
-    while rest != 0 {
-        let r = roleset::lowest(rest);
-        let row = 64 * (r as usize) + p / 64;
-        rows[row] = roleset::with(rows[row], (p % 64) as u16);
-        rest = roleset::without(rest, r);
-    }
-}
-
-// The grants by number, 64 to a row: the table of holders turned round, from permission and role to role and permission.
-fn turn(holders: &[u64], rows: &mut [u64; 4096])
-    requires { (length holders.now ≡ 4096) × (rows.old ≡ replicate 4096 0) }
-    ensures { (k : ℕ) → k < 262144 → pair_in (table_of rows.new) k ≡ grant_in (table_of holders.now) k }
-{
-    let mut p: usize = 0;
-    while p < 4096 {
-        let set = holders[p];
-        mark(rows, set, p);
-        p += 1;
-    }
-}
-
-// The grants of one row. Grant 64 * row + k is of role row / 64, and of the permission whose operation is row % 64 / 4 and whose object is row % 4 * 64 + k.
-fn put_grant_row(row: usize, set: u64, out: &mut [u8], at: usize) -> usize
-    requires { at < 2 ^ 34 }
-    ensures { Wrote out.old out.new at result (flat (λ k. grant_entry (64 * row + k)) (members 64 (has set))) }
-{
-    let mut next = at;
-    let mut rest = set;
-    while rest != 0 {
-        let k = roleset::lowest(rest);
-        next = put_three(row / 64, row % 64 / 4, row % 4 * 64 + k as usize, out, next);
-        rest = roleset::without(rest, k);
-    }
-    next
-}
-
-// The grants, row by row. A grant takes six bytes.
-fn put_grant_rows(rows: &[u64; 4096], out: &mut [u8], at: usize) -> usize
-    requires { at < 2 ^ 32 }
-    ensures { Part out.old out.new at result 1572866 (section grant_entry (members 262144 (pair_in (table_of rows.now)))) }
-{
-    let mut next = at + 2;
-    let mut k: usize = 0;
-    while k < 4096 {
-        let row = k;
-        k += 1;
-        let set = rows[row];
-        if set != 0 {
-            next = put_grant_row(row, set, out, next);
-        }
-    }
-    put_word(out, at, (next - at - 2) / 6);
-    next
-}
-
-// The grants, role by role.
-fn put_grants(holders: &[u64], out: &mut [u8], at: usize) -> usize
-    requires { (at < 2 ^ 32) × (length holders.now ≡ 4096) }
-    ensures { Part out.old out.new at result 1572866 (grants_part (table_of holders.now)) }
-{
-    let mut rows = [0u64; 4096];
-    turn(holders, &mut rows);
-    put_grant_rows(&rows, out, at)
-}
-
-// Two numbers and the roles of a set, as sets and sessions are written.
-fn put_entry(first: usize, second: usize, roles: u64, out: &mut [u8], at: usize) -> usize
-    requires { at < 2 ^ 31 }
-    ensures { Part out.old out.new at result 134 (two first ++ (two second ++ role_list roles)) }
-{
-    let list = put_pair(first, second, out, at);
-    put_roles(roles, out, list)
 }
 
 // The sets of one kind.
-fn put_sets(state: &[u64; PLACES], kind: Kind, out: &mut [u8], at: usize) -> usize
-    requires { at < 2 ^ 30 }
-    ensures { Part out.old out.new at result 2146 (sets_part (sets_of kind (view state.now))) }
-{
-    let mut n: usize = 0;
-    let mut next = at + 2;
-    let mut k: u16 = 0;
-    while k < 16 {
-        let name = SetName { number: k };
-        k += 1;
-        let set = reads::set_named(state, kind, name);
+#[derive(Drop)]
+struct Sets<'a> {
+    state: &'a [u64; PLACES],
+    kind: Kind,
+}
+
+impl<'a> Section for Sets<'a> {
+    ghost put = { λ s. set_entry (sets_of s.kind (view s.state.now)) };
+
+    ghost numbers = { λ s k. only_if (sets_of s.kind (view s.state.now) k).there k };
+
+    fn put_at(&self, k: u16, pen: &mut Pen) -> usize {
+        let set = reads::set_named(self.state, self.kind, SetName { number: k });
         if set.there {
-            next = put_entry(
-                name.number as usize,
-                set.card as usize,
-                set.roles,
-                out,
-                next,
-            );
-            n += 1;
+            pen.entry(usize::from(k), set.card as usize, set.roles);
+            1
+        } else {
+            0
         }
     }
-    put_word(out, at, n);
-    next
 }
 
 // The sessions.
-fn put_sessions(state: &[u64; PLACES], out: &mut [u8], at: usize) -> usize
-    requires { at < 2 ^ 30 }
-    ensures { Part out.old out.new at result 8578 (sessions_part (view state.now).sessions) }
-{
-    let mut n: usize = 0;
-    let mut next = at + 2;
-    let mut k: u16 = 0;
-    while k < 64 {
-        let x = Session { number: k };
-        k += 1;
-        let session = reads::session_at(state, x);
+#[derive(Drop)]
+struct Sessions<'a> {
+    state: &'a [u64; PLACES],
+}
+
+impl<'a> Section for Sessions<'a> {
+    ghost put = { λ s. session_entry (view s.state.now).sessions };
+
+    ghost numbers = { λ s k. only_if ((view s.state.now).sessions k).live k };
+
+    fn put_at(&self, k: u16, pen: &mut Pen) -> usize {
+        let session = reads::session_at(self.state, Session { number: k });
         if session.live {
-            next = put_entry(
-                x.number as usize,
-                session.owner as usize,
-                session.active,
-                out,
-                next,
-            );
-            n += 1;
+            pen.entry(usize::from(k), session.owner as usize, session.active);
+            1
+        } else {
+            0
         }
     }
-    put_word(out, at, n);
-    next
+}
+
+// What is written of a member of a set in a table, member r of set k being number 64 * k + r.
+trait Entry {
+    ghost bytes: { ℕ → List ℕ };
+
+    fn put(&self, number: usize, pen: &mut Pen)
+        ensures { Writes pen.old pen.new (bytes number) };
+}
+
+// A line, or an assignment: the place of the set, and the member.
+#[derive(Drop)]
+struct Pair;
+
+impl Entry for Pair {
+    ghost bytes = { pair_entry };
+
+    fn put(&self, number: usize, pen: &mut Pen) {
+        pen.pair(number / 64, number % 64);
+    }
+}
+
+// A grant: the role, the operation and the object.
+#[derive(Drop)]
+struct Grant;
+
+impl Entry for Grant {
+    ghost bytes = { grant_entry };
+
+    fn put(&self, number: usize, pen: &mut Pen) {
+        pen.word(number / 4096);
+        pen.pair(number % 4096 / 256, number % 256);
+    }
+}
+
+// A table of sets: an entry for each member of each set.
+#[derive(Drop)]
+struct Table<'a, E> {
+    sets: &'a [u64],
+    entry: E,
+}
+
+impl<'a, E: Entry> Section for Table<'a, E> {
+    ghost put = { λ _. E.bytes };
+
+    ghost numbers = { λ t. row (table_of t.sets.now) };
+
+    fn put_at(&self, k: u16, pen: &mut Pen) -> usize {
+        let Some(set) = self.sets.get(usize::from(k)) else {
+            return 0;
+        };
+        let mut n = 0;
+        for r in roleset::members(*set) {
+            self.entry.put(64 * usize::from(k) + usize::from(r), pen);
+            n += 1;
+        }
+        n
+    }
+}
+
+// Kept (2): like `mark` of hierarchy it goes over the members of a set, by the same iterator; the place and the bit that are marked, which is all the rest, are others.
+// Adds the grant of the permission p to each role of the set: grant 4096 * r + p is bit p % 64 of row 64 * r + p / 64.
+fn mark(rows: &mut [u64; 4096], set: u64, p: usize)
+    requires { p < 4096 }
+    ensures { (k : ℕ) → k < 262144 → pair_in (table_of rows.new) k ≡ (pair_in (table_of rows.old) k || granted set p k) }
+{
+    for r in roleset::members(set) {
+        let row = 64 * usize::from(r) + p / 64;
+        rows[row] = roleset::with(rows[row], (p % 64) as u16);
+    }
+}
+
+// The grants, role by role: the table of holders is turned round first, from permission and role to role and permission.
+fn put_grants(holders: &[u64], pen: &mut Pen)
+    requires { length holders.now ≡ 4096 }
+    ensures { Writes pen.old pen.new (grants_part (table_of holders.now)) }
+{
+    let mut rows = [0u64; 4096];
+    for (p, set) in holders.iter().enumerate() {
+        mark(&mut rows, *set, p);
+    }
+    put_section(
+        &Table {
+            sets: &rows,
+            entry: Grant,
+        },
+        4096,
+        pen,
+    );
 }
 
 // The whole file, from the buffer's front on; its length.
 pub fn write(state: &[u64; PLACES], out: &mut [u8]) -> usize
     ensures { Wrote out.old out.new 0 result (encode (view state.now)) }
 {
-    let roles = put_users(state, out, 0);
-    let lines = put_roles(reads::roles(state), out, roles);
-    let assigned = put_pairs(parts::juniors(state), out, lines);
-    let grants = put_pairs(parts::assigned(state), out, assigned);
-    let ssd = put_grants(parts::holders(state), out, grants);
-    let dsd = put_sets(state, Kind::Static, out, ssd);
-    let sessions = put_sets(state, Kind::Dynamic, out, dsd);
-    put_sessions(state, out, sessions)
+    let mut pen = Pen { out, at: 0 };
+    put_section(&Users { state }, 256, &mut pen);
+    pen.roles(reads::roles(state));
+    put_section(
+        &Table {
+            sets: parts::juniors(state),
+            entry: Pair,
+        },
+        64,
+        &mut pen,
+    );
+    put_section(
+        &Table {
+            sets: parts::assigned(state),
+            entry: Pair,
+        },
+        256,
+        &mut pen,
+    );
+    put_grants(parts::holders(state), &mut pen);
+    put_section(
+        &Sets {
+            state,
+            kind: Kind::Static,
+        },
+        16,
+        &mut pen,
+    );
+    put_section(
+        &Sets {
+            state,
+            kind: Kind::Dynamic,
+        },
+        16,
+        &mut pen,
+    );
+    put_section(&Sessions { state }, 64, &mut pen);
+    pen.at
 }

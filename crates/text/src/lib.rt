@@ -5,6 +5,7 @@ ghost use Rattle.std.specs.Prelude.{[], ◌∷◌, ◌≡◌};
 ghost use Rattle.text.specs.Places.{word_at};
 ghost use Rattle.text.specs.Putting.{Put};
 
+// Kept (5): a buffer and a place stay two parameters: unique/specs/Buffers has a line for each function that puts something, which names the buffer lent and the places given and handed back.
 // Puts a byte at a place, where the buffer reaches so far, and answers the place past what was put.
 pub fn put(buf: &mut [u8], at: usize, b: u8) -> usize
     ensures { Put buf.old at (b ∷ []) buf.new result }
@@ -21,10 +22,8 @@ pub fn put_text(buf: &mut [u8], at: usize, text: &[u8]) -> usize
     ensures { Put buf.old at text.now buf.new result }
 {
     let mut next = at;
-    let mut i: usize = 0;
-    while i < text.len() {
-        next = put(buf, next, text[i]);
-        i += 1;
+    for b in text {
+        next = put(buf, next, *b);
     }
     next
 }
@@ -33,14 +32,9 @@ pub fn put_text(buf: &mut [u8], at: usize, text: &[u8]) -> usize
 pub fn word_at(bytes: &[u8], at: usize) -> u16
     ensures { result ≡ word_at bytes.now at }
 {
-    if at < bytes.len() {
-        let low = bytes[at] as u16;
-        if at + 1 < bytes.len() {
-            low + 256 * (bytes[at + 1] as u16)
-        } else {
-            low
-        }
-    } else {
-        0
+    match &bytes[at.min(bytes.len())..] {
+        [low, high, ..] => u16::from_le_bytes([*low, *high]),
+        [low] => u16::from(*low),
+        [] => 0,
     }
 }

@@ -6,13 +6,13 @@ pub returns : goal.returns
 returns c =
     gathered-state c.args.bytes.now _ _ _ _ _ _ _ _ _ _ _ _ _ _ _ _ _ _ _
     c.start.ensures
-    c.read_users-roles_at.ensures.is
-    c.read_roles-list.ensures.is
+    c.read_section.ensures
+    c.roles.ensures
     c.put_roles.ensures
-    c.read_pairs-assigned_at.ensures.is
-    c.read_pairs-grants_at.ensures.is
-    c.read_grants-sets_at.ensures.is
-    c.read_sets-dynamic_at.ensures.is
-    c.read_sets-sessions_at.ensures.is
-    c.read_sessions.ensures.is
+    c.read_section-2.ensures
+    c.read_section-3.ensures
+    c.read_section-4.ensures
+    c.read_section-5.ensures
+    c.read_section-6.ensures
+    c.read_section-7.ensures
     c.count_all.ensures

@@ -1,11 +1,7 @@
 -- The bytes that were put so far stand in the buffer. Assumes nothing.
-use Prim.Native.Nat.{◌≤◌, ◌-◌}
-use lib.ListN.{length, take}
+use lib.ListN.{take}
 use Rattle.text.specs.Putting.{Put}
 use Rattle.text.proofs.put_text.Given as goal
 
-abbrev pub invariant-loop-i : goal.invariant-loop-i
-invariant-loop-i l = (l.i ≤ length l.text) × Put l.initial.buf l.at (take l.i l.text) l.buf l.next
-
-abbrev pub decreases-loop-i : goal.decreases-loop-i
-decreases-loop-i l = length l.text - l.i
+abbrev pub invariant-loop-b : goal.invariant-loop-b
+invariant-loop-b l = Put l.initial.buf l.at (take l.b-index l.text) l.buf l.next
