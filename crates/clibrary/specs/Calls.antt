@@ -1,5 +1,5 @@
 -- What each function that a C program calls promises, beside the definitions of the paper that it goes by. Assumes nothing.
-use Rattle.std.specs.Prelude.{List, [], ◌∷◌, ◌⊎◌, ◌≡◌, ℕ, ◌≤◌, ◌<◌, length, drop}
+use Rattle.std.specs.Prelude.{List, [], ◌∷◌, ◌⊎◌, ◌≡◌, ℕ, ◌≤◌, ◌<◌, length, drop, Option, MatchOption}
 use Rattle.std.proofs.lemmas.List.Edits.{sets}
 use Rattle.model.specs.Model.{Model}
 use Rattle.model.specs.Sheet.{Told}
@@ -25,6 +25,10 @@ pub record Obeyed (told : Told) (out after : List ℕ) (size : ℕ) (l : List �
   pub long : size ≡ length (answer_line told)
   pub stored : after ≡ sets out 0 (answer_line told)
   pub state : view l ≡ told.after
+
+-- A line that is obeyed whatever the buffer: its answer line is put where it fits, and else the buffer is as it was.
+abbrev pub Tries : Told → List ℕ → List ℕ → Option ℕ → List ℕ → Type 0
+Tries told out after size l = MatchOption size ((length out < length (answer_line told)) × (after ≡ out) × (view l ≡ told.after)) (λ n. Obeyed told out after n l)
 
 -- One line of the script, obeyed in a buffer of any length.
 abbrev pub Obeys : Model → Told → List ℕ → List ℕ → ℕ → List ℕ → Type 0

@@ -7,6 +7,7 @@ ghost use Rattle.decimal.specs.Decimal.{decimal, lead, numbered, value};
 
 use text::put;
 
+// Kept (4): no Display: `write!` fails where the buffer is too short, and `Put` promises the front that fits and the place past it.
 // Puts the digit of n at a place of the decimal system, where n reaches so far.
 fn put_lead(buf: &mut [u8], at: usize, n: u16, place: u16) -> usize
     requires { 0 < place }
@@ -37,24 +38,21 @@ pub fn put_numbers(buf: &mut [u8], at: usize, numbers: &[u16]) -> usize
     ensures { Put buf.old at (numbered numbers.now) buf.new result }
 {
     let mut next = at;
-    let mut i: usize = 0;
-    while i < numbers.len() {
-        let digits = put(buf, next, 32);
-        next = put_number(buf, digits, numbers[i]);
-        i += 1;
+    for number in numbers {
+        let digits = put(buf, next, b' ');
+        next = put_number(buf, digits, *number);
     }
     next
 }
 
+// Kept (4): no `parse`, which refuses: the definition `value` gives a number for any bytes.
 // The number that a text stands for, taken leniently.
 pub fn value(text: &[u8]) -> u16
     ensures { result ≡ value text.now }
 {
-    let mut v: u32 = 0;
-    let mut i: usize = 0;
-    while i < text.len() {
-        v = (10 * v + (text[i] % 16) as u32) % 65536;
-        i += 1;
+    let mut v: u16 = 0;
+    for b in text {
+        v = v.wrapping_mul(10).wrapping_add(u16::from(b % 16));
     }
-    v as u16
+    v
 }

@@ -1,5 +1,7 @@
 -- What each word of a script asks for, with its first three numbers: one line for each word, in the words' order. Assumes nothing.
-use Rattle.std.specs.Prelude.{List, [], ◌∷◌, map, ◌≡◌, refl, ℕ, get_or}
+use Rattle.std.specs.Prelude.{List, [], ◌∷◌, map, ◌≡◌, refl, ℕ, Option}
+use Rattle.std.specs.List.{slice_get}
+use Rattle.std.specs.Option.{option_map}
 use Prim.Native.String.{String}
 use Rattle.words.specs.Bytes.{bytes}
 use Rattle.words.specs.ScriptWords.{Word, words}
@@ -7,7 +9,7 @@ use Rattle.model.specs.declared.Kind.TheVariants.{Static, Dynamic}
 use Rattle.model.specs.declared.Command.TheVariants.{Activate, AddMember, AddRole, AddUser, Assign, Deassign, Disinherit, DropActive, DropMember, DropSet, EndAll, EndSession, Grant, Inherit, MakeSet, NoRole, NoUser, OpenSession, Revoke, SetCardinality}
 use Rattle.model.specs.declared.Question.TheVariants.{AssignedRoles, AssignedUsers, AuthRoles, AuthUsers, Check, RoleOps, RolePerms, SessionPerms, SessionRoles, SetCount, SetRoles, Sets, UserOps, UserPerms}
 use Rattle.meaning.specs.declared.Meant.{Meant}
-use Rattle.meaning.specs.declared.Meant.TheVariants.{Do, Ask, Nothing}
+use Rattle.meaning.specs.declared.Meant.TheVariants.{Do, Ask}
 
 -- a word, and what it asks for
 pub record Row : Type 0 where
@@ -69,5 +71,5 @@ unfolding meanings words
 in_order a b c = refl
 
 -- past the last word there is nothing to mean
-unfoldable pub meant : ℕ → ℕ → ℕ → ℕ → Meant
-meant k a b c = (get_or (meanings a b c) k (record { spelling = []; asks = Nothing })).asks
+unfoldable pub meant : ℕ → ℕ → ℕ → ℕ → Option Meant
+meant k a b c = option_map (λ (r : Row). r.asks) (slice_get (meanings a b c) k)

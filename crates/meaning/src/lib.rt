@@ -2,22 +2,25 @@
 #![tactic(auto)]
 
 ghost use Rattle.std.specs.Prelude.{◌≡◌};
+ghost use Rattle.words.specs.Rows.{number};
 ghost use Rattle.meaning.specs.Meaning.{meant};
 
+use Meant::{Ask, Do};
 use model::{Command, Kind, Question};
 use numbers::{Role, Session, SetName, User};
+use words::Word;
 
-// A command to obey, a question to ask, or nothing: there is no such word.
+// A command to obey, or a question to ask.
 #[derive(Clone, Copy)]
 pub enum Meant {
     Do(Command),
     Ask(Question),
-    Nothing,
 }
 
-// What the word asks for, with its first three numbers: one line for each word, by the number of its row.
-pub fn meaning(word: u16, a: u16, b: u16, c: u16) -> Meant
-    ensures { result ≡ meant word a b c }
+// What the word asks for, with its first three numbers.
+#[tactic(auto, unfolding(crate::specs::Meaning::meant, crate::specs::Meaning::meanings))]
+pub fn meaning(word: Word, a: u16, b: u16, c: u16) -> Meant
+    ensures { Some result ≡ meant (number word) a b c }
 {
     let user_a = User { number: a };
     let role_a = Role { number: a };
@@ -29,48 +32,47 @@ pub fn meaning(word: u16, a: u16, b: u16, c: u16) -> Meant
     let ssd = Kind::Static;
     let dsd = Kind::Dynamic;
     match word {
-        0 => Meant::Do(Command::AddUser(user_a)),
-        1 => Meant::Do(Command::AddRole(role_a)),
-        2 => Meant::Do(Command::NoUser(user_a)),
-        3 => Meant::Do(Command::NoRole(role_a)),
-        4 => Meant::Do(Command::Assign(user_a, role_b)),
-        5 => Meant::Do(Command::Deassign(user_a, role_b)),
-        6 => Meant::Do(Command::Grant(a, b, role_c)),
-        7 => Meant::Do(Command::Revoke(a, b, role_c)),
-        8 => Meant::Do(Command::Inherit(role_a, role_b)),
-        9 => Meant::Do(Command::Disinherit(role_a, role_b)),
-        10 => Meant::Do(Command::OpenSession(user_a)),
-        11 => Meant::Do(Command::Activate(user_a, session_b, role_c)),
-        12 => Meant::Do(Command::DropActive(user_a, session_b, role_c)),
-        13 => Meant::Do(Command::EndSession(user_a, session_b)),
-        14 => Meant::Do(Command::MakeSet(ssd, set_a, b)),
-        15 => Meant::Do(Command::DropSet(ssd, set_a)),
-        16 => Meant::Do(Command::AddMember(ssd, set_a, role_b)),
-        17 => Meant::Do(Command::DropMember(ssd, set_a, role_b)),
-        18 => Meant::Do(Command::SetCardinality(ssd, set_a, b)),
-        19 => Meant::Do(Command::MakeSet(dsd, set_a, b)),
-        20 => Meant::Do(Command::DropSet(dsd, set_a)),
-        21 => Meant::Do(Command::AddMember(dsd, set_a, role_b)),
-        22 => Meant::Do(Command::DropMember(dsd, set_a, role_b)),
-        23 => Meant::Do(Command::SetCardinality(dsd, set_a, b)),
-        24 => Meant::Ask(Question::Check(session_a, b, c)),
-        25 => Meant::Ask(Question::AssignedUsers(role_a)),
-        26 => Meant::Ask(Question::AssignedRoles(user_a)),
-        27 => Meant::Ask(Question::AuthUsers(role_a)),
-        28 => Meant::Ask(Question::AuthRoles(user_a)),
-        29 => Meant::Ask(Question::RolePerms(role_a)),
-        30 => Meant::Ask(Question::UserPerms(user_a)),
-        31 => Meant::Ask(Question::SessionRoles(session_a)),
-        32 => Meant::Ask(Question::SessionPerms(session_a)),
-        33 => Meant::Ask(Question::RoleOps(role_a, b)),
-        34 => Meant::Ask(Question::UserOps(user_a, b)),
-        35 => Meant::Ask(Question::Sets(ssd)),
-        36 => Meant::Ask(Question::SetRoles(ssd, set_a)),
-        37 => Meant::Ask(Question::SetCount(ssd, set_a)),
-        38 => Meant::Ask(Question::Sets(dsd)),
-        39 => Meant::Ask(Question::SetRoles(dsd, set_a)),
-        40 => Meant::Ask(Question::SetCount(dsd, set_a)),
-        41 => Meant::Do(Command::EndAll(user_a)),
-        _ => Meant::Nothing,
+        Word::User => Do(Command::AddUser(user_a)),
+        Word::Role => Do(Command::AddRole(role_a)),
+        Word::NoUser => Do(Command::NoUser(user_a)),
+        Word::NoRole => Do(Command::NoRole(role_a)),
+        Word::Assign => Do(Command::Assign(user_a, role_b)),
+        Word::Deassign => Do(Command::Deassign(user_a, role_b)),
+        Word::Grant => Do(Command::Grant(a, b, role_c)),
+        Word::Revoke => Do(Command::Revoke(a, b, role_c)),
+        Word::Inherit => Do(Command::Inherit(role_a, role_b)),
+        Word::Disinherit => Do(Command::Disinherit(role_a, role_b)),
+        Word::Session => Do(Command::OpenSession(user_a)),
+        Word::Activate => Do(Command::Activate(user_a, session_b, role_c)),
+        Word::Drop => Do(Command::DropActive(user_a, session_b, role_c)),
+        Word::End => Do(Command::EndSession(user_a, session_b)),
+        Word::Ssd => Do(Command::MakeSet(ssd, set_a, b)),
+        Word::NoSsd => Do(Command::DropSet(ssd, set_a)),
+        Word::SsdAdd => Do(Command::AddMember(ssd, set_a, role_b)),
+        Word::SsdDrop => Do(Command::DropMember(ssd, set_a, role_b)),
+        Word::SsdCard => Do(Command::SetCardinality(ssd, set_a, b)),
+        Word::Dsd => Do(Command::MakeSet(dsd, set_a, b)),
+        Word::NoDsd => Do(Command::DropSet(dsd, set_a)),
+        Word::DsdAdd => Do(Command::AddMember(dsd, set_a, role_b)),
+        Word::DsdDrop => Do(Command::DropMember(dsd, set_a, role_b)),
+        Word::DsdCard => Do(Command::SetCardinality(dsd, set_a, b)),
+        Word::Check => Ask(Question::Check(session_a, b, c)),
+        Word::AssignedUsers => Ask(Question::AssignedUsers(role_a)),
+        Word::AssignedRoles => Ask(Question::AssignedRoles(user_a)),
+        Word::AuthUsers => Ask(Question::AuthUsers(role_a)),
+        Word::AuthRoles => Ask(Question::AuthRoles(user_a)),
+        Word::RolePerms => Ask(Question::RolePerms(role_a)),
+        Word::UserPerms => Ask(Question::UserPerms(user_a)),
+        Word::SessionRoles => Ask(Question::SessionRoles(session_a)),
+        Word::SessionPerms => Ask(Question::SessionPerms(session_a)),
+        Word::RoleOps => Ask(Question::RoleOps(role_a, b)),
+        Word::UserOps => Ask(Question::UserOps(user_a, b)),
+        Word::SsdSets => Ask(Question::Sets(ssd)),
+        Word::SsdRoles => Ask(Question::SetRoles(ssd, set_a)),
+        Word::SsdCount => Ask(Question::SetCount(ssd, set_a)),
+        Word::DsdSets => Ask(Question::Sets(dsd)),
+        Word::DsdRoles => Ask(Question::SetRoles(dsd, set_a)),
+        Word::DsdCount => Ask(Question::SetCount(dsd, set_a)),
+        Word::EndAll => Do(Command::EndAll(user_a)),
     }
 }

@@ -1,5 +1,5 @@
 -- The program over a script, call by call, and all that its calls hand to the output. Assumes nothing.
-use Rattle.std.specs.Prelude.{Bool, true, false, List, [], ◌++◌, ◌≡◌, ℕ, ◌≤◌, eqb, ltb, length, take}
+use Rattle.std.specs.Prelude.{Bool, true, false, List, [], ◌++◌, ◌≡◌, ℕ, eqb, ltb, length, take}
 use Rattle.model.specs.Model.{Model, empty}
 use Rattle.state.specs.View.{view}
 use Rattle.text.specs.Putting.{Put}

@@ -4,6 +4,7 @@
 ghost use Rattle.std.specs.Prelude.{◌≡◌};
 ghost use Rattle.program.specs.Printing.{at_start, Begins, Refuses, Prints};
 
+use numbers::Refusal;
 use script::Progress;
 use state::PLACES;
 use textlines::Tally;
@@ -12,13 +13,16 @@ use textlines::Tally;
 pub const LONGEST: usize = 32768;
 
 // How far the program has run: the lines that were answered, and whether the total was handed out, after which nothing is.
+// Kept (1): `stage_of` and `Prints` of program/specs/Printing read the lines answered both before the total and after it, so an enum would hold the same `Progress` in each variant.
 #[derive(Clone, Copy)]
 pub struct Run {
     pub progress: Progress,
     pub over: bool,
 }
 
+// Kept (2): `Turns` of script/specs/LineAnswers names the field `next` of `Turned`, and `Puts` of program/specs/Printing the field `run` of this.
 // What a call hands out stands at the front of the buffer and ends at `len`; how far the program has run then.
+// Kept (6): the promise of `next` in unique/specs/Buffers names the length in the lent buffer.
 #[derive(Clone, Copy)]
 pub struct Printed {
     pub len: usize,
@@ -50,16 +54,15 @@ pub fn begin(state: &mut [u64; PLACES]) -> Run
 fn refuse(script: &[u8], p: Progress, buf: &mut [u8]) -> Printed
     ensures { Refuses script.now p buf.old buf.new result }
 {
-    let none = [0u16; 1];
-    let len = script::answer_text(buf, 14, &none[..0]);
-    let tally = textlines::tallied(p.tally, false);
+    let answer = numbers::number_of(Err(Refusal::NotOfForm));
+    let progress = Progress {
+        at: script.len(),
+        tally: p.tally.counted(false),
+    };
     Printed {
-        len,
+        len: script::answer_text(buf, answer, &[]),
         run: Run {
-            progress: Progress {
-                at: script.len(),
-                tally,
-            },
+            progress,
             over: false,
         },
     }
@@ -71,35 +74,24 @@ pub fn next(script: &[u8], state: &mut [u64; PLACES], run: Run, buf: &mut [u8]) 
 {
     let p = run.progress;
     if run.over {
+        return Printed { len: 0, run };
+    }
+    if script.len() <= p.at {
+        let len = script::total_text(buf, p.tally);
         return Printed {
-            len: 0,
-            run: Run {
-                progress: p,
-                over: true,
-            },
+            len,
+            run: Run { over: true, ..run },
         };
     }
-    let at = p.at;
-    if at < script.len() {
-        if LONGEST < script.len() {
-            return refuse(script, p, buf);
-        }
-        let t = script::turn(script, state, p, buf);
-        let progress = t.next;
-        return Printed {
-            len: t.len,
-            run: Run {
-                progress,
-                over: false,
-            },
-        };
+    if LONGEST < script.len() {
+        return refuse(script, p, buf);
     }
-    let len = script::total_text(buf, p.tally);
+    let t = script::turn(script, state, p, buf);
     Printed {
-        len,
+        len: t.len,
         run: Run {
-            progress: p,
-            over: true,
+            progress: t.next,
+            ..run
         },
     }
 }

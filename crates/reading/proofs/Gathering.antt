@@ -2,85 +2,96 @@
 use mathlib.Core.Bool.{Bool, true, false, and-false}
 use mathlib.Core.List.{List, [], ◌∷◌, ◌++◌, map, append-nil, append_assoc}
 use mathlib.Core.Path.{◌≡◌, refl, sym, ap, ap₂, ◌∙◌}
-use Prim.Native.Nat.{ℕ, suc, ◌+◌, ◌-◌, ◌≤◌, ◌<◌}
-use native.Mathlib.Numerals.{add-one}
+use Prim.Native.Nat.{ℕ, ◌≤◌, ◌<◌}
 use native.Mathlib.Omega.{arith}
 use lib.Dec.{leb}
-use lib.ListN.{length, take, drop, set, replicate, length-append, length-set, take-append-drop, length-replicate}
-use lib.Seq.{take-suc-set, drop-set-lt, drop-cons, length-take-le, take-append_seam}
-use borrow.Author.Tests.{leb-true, leb-false, le-leb, lt-leb}
+use lib.ListN.{length, drop, length-append}
+use Rattle.std.proofs.Common.{Option, Some, None}
+use Rattle.std.specs.Option.{option_map}
+use Rattle.std.proofs.lemmas.Option.{none-some, same_Some, slice_get_within}
+use borrow.Author.Tests.{leb-true, leb-false, le-leb, lt-leb, lt-ltb, le-ltb}
 use Rattle.decimal.specs.Decimal.{numbered, value, space}
 use Rattle.decimal.proofs.Laws.{numbered-long}
-use Rattle.words.specs.ScriptWords.{spelling}
+use Rattle.words.specs.ScriptWords.{spelling, takes}
+use Rattle.words.specs.Rows.{number, in_order, named}
+use Rattle.words.specs.declared.Word.{Word}
+use Rattle.words.proofs.Numbers.{named-number, named_none}
 use Rattle.words.specs.Bytes.{same}
 use Rattle.words.proofs.Laws.{same_length}
 use Rattle.textlines.specs.Parts.{parts_of, part_at, place_past}
 use Rattle.textlines.proofs.Laws.{parts_at, parts_none}
 use Rattle.reading.specs.Form.{render, word_in, numbers_in, shaped, parse, no_line}
-use Rattle.reading.specs.Holding.{padded, full, blank, gathered}
+use Rattle.reading.specs.Holding.{held, gathered}
 use Rattle.reading.specs.declared.Line.{Line}
-use Rattle.reading.proofs.Back.{refused}
+use Rattle.reading.proofs.Back.{refused, accepted, both}
 
--- so many numbers are gathered, and the place in the text is past them
-pub record Gathers (text numbers : List ℕ) (at count : ℕ) : Type 0 where
-  pub room : count ≤ 256
-  pub long : length numbers ≡ 256
-  pub rest : drop count numbers ≡ replicate (256 - count) 0
-  pub so : numbers_in text ≡ take count numbers ++ map value (parts_of space (drop at text))
+-- these numbers are gathered, and the place in the text is past them
+pub record Gathers (text numbers : List ℕ) (at : ℕ) : Type 0 where
+  pub room : length numbers ≤ 256
+  pub so : numbers_in text ≡ numbers ++ map value (parts_of space (drop at text))
 
-pub gathers-start : (text : List ℕ) → Gathers text (replicate 256 0) (place_past space text 0) 0
+pub gathers-start : (text : List ℕ) → Gathers text [] (place_past space text 0)
 unfolding numbers_in
-gathers-start text = record { room = omega arith; long = length-replicate {A = ℕ} 256 0; rest = refl; so = refl }
+gathers-start text = record { room = omega arith; so = refl }
 
-pub gathers-next : (text numbers : List ℕ) (at count : ℕ) → at < length text → count < 256 → Gathers text numbers at count
-    → Gathers text (set numbers count (value (part_at space text at))) (place_past space text at) (count + 1)
-gathers-next text numbers at count h p g =
-    let l : count < length numbers = omega (arith, g.long) in
-    let after : suc (256 - (count + 1)) ≡ 256 - count = omega arith in
-    let cons : drop count numbers ≡ lib.ListN.get_or numbers count 0 ∷ drop (suc count) numbers = drop-cons numbers count 0 l in
-    let zeros : lib.ListN.get_or numbers count 0 ∷ drop (suc count) numbers ≡ 0 ∷ replicate (256 - (count + 1)) 0 = sym cons ∙ g.rest ∙ ap (λ (n : ℕ). replicate n 0) (sym after) in
-    let front : take (count + 1) (set numbers count (value (part_at space text at))) ≡ take count numbers ++ (value (part_at space text at) ∷ []) = rw (add-one count) (take-suc-set numbers count (value (part_at space text at)) l) in
+pub gathers-next : (text numbers : List ℕ) (at : ℕ) → at < length text → length numbers < 256 → Gathers text numbers at
+    → Gathers text (numbers ++ (value (part_at space text at) ∷ [])) (place_past space text at)
+gathers-next text numbers at h p g =
     record {
-      room = omega arith;
-      long = length-set numbers count _ ∙ g.long;
-      rest = ap (λ (n : ℕ). drop n (set numbers count (value (part_at space text at)))) (add-one count) ∙ drop-set-lt (suc count) numbers count _ (omega arith) ∙ tails zeros;
+      room = omega (arith, length-append numbers (value (part_at space text at) ∷ []));
       so = g.so
-          ∙ ap (λ (x : List (List ℕ)). take count numbers ++ map value x) (parts_at space text at h)
-          ∙ sym (append_assoc (take count numbers) (value (part_at space text at) ∷ []) (map value (parts_of space (drop (place_past space text at) text))))
-          ∙ ap (λ (x : List ℕ). x ++ map value (parts_of space (drop (place_past space text at) text))) (sym front);
+          ∙ ap (λ (x : List (List ℕ)). numbers ++ map value x) (parts_at space text at h)
+          ∙ sym (append_assoc numbers (value (part_at space text at) ∷ []) (map value (parts_of space (drop (place_past space text at) text))));
     }
-  where
-    tails : {x y : ℕ} {a b : List ℕ} → x ∷ a ≡ y ∷ b → a ≡ b
-    tails e = cc
-
--- by the count of the numbers
-gathered-all : (text : List ℕ) → leb (length (numbers_in text)) 256 ≡ true → gathered text ≡ full (word_in text) (numbers_in text)
-gathered-all text e = ap (λ (t : Bool). elim t [ true ↦ full (word_in text) (numbers_in text) | false ↦ blank ]) e
-
-gathered_none : (text : List ℕ) → leb (length (numbers_in text)) 256 ≡ false → gathered text ≡ blank
-gathered_none text e = ap (λ (t : Bool). elim t [ true ↦ full (word_in text) (numbers_in text) | false ↦ blank ]) e
 
 -- at the end of the text
-pub gathers-end : (text numbers : List ℕ) (at count : ℕ) → length text ≤ at → Gathers text numbers at count → (numbers_in text ≡ take count numbers) × (length (numbers_in text) ≡ count) × (padded (numbers_in text) ≡ numbers)
-unfolding padded
-gathers-end text numbers at count h g =
-    let is : numbers_in text ≡ take count numbers = g.so ∙ ap (λ (x : List (List ℕ)). take count numbers ++ map value x) (parts_none space text at h) ∙ append-nil (take count numbers) in
-    let many : length (numbers_in text) ≡ count = ap length is ∙ length-take-le count numbers (omega (arith, g.long, g.room)) in
-    (is, many, ap₂ (λ (x : List ℕ) (n : ℕ). x ++ replicate (256 - n) 0) is many ∙ ap (λ (x : List ℕ). take count numbers ++ x) (sym g.rest) ∙ take-append-drop count numbers)
-
-pub gathers-all : (text numbers : List ℕ) (at count : ℕ) → length text ≤ at → Gathers text numbers at count → gathered text ≡ record { ok = true; word = word_in text; count = count; numbers = numbers }
-unfolding full
-gathers-all text numbers at count h g =
-    let e = gathers-end text numbers at count h g in
-    gathered-all text (le-leb (length (numbers_in text)) 256 (omega (arith, e.1, g.room))) ∙ (ap₂ (λ (n : ℕ) (l : List ℕ). record { ok = true; word = word_in text; count = n; numbers = l }) e.1 e.2)
+pub gathers-end : (text numbers : List ℕ) (at : ℕ) → length text ≤ at → Gathers text numbers at → numbers_in text ≡ numbers
+gathers-end text numbers at h g = g.so ∙ ap (λ (x : List (List ℕ)). numbers ++ map value x) (parts_none space text at h) ∙ append-nil numbers
 
 -- all places are taken, and there is more text
-pub gathers-over : (text numbers : List ℕ) (at count : ℕ) → at < length text → 256 ≤ count → Gathers text numbers at count → gathered text ≡ blank
-gathers-over text numbers at count h p g =
-    let e : numbers_in text ≡ take count numbers ++ (value (part_at space text at) ∷ map value (parts_of space (drop (place_past space text at) text))) = g.so ∙ ap (λ (x : List (List ℕ)). take count numbers ++ map value x) (parts_at space text at h) in
-    let m : length (take count numbers) ≡ count = length-take-le count numbers (omega (arith, g.long, g.room)) in
-    let n : length (numbers_in text) ≡ length (take count numbers) + suc (length (map value (parts_of space (drop (place_past space text at) text)))) = ap length e ∙ length-append (take count numbers) _ in
-    gathered_none text (lt-leb (length (numbers_in text)) 256 (omega arith))
+pub gathers-over : (text numbers : List ℕ) (at : ℕ) → at < length text → 256 ≤ length numbers → Gathers text numbers at → 256 < length (numbers_in text)
+gathers-over text numbers at h p g =
+    let e : numbers_in text ≡ numbers ++ (value (part_at space text at) ∷ map value (parts_of space (drop (place_past space text at) text))) = g.so ∙ ap (λ (x : List (List ℕ)). numbers ++ map value x) (parts_at space text at h) in
+    omega (arith, ap length e, length-append numbers (value (part_at space text at) ∷ map value (parts_of space (drop (place_past space text at) text))))
+
+-- ---- what is gathered
+
+-- the line with a word and these numbers
+line-with : List ℕ → Word → Line
+line-with ns w = record { word = w; numbers = ns }
+
+pub gathered-unknown : (text : List ℕ) → named (word_in text) ≡ None → gathered text ≡ None
+unfolding line-with
+gathered-unknown text e = ap (λ (o : Option Line). elim (leb (length (numbers_in text)) 256) [ true ↦ o | false ↦ None ]) (ap (option_map (line-with (numbers_in text))) e) ∙ go (leb (length (numbers_in text)) 256)
+  where
+    go : (t : Bool) → elim t as (λ _. Option Line) [ true ↦ None | false ↦ None ] ≡ None
+    go true = refl
+    go false = refl
+
+pub gathered_none : (text : List ℕ) → 256 < length (numbers_in text) → gathered text ≡ None
+gathered_none text h = rw (lt-leb _ _ h, gathered)
+
+pub gathered-line : (text ns : List ℕ) (w : Word) → named (word_in text) ≡ Some w → numbers_in text ≡ ns → length ns ≤ 256 → gathered text ≡ Some (record { word = w; numbers = ns })
+unfolding line-with
+gathered-line text ns w e f h =
+    let few : length (numbers_in text) ≤ 256 = omega (arith, ap length f) in
+    rw (le-leb _ _ few, gathered) (ap (option_map (line-with (numbers_in text))) e ∙ ap (λ (ns : List ℕ). Some (line-with ns w)) f)
+
+-- the line that was gathered
+pub record Gathered (text : List ℕ) (l : Line) : Type 0 where
+  pub word : named (word_in text) ≡ Some l.word
+  pub numbers : l.numbers ≡ numbers_in text
+  pub few : length (numbers_in text) ≤ 256
+
+pub gathered-is : (text : List ℕ) (l : Line) → gathered text ≡ Some l → Gathered text l
+gathered-is text l e = go (leb (length (numbers_in text)) 256) refl (named (word_in text)) refl
+  where
+    go : (t : Bool) → leb (length (numbers_in text)) 256 ≡ t → (o : Option Word) → named (word_in text) ≡ o → Gathered text l
+    go false f o g = absurd (none-some l (sym (gathered_none text (leb-false _ _ f)) ∙ e))
+    go true f None g = absurd (none-some l (sym (gathered-unknown text g) ∙ e))
+    go true f (Some w) g =
+        let same_line : record { word = w; numbers = numbers_in text } ≡ l = same_Some _ _ (sym (gathered-line text (numbers_in text) w g refl (leb-true _ _ f)) ∙ e) in
+        record { word = g ∙ ap (λ (l : Line). Some l.word) same_line; numbers = ap (λ (l : Line). l.numbers) (sym same_line); few = leb-true _ _ f }
 
 -- ---- what the tests of the reader say
 
@@ -98,29 +109,35 @@ pub too_many : (text : List ℕ) → length text ≤ 512 → 256 < length (numbe
 unfolding render
 too_many text h p = differs text (same_length _ text (λ e. omega (arith, length-append (spelling (word_in text)) (numbered (numbers_in text)), numbered-long (numbers_in text))))
 
--- what was gathered, by its mark
-module _ (text : List ℕ) (l : Line) (e : l ≡ gathered text) where
-  pub good : l.ok ≡ true → (l ≡ full (word_in text) (numbers_in text)) × (length (numbers_in text) ≤ 256)
-  unfolding blank
-  good ok = go (leb (length (numbers_in text)) 256) refl
-    where
-      go : (t : Bool) → leb (length (numbers_in text)) 256 ≡ t → (l ≡ full (word_in text) (numbers_in text)) × (length (numbers_in text) ≤ 256)
-      go true p = (e ∙ gathered-all text p, leb-true _ _ p)
-      go false p = let b : l ≡ blank = e ∙ gathered_none text p in let z : ◌≡◌ {A = Bool} true false = sym ok ∙ ap (λ (x : Line). x.ok) b in let y : ◌≡◌ {A = ℕ} 0 1 = cc in absurd (omega arith)
+-- what is not gathered is no line
+pub not_gathered : (text : List ℕ) → length text ≤ 512 → gathered text ≡ None → parse text ≡ no_line
+not_gathered text h e = go (leb (length (numbers_in text)) 256) refl (named (word_in text)) refl
+  where
+    go : (t : Bool) → leb (length (numbers_in text)) 256 ≡ t → (o : Option Word) → named (word_in text) ≡ o → parse text ≡ no_line
+    go false f o g = too_many text h (leb-false _ _ f)
+    go true f None g = misshapen text (rw (le-ltb _ _ (named_none _ g)))
+    go true f (Some w) g = absurd (none-some _ (sym e ∙ gathered-line text (numbers_in text) w g refl (leb-true _ _ f)))
 
-  pub bad : l.ok ≡ false → 256 < length (numbers_in text)
-  unfolding full
-  bad ok = go (leb (length (numbers_in text)) 256) refl
-    where
-      go : (t : Bool) → leb (length (numbers_in text)) 256 ≡ t → 256 < length (numbers_in text)
-      go true p = let b : l ≡ full (word_in text) (numbers_in text) = e ∙ gathered-all text p in let z : ◌≡◌ {A = Bool} false true = sym ok ∙ ap (λ (x : Line). x.ok) b in let y : ◌≡◌ {A = ℕ} 0 1 = cc in absurd (omega arith)
-      go false p = leb-false _ _ p
+-- the line that was gathered, by what the reader asks of it
+module _ (text : List ℕ) (l : Line) (g : Gathered text l) where
+  known : number l.word ≡ word_in text
+  known = named-number _ _ g.word
 
--- the numbers stand in the front
-pub padded-front : (ns : List ℕ) → take (length ns) (padded ns) ≡ ns
-unfolding padded
-padded-front ns = take-append_seam ns (replicate (256 - length ns) 0)
+  shape : takes (number l.word) (length l.numbers) ≡ shaped (word_in text) (length (numbers_in text))
+  shape = ap₂ takes known (ap length g.numbers) ∙ sym (rw (lt-ltb _ _ (slice_get_within in_order _ _ g.word)))
 
-pub padded-long : (ns : List ℕ) → length ns ≤ 256 → length (padded ns) ≡ 256
-unfolding padded
-padded-long ns h = omega (arith, length-append ns (replicate (256 - length ns) 0), length-replicate {A = ℕ} (256 - length ns) 0)
+  written : same (render (number l.word) l.numbers) text ≡ same (render (word_in text) (numbers_in text)) text
+  written = ap₂ (λ (k : ℕ) (ns : List ℕ). same (render k ns) text) known g.numbers
+
+  pub line-misshapen : takes (number l.word) (length l.numbers) ≡ false → held (parse text) ≡ None
+  line-misshapen e = ap held (misshapen text (sym shape ∙ e))
+
+  pub line-differs : same (render (number l.word) l.numbers) text ≡ false → held (parse text) ≡ None
+  line-differs e = ap held (differs text (sym written ∙ e))
+
+  pub line-read : length text ≤ 512 → takes (number l.word) (length l.numbers) ≡ true → same (render (number l.word) l.numbers) text ≡ true → held (parse text) ≡ Some l
+  unfolding line-with
+  line-read h p q =
+      ap held (accepted text (both (leb (length text) 512) _ (le-leb _ _ h) (both (shaped (word_in text) (length (numbers_in text))) _ (sym shape ∙ p) (sym written ∙ q))))
+      ∙ ap (option_map (line-with (numbers_in text))) g.word
+      ∙ ap (λ (ns : List ℕ). Some (line-with ns l.word)) (sym g.numbers)

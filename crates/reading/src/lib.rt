@@ -1,101 +1,112 @@
 // Reading a script's line: its word and numbers are gathered leniently, written again, and compared with the text.
 #![tactic(auto)]
 
-ghost use Rattle.std.specs.Prelude.{◌≡◌, ◌≤◌, length};
+ghost use Rattle.std.specs.Prelude.{◌≡◌, ◌≤◌, ◌<◌, [], ◌∷◌, ◌++◌, length, MatchOption};
 ghost use Rattle.words.specs.Bytes.{same};
-ghost use Rattle.reading.specs.Form.{render, shaped, parse};
-ghost use Rattle.reading.specs.Holding.{blank, held, gathered};
+ghost use Rattle.words.specs.Rows.{number};
+ghost use Rattle.reading.specs.Form.{render, parse};
+ghost use Rattle.reading.specs.Holding.{held, gathered};
 
-// A line: the number of its word, how many numbers follow it, and these. All zero where the text is no line.
-#[derive(Clone, Copy)]
-pub struct Line {
-    pub ok: bool,
-    pub word: u16,
-    pub count: u16,
-    pub numbers: [u16; 256],
+use std::marker::Model;
+use textlines::Reader;
+use words::Word;
+
+// The most numbers of a line.
+const MOST: usize = 256;
+
+// The numbers of a line, in the front of an array.
+#[derive(Drop)]
+pub struct Numbers {
+    count: usize,
+    numbers: [u16; MOST],
 }
 
-// What a text that is no line is read as.
-fn no_line() -> Line
-    ensures { result ≡ blank }
-{
-    Line {
-        ok: false,
-        word: 0,
-        count: 0,
-        numbers: [0u16; 256],
+impl Model for Numbers {
+    ghost use Rattle.std.specs.Prelude.{◌≤◌, List, take, ℕ};
+
+    ghost Value = { List ℕ };
+
+    ghost view = { λ n. take n.count n.numbers };
+
+    ghost invariant = { λ n. n.count ≤ 256 };
+}
+
+impl Numbers {
+    // No number yet.
+    fn new() -> Self
+        ensures { result ≡ [] }
+    {
+        Numbers {
+            count: 0,
+            numbers: [0; MOST],
+        }
     }
+
+    // One number more, where there is room for it.
+    fn push(&mut self, number: u16) -> Option<()>
+        ensures { MatchOption result ((256 ≤ length self.old) × (self.new ≡ self.old)) (λ _. (length self.old < 256) × (self.new ≡ self.old ++ number ∷ [])) }
+    {
+        if self.count == MOST {
+            return None;
+        }
+        self.numbers[self.count] = number;
+        self.count += 1;
+        Some(())
+    }
+
+    // The numbers.
+    pub fn as_slice(&self) -> &[u16]
+        ensures { result.now ≡ self.now }
+    {
+        &self.numbers[..self.count]
+    }
+}
+
+// A line: its word, and the numbers that follow it.
+#[derive(Drop)]
+pub struct Line {
+    pub word: Word,
+    pub numbers: Numbers,
 }
 
 // What stands between spaces: the first part taken for a word, the others for numbers.
-fn gather(text: &[u8]) -> Line
+fn gather(text: &[u8]) -> Option<Line>
     ensures { result ≡ gathered text.now }
 {
-    let mut at: usize = 0;
-    let word = words::which(textlines::next_from(text, &mut at, 32));
-    let mut numbers = [0u16; 256];
-    let mut count: usize = 0;
-    while at < text.len() {
-        if 256 <= count {
-            return no_line();
-        }
-        numbers[count] = decimal::value(textlines::next_from(text, &mut at, 32));
-        count += 1;
+    let mut reader = Reader { src: text, at: 0 };
+    let word = words::which(reader.next(b' '))?;
+    let mut numbers = Numbers::new();
+    while reader.at < text.len() {
+        numbers.push(decimal::value(reader.next(b' ')))?;
     }
-    Line {
-        ok: true,
-        word,
-        count: count as u16,
-        numbers,
-    }
+    Some(Line { word, numbers })
 }
 
-// Is there such a word, and may so many numbers follow it?
-fn is_shaped(word: u16, count: u16) -> bool
-    ensures { result ≡ shaped word count }
-{
-    if word < words::WORD_COUNT {
-        words::takes(word, count)
-    } else {
-        false
-    }
-}
-
+// Kept (6): no heap: the line is written into an array that is long enough for any.
 // Does writing the line give the text?
-fn gives(word: u16, numbers: &[u16], text: &[u8]) -> bool
+fn gives(word: Word, numbers: &[u16], text: &[u8]) -> bool
     requires { length numbers.now ≤ 256 }
-    ensures { result ≡ same (render word numbers.now) text.now }
+    ensures { result ≡ same (render (number word) numbers.now) text.now }
 {
     let mut buf = [0u8; 2048];
     let next = words::put_word(&mut buf, 0, word);
     let end = decimal::put_numbers(&mut buf, next, numbers);
-    words::same(&buf[..end], text)
+    &buf[..end] == text
 }
 
-// The line that a text is.
-pub fn read_line(text: &[u8]) -> Line
+// The line that a text is, if it is one.
+pub fn read_line(text: &[u8]) -> Option<Line>
     ensures { result ≡ held (parse text.now) }
 {
     let long = 512 < text.len();
     if long {
-        return no_line();
+        return None;
     }
-    let l = gather(text);
-    let ok = l.ok;
-    let word = l.word;
-    let count = l.count;
-    if ok {
-        if is_shaped(word, count) {
-            let numbers = l.numbers;
-            if gives(word, &numbers[..count as usize], text) {
-                l
-            } else {
-                no_line()
-            }
-        } else {
-            no_line()
-        }
+    let line = gather(text)?;
+    let numbers = line.numbers.as_slice();
+    if words::takes(line.word, numbers.len() as u16) && gives(line.word, numbers, text) {
+        Some(line)
     } else {
-        no_line()
+        None
     }
 }

@@ -1,2 +1,3 @@
+mod Asking
 mod Reading
 pub mod Turning

@@ -7,6 +7,7 @@ use native.Mathlib.Omega.{arith}
 use lib.Dec.{eqb}
 use lib.ListN.{length, get_or, take, drop, length-append}
 use borrow.Author.Tests.{lt-ltb, le-ltb}
+use Rattle.std.proofs.Common.{Option, Some, None}
 use Rattle.model.specs.Model.{Model, empty}
 use Rattle.model.specs.Sheet.{Told}
 use Rattle.model.proofs.Results.{few-results}
@@ -21,20 +22,20 @@ use Rattle.textlines.specs.declared.Tally.{Tally}
 use Rattle.textlines.proofs.Laws.{parts_at, parts_none, past_more}
 use Rattle.reading.specs.Form.{Parsed, line, no_line, parse}
 use Rattle.meaning.specs.declared.Meant.{Meant}
-use Rattle.meaning.specs.declared.Meant.TheVariants.{Do, Ask, Nothing}
+use Rattle.meaning.specs.declared.Meant.TheVariants.{Do, Ask}
 use Rattle.meaning.specs.Meaning.{meant}
 use Rattle.reviews.proofs.Promised.{results_fit}
-use Rattle.script.specs.Script.{room, doing, obeyed, obey, answer_text, total_text, done_after, others_after, run_lines, run_from, run_script, after_lines, after_script, line_feed, longest_script}
+use Rattle.script.specs.Script.{doing, obeyed, obey, answer_text, total_text, done_after, others_after, run_lines, run_from, run_script, after_lines, after_script, line_feed, longest_script}
 use Rattle.script.specs.LineAnswers.{Turns, told_at}
 use Rattle.script.specs.declared.Progress.{Progress}
 use Rattle.script.specs.declared.Turned.{Turned}
 
 -- ---- how long an answer is
 
-few-done : (m : Model) (x : Meant) (list : List ℕ) → length (doing m x list).results ≤ 4096
-few-done m (Do c) list = omega (arith, few-results m c list)
-few-done m (Ask q) list = results_fit m 4096 q (λ s op obj e. omega arith)
-few-done m Nothing list = omega arith
+few-done : (m : Model) (x : Option Meant) (list : List ℕ) → length (doing m x list).results ≤ 4096
+few-done m (Some (Do c)) list = omega (arith, few-results m c list)
+few-done m (Some (Ask q)) list = results_fit m 4096 q (λ s op obj e. omega arith)
+few-done m None list = omega arith
 
 few-obeyed : (m : Model) (p : Parsed) → length (obeyed m p).results ≤ 4096
 few-obeyed m (line k ns) = few-done m (meant k (get_or ns 0 0) (get_or ns 1 0) (get_or ns 2 0)) (drop (word_of k).numbers ns)

@@ -1,5 +1,5 @@
 -- What a script's line does, and what a whole script prints. Assumes nothing.
-use Rattle.std.specs.Prelude.{Bool, true, false, List, [], ◌∷◌, ◌++◌, ℕ, ◌+◌, eqb, ltb, length, get_or, drop}
+use Rattle.std.specs.Prelude.{true, false, List, [], ◌∷◌, ◌++◌, ℕ, ◌+◌, eqb, ltb, length, get_or, drop, Option, Some, None}
 use Rattle.model.specs.Model.{Model, empty}
 use Rattle.model.specs.Sheet.{Told, refused}
 use Rattle.model.specs.Step.{step}
@@ -11,17 +11,17 @@ use Rattle.textlines.specs.Parts.{parts_of}
 use Rattle.reading.specs.Form.{Parsed, line, no_line, parse}
 use Rattle.meaning.specs.Meaning.{meant}
 use Rattle.meaning.specs.declared.Meant.{Meant}
-use Rattle.meaning.specs.declared.Meant.TheVariants.{Do, Ask, Nothing}
+use Rattle.meaning.specs.declared.Meant.TheVariants.{Do, Ask}
 
 -- "Its buffers hold the longest result, so it never prints 15.": there are 4,096 permissions
 abbrev pub room : ℕ
 room = 4096
 
 -- the command or question, on the policy and sessions
-abbrev pub doing : Model → Meant → List ℕ → Told
-doing m (Do c) list = step m c list
-doing m (Ask q) list = ask m room q
-doing m Nothing list = refused 14 m
+abbrev pub doing : Model → Option Meant → List ℕ → Told
+doing m (Some (Do c)) list = step m c list
+doing m (Some (Ask q)) list = ask m room q
+doing m None list = refused 14 m
 
 -- the line with this word and these numbers: the word's own numbers, and then the list of roles where it takes one
 abbrev pub obeyed : Model → Parsed → Told

@@ -1,10 +1,10 @@
 // A script: each line is read, obeyed and answered.
 #![tactic(auto)]
 
+ghost use Rattle.std.specs.Prelude.{◌≡◌, eqb, get_or};
 ghost use Rattle.text.specs.Putting.{Put};
-ghost use Rattle.model.specs.Model.{Model};
+ghost use Rattle.numbers.specs.Answers.{number_of};
 ghost use Rattle.model.specs.Questions.{ask};
-ghost use Rattle.model.specs.Sheet.{refused};
 ghost use Rattle.model.specs.Step.{step};
 ghost use Rattle.state.specs.View.{view};
 ghost use Rattle.script.specs.LineAnswers.{Puts, Answers, Turns};
@@ -12,10 +12,12 @@ ghost use Rattle.script.specs.Script.{answer_text, total_text, obey};
 
 use meaning::Meant;
 use model::{Command, Question};
+use numbers::{Answer, Refusal};
 use state::PLACES;
-use textlines::Tally;
+use textlines::{Reader, Tally};
 
 // The text of an answer stands at the front of the buffer and ends at `len`; whether the answer was 0.
+// Kept (1, 6): `len` holds whether `ok` or not, so `ok` is no flag of it; and the promise of `answer_line` in unique/specs/Buffers names the length in the lent buffer.
 #[derive(Clone, Copy)]
 pub struct Answered {
     pub len: usize,
@@ -23,6 +25,7 @@ pub struct Answered {
 }
 
 // Puts an answer: its number, each result after one space, and LF.
+// Kept (1): the promise holds of any number, and one that takes an `Answer` would ask more of the caller.
 pub fn answer_text(buf: &mut [u8], answer: u16, results: &[u16]) -> usize
     ensures { Put buf.old 0 (answer_text answer results.now) buf.new result }
 {
@@ -36,73 +39,70 @@ pub fn total_text(buf: &mut [u8], t: Tally) -> usize
     ensures { Put buf.old 0 (total_text t.done t.others) buf.new result }
 {
     let first = text::put_text(buf, 0, b"total");
-    let counts = [t.done, t.others];
-    let last = decimal::put_numbers(buf, first, &counts);
+    let last = decimal::put_numbers(buf, first, &[t.done, t.others]);
     text::put(buf, last, 10)
+}
+
+// Puts an answer with its results.
+fn put_answer(buf: &mut [u8], answer: Answer, results: &[u16]) -> Answered
+    ensures text { Put buf.old 0 (answer_text (number_of answer) results.now) buf.new result.len }
+    ensures ok { result.ok ≡ eqb (number_of answer) 0 }
+{
+    Answered {
+        len: answer_text(buf, numbers::number_of(answer), results),
+        ok: answer.is_ok(),
+    }
 }
 
 // Obeys a command, and puts its answer.
 fn obey_command(state: &mut [u64; PLACES], c: Command, list: &[u16], buf: &mut [u8]) -> Answered
     ensures { Answers (step (view state.old) c list.now) buf.old buf.new result state.new }
 {
-    let o = engine::step(state, c, list);
-    let answer = o.answer;
-    let opened = o.opened;
-    let ok = numbers::is_done(answer);
-    let number = numbers::number_of(answer);
-    let results = [opened.number];
-    if o.result {
-        let len = answer_text(buf, number, &results);
-        return Answered { len, ok };
+    match engine::step(state, c, list) {
+        Ok(Some(opened)) => put_answer(buf, Ok(()), &[opened.number]),
+        Ok(None) => put_answer(buf, Ok(()), &[]),
+        Err(refusal) => put_answer(buf, Err(refusal), &[]),
     }
-    let len = answer_text(buf, number, &results[..0]);
-    Answered { len, ok }
 }
 
+// Kept (6): no heap: the results are listed in an array that is long enough for any.
 // Asks a question, and puts its answer.
 fn ask_question(state: &[u64; PLACES], q: Question, buf: &mut [u8]) -> Answered
     ensures { Puts (ask (view state.now) 4096 q) buf.old buf.new result }
 {
     let mut results = [0u16; 4096];
-    let r = engine::ask(state, q, &mut results);
-    let answer = r.answer;
-    let count = r.count;
-    let number = numbers::number_of(answer);
-    let ok = numbers::is_done(answer);
-    let len = answer_text(buf, number, &results[..count as usize]);
-    Answered { len, ok }
+    match engine::ask(state, q, &mut results) {
+        Ok(count) => put_answer(buf, Ok(()), &results[..count]),
+        Err(refusal) => put_answer(buf, Err(refusal), &[]),
+    }
 }
 
-// Answers a line that is of no form.
-fn answer_no_line(buf: &mut [u8]) -> Answered
-    ensures { (m : Model) → Puts (refused 14 m) buf.old buf.new result }
+// The number at a place of a line, or 0 where there is none.
+fn number_at(numbers: &[u16], place: usize) -> u16
+    ensures { result ≡ get_or numbers.now place 0 }
 {
-    let none = [0u16; 1];
-    let len = answer_text(buf, 14, &none[..0]);
-    Answered { len, ok: false }
+    numbers.get(place).copied().unwrap_or(0)
 }
 
 // Answers a line of a script, any bytes: its text is put into the lent buffer.
 pub fn answer_line(state: &mut [u64; PLACES], text: &[u8], buf: &mut [u8]) -> Answered
     ensures { Answers (obey (view state.old) text.now) buf.old buf.new result state.new }
 {
-    let l = reading::read_line(text);
-    let ok = l.ok;
-    let word = l.word;
-    let count = l.count;
-    let numbers = l.numbers;
-    if ok {
-        let from = words::before_list(word) as usize;
-        match meaning::meaning(word, numbers[0], numbers[1], numbers[2]) {
-            Meant::Do(c) => obey_command(state, c, &numbers[from..count as usize], buf),
-            Meant::Ask(q) => ask_question(state, q, buf),
-            Meant::Nothing => answer_no_line(buf),
-        }
-    } else {
-        answer_no_line(buf)
+    let Some(line) = reading::read_line(text) else {
+        return put_answer(buf, Err(Refusal::NotOfForm), &[]);
+    };
+    let numbers = line.numbers.as_slice();
+    let a = number_at(numbers, 0);
+    let b = number_at(numbers, 1);
+    let c = number_at(numbers, 2);
+    let from = words::before_list(line.word) as usize;
+    match meaning::meaning(line.word, a, b, c) {
+        Meant::Do(c) => obey_command(state, c, &numbers[from..], buf),
+        Meant::Ask(q) => ask_question(state, q, buf),
     }
 }
 
+// Kept (6): the place of a run goes on without the script, which is lent at each call; `Turns` of script/specs/LineAnswers names it.
 // How far a script has run: the place past the lines that were answered, and their count.
 #[derive(Clone, Copy)]
 pub struct Progress {
@@ -110,6 +110,8 @@ pub struct Progress {
     pub tally: Tally,
 }
 
+// What a turn puts stands at the front of the buffer and ends at `len`; how far the script has run then.
+// Kept (6): the promise of `turn` in unique/specs/Buffers names the length in the lent buffer.
 #[derive(Clone, Copy)]
 pub struct Turned {
     pub len: usize,
@@ -120,13 +122,16 @@ pub struct Turned {
 pub fn turn(script: &[u8], state: &mut [u64; PLACES], p: Progress, buf: &mut [u8]) -> Turned
     ensures { Turns script.now state.old p buf.old buf.new result state.new }
 {
-    let tally = p.tally;
-    let mut at = p.at;
-    let text = textlines::next_from(script, &mut at, 10);
-    let a = answer_line(state, text, buf);
-    let counted = textlines::tallied(tally, a.ok);
+    let mut reader = Reader {
+        src: script,
+        at: p.at,
+    };
+    let a = answer_line(state, reader.next(b'\n'), buf);
     Turned {
         len: a.len,
-        next: Progress { at, tally: counted },
+        next: Progress {
+            at: reader.at,
+            tally: p.tally.counted(a.ok),
+        },
     }
 }

@@ -1,15 +1,15 @@
 -- The laws of a text in parts. Assumes nothing.
-use mathlib.Core.Bool.{Bool, true, false}
+use mathlib.Core.Bool.{Bool, true, false, cond}
 use mathlib.Core.List.{List, [], ◌∷◌}
 use mathlib.Core.Path.{◌≡◌, refl, sym, ap, ◌∙◌}
 use Prim.Native.Nat.{ℕ, suc, ◌+◌, ◌≤◌, ◌<◌}
-use native.Mathlib.Numerals.{add-one}
 use native.Mathlib.Omega.{arith}
 use native.Mathlib.Decide.{dec_lt}
 use lib.Dec.{eqb}
 use lib.ListN.{length, get_or, take, drop, drop_of_length-le, length-drop}
 use lib.Seq.{drop-cons, drop-drop}
-use borrow.Author.Tests.{eq-eqb, ne_eqb}
+use Rattle.std.specs.List.{position_or_len}
+use Rattle.std.proofs.lemmas.List.Recursion.{is_position_or_len}
 use Rattle.textlines.specs.Parts.{joined, parts_of, up_to, part_at, place_past}
 
 -- ---- the first part, byte by byte
@@ -49,6 +49,15 @@ up-short stop (b ∷ l) = go (eqb b stop) refl (up-short stop l)
     go true e h = rw (at-stop stop b l e) (omega arith)
     go false e h = rw (before-stop stop b l e) (omega arith)
 
+-- and it ends at the first stop byte
+pub up-place : (stop : ℕ) (l : List ℕ) → length (up_to stop l) ≡ position_or_len (λ b. eqb b stop) l
+unfolding up_to
+up-place stop = is_position_or_len (λ l. length (up_to stop l)) (λ b. eqb b stop) refl (λ b l. go b l (eqb b stop))
+  where
+    go : (b : ℕ) (l : List ℕ) (t : Bool) → length {A = ℕ} (elim t [ true ↦ [] | false ↦ b ∷ up_to stop l ]) ≡ cond t 0 (1 + length (up_to stop l))
+    go b l true = refl
+    go b l false = omega arith
+
 -- the first part, and then the parts of what comes after it and its stop byte
 abbrev pub After : ℕ → List ℕ → List ℕ
 After stop l = drop (suc (length (up_to stop l))) l
@@ -68,13 +77,6 @@ parts_next stop b (x ∷ l) = one_more stop b (x ∷ l) (ap (joined b) (parts_ne
 -- ---- at a place of a text
 
 module _ (stop : ℕ) (s : List ℕ) (at : ℕ) where
-  -- at a stop byte, at another byte, and at the end
-  pub part_stops : at < length s → get_or s at 0 ≡ stop → part_at stop s at ≡ []
-  part_stops h e = rw (drop-cons s at 0 h) (at-stop stop (get_or s at 0) (drop (suc at) s) (eq-eqb (get_or s at 0) stop e))
-
-  pub part_goes_on : at < length s → (get_or s at 0 ≡ stop → ⊥) → part_at stop s at ≡ get_or s at 0 ∷ part_at stop s (at + 1)
-  part_goes_on h n = rw (drop-cons s at 0 h, add-one at) (before-stop stop (get_or s at 0) (drop (suc at) s) (ne_eqb (get_or s at 0) stop n))
-
   pub part_none : length s ≤ at → part_at stop s at ≡ []
   unfolding up_to
   part_none h = rw (drop_of_length-le s h)

@@ -1,4 +1,4 @@
 pub mod Table
 pub mod Tables
-pub mod Rows
 pub mod Laws
+pub mod Numbers

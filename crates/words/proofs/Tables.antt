@@ -39,19 +39,12 @@ over-words f t k h = truth (f k) (at (λ k x. f k) lengths t k h)
     truth true t = refl
     truth false t = absurd t
 
--- whatever the number, its word is short, and takes few numbers
+-- whatever the number, its word is short
 pub spelling-short : (k : ℕ) → length (spelling k) < 15
 unfolding lengths spelling words
 spelling-short =
     cases (λ k. length (spelling k) < 15)
     (λ k h. ltb-true _ _ (over-words (λ k. ltb (length (spelling k)) 15) tt k h))
-    (λ k h. rw (past-last k h) (omega arith))
-
-pub numbers-few : (k : ℕ) → (word_of k).numbers < 16
-unfolding lengths words
-numbers-few =
-    cases (λ k. (word_of k).numbers < 16)
-    (λ k h. ltb-true _ _ (over-words (λ k. ltb (word_of k).numbers 16) tt k h))
     (λ k h. rw (past-last k h) (omega arith))
 
 -- Each word is found at its own number, so no two are alike.

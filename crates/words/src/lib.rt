@@ -1,175 +1,170 @@
 // The words of a script: which word a text is, a word put into a buffer, and how many numbers each takes.
 #![tactic(auto)]
 
-ghost use Rattle.std.specs.Prelude.{◌≡◌, take, get_or};
+ghost use Rattle.std.specs.Prelude.{◌≡◌, map};
 ghost use Rattle.text.specs.Putting.{Put};
-ghost use Rattle.words.specs.Bytes.{same};
-ghost use Rattle.words.specs.Rows.{row, letters};
-ghost use Rattle.words.specs.ScriptWords.{spelling, takes, which, word_of};
+ghost use Rattle.words.specs.Rows.{described, in_order, named, number};
+ghost use Rattle.words.specs.ScriptWords.{spelling, takes, which, word_of, words};
 
-// How many words there are.
-pub const WORD_COUNT: u16 = 42;
+use Follows::{Exactly, ThenRoles};
 
-// A row for each word, in the order of its number: its letters in 14 places, how many numbers it takes, and `+` where a list of roles follows them. A new word comes last.
-const WORDS: [[u8; 16]; WORD_COUNT as usize] = [
-    *b"user          1 ",
-    *b"role          1 ",
-    *b"nouser        1 ",
-    *b"norole        1 ",
-    *b"assign        2 ",
-    *b"deassign      2 ",
-    *b"grant         3 ",
-    *b"revoke        3 ",
-    *b"inherit       2 ",
-    *b"disinherit    2 ",
-    *b"session       1+",
-    *b"activate      3 ",
-    *b"drop          3 ",
-    *b"end           2 ",
-    *b"ssd           2+",
-    *b"nossd         1 ",
-    *b"ssd-add       2 ",
-    *b"ssd-drop      2 ",
-    *b"ssd-card      2 ",
-    *b"dsd           2+",
-    *b"nodsd         1 ",
-    *b"dsd-add       2 ",
-    *b"dsd-drop      2 ",
-    *b"dsd-card      2 ",
-    *b"check         3 ",
-    *b"assigned-users1 ",
-    *b"assigned-roles1 ",
-    *b"auth-users    1 ",
-    *b"auth-roles    1 ",
-    *b"role-perms    1 ",
-    *b"user-perms    1 ",
-    *b"session-roles 1 ",
-    *b"session-perms 1 ",
-    *b"role-ops      2 ",
-    *b"user-ops      2 ",
-    *b"ssd-sets      0 ",
-    *b"ssd-roles     1 ",
-    *b"ssd-count     1 ",
-    *b"dsd-sets      0 ",
-    *b"dsd-roles     1 ",
-    *b"dsd-count     1 ",
-    *b"end-all       1 ",
+// The words, in the order of their numbers. A new word comes last, and its row is the last of the table.
+#[derive(Clone, Copy, PartialEq, Eq)]
+pub enum Word {
+    User,
+    Role,
+    NoUser,
+    NoRole,
+    Assign,
+    Deassign,
+    Grant,
+    Revoke,
+    Inherit,
+    Disinherit,
+    Session,
+    Activate,
+    Drop,
+    End,
+    Ssd,
+    NoSsd,
+    SsdAdd,
+    SsdDrop,
+    SsdCard,
+    Dsd,
+    NoDsd,
+    DsdAdd,
+    DsdDrop,
+    DsdCard,
+    Check,
+    AssignedUsers,
+    AssignedRoles,
+    AuthUsers,
+    AuthRoles,
+    RolePerms,
+    UserPerms,
+    SessionRoles,
+    SessionPerms,
+    RoleOps,
+    UserOps,
+    SsdSets,
+    SsdRoles,
+    SsdCount,
+    DsdSets,
+    DsdRoles,
+    DsdCount,
+    EndAll,
+}
+
+// What follows a word: so many numbers, or so many and then a list of roles of any length.
+enum Follows {
+    Exactly(u16),
+    ThenRoles(u16),
+}
+
+// A word, its letters, and what follows it.
+struct Row(Word, &'static [u8], Follows);
+
+// A row for each word, in their order.
+static ROWS: &[Row] = &[
+    Row(Word::User, b"user", Exactly(1)),
+    Row(Word::Role, b"role", Exactly(1)),
+    Row(Word::NoUser, b"nouser", Exactly(1)),
+    Row(Word::NoRole, b"norole", Exactly(1)),
+    Row(Word::Assign, b"assign", Exactly(2)),
+    Row(Word::Deassign, b"deassign", Exactly(2)),
+    Row(Word::Grant, b"grant", Exactly(3)),
+    Row(Word::Revoke, b"revoke", Exactly(3)),
+    Row(Word::Inherit, b"inherit", Exactly(2)),
+    Row(Word::Disinherit, b"disinherit", Exactly(2)),
+    Row(Word::Session, b"session", ThenRoles(1)),
+    Row(Word::Activate, b"activate", Exactly(3)),
+    Row(Word::Drop, b"drop", Exactly(3)),
+    Row(Word::End, b"end", Exactly(2)),
+    Row(Word::Ssd, b"ssd", ThenRoles(2)),
+    Row(Word::NoSsd, b"nossd", Exactly(1)),
+    Row(Word::SsdAdd, b"ssd-add", Exactly(2)),
+    Row(Word::SsdDrop, b"ssd-drop", Exactly(2)),
+    Row(Word::SsdCard, b"ssd-card", Exactly(2)),
+    Row(Word::Dsd, b"dsd", ThenRoles(2)),
+    Row(Word::NoDsd, b"nodsd", Exactly(1)),
+    Row(Word::DsdAdd, b"dsd-add", Exactly(2)),
+    Row(Word::DsdDrop, b"dsd-drop", Exactly(2)),
+    Row(Word::DsdCard, b"dsd-card", Exactly(2)),
+    Row(Word::Check, b"check", Exactly(3)),
+    Row(Word::AssignedUsers, b"assigned-users", Exactly(1)),
+    Row(Word::AssignedRoles, b"assigned-roles", Exactly(1)),
+    Row(Word::AuthUsers, b"auth-users", Exactly(1)),
+    Row(Word::AuthRoles, b"auth-roles", Exactly(1)),
+    Row(Word::RolePerms, b"role-perms", Exactly(1)),
+    Row(Word::UserPerms, b"user-perms", Exactly(1)),
+    Row(Word::SessionRoles, b"session-roles", Exactly(1)),
+    Row(Word::SessionPerms, b"session-perms", Exactly(1)),
+    Row(Word::RoleOps, b"role-ops", Exactly(2)),
+    Row(Word::UserOps, b"user-ops", Exactly(2)),
+    Row(Word::SsdSets, b"ssd-sets", Exactly(0)),
+    Row(Word::SsdRoles, b"ssd-roles", Exactly(1)),
+    Row(Word::SsdCount, b"ssd-count", Exactly(1)),
+    Row(Word::DsdSets, b"dsd-sets", Exactly(0)),
+    Row(Word::DsdRoles, b"dsd-roles", Exactly(1)),
+    Row(Word::DsdCount, b"dsd-count", Exactly(1)),
+    Row(Word::EndAll, b"end-all", Exactly(1)),
 ];
 
-// The row that stands for no word.
-const NO_WORD: [u8; 16] = *b"              0 ";
-
-// The row of a word; past the last word, the row of none.
-fn row_of(k: u16) -> [u8; 16]
-    ensures { result ≡ row (word_of k) }
+// The table, as the definition tells it.
+fn rows() -> &'static [Row]
+    ensures rows { map described result.now ≡ words }
+    ensures in_order { map (λ r. r.0) result.now ≡ in_order }
 {
-    if k < WORD_COUNT {
-        WORDS[k as usize]
-    } else {
-        NO_WORD
-    }
+    ROWS
 }
 
-// The letter of a row at a place, or a space past the places for letters.
-fn letter(row: [u8; 16], i: usize) -> u8
-    ensures { result ≡ get_or (take 14 row) i 32 }
+// The number of a word: its place in the table.
+fn number(word: Word) -> usize
+    ensures { result ≡ number word }
 {
-    if i < 14 { row[i] } else { b' ' }
+    word as usize
 }
 
-// Are the row's letters the text?
-fn is_word(text: &[u8], row: [u8; 16]) -> bool
-    ensures { result ≡ same text.now (letters row) }
+// The row of a word.
+fn row_of(word: Word) -> &'static Row
+    ensures { described result.now ≡ word_of (number word) }
 {
-    let mut i: usize = 0;
-    while i < text.len() {
-        let here = letter(row, i);
-        if text[i] != here {
-            return false;
-        }
-        // The letters have ended, and the text goes on.
-        if here == b' ' {
-            return false;
-        }
-        i += 1;
-    }
-    letter(row, i) == b' '
+    let rows = rows();
+    &rows[number(word)]
 }
 
-// The number of the word that the text is, or the count of the words where it is none.
-pub fn which(text: &[u8]) -> u16
-    ensures { result ≡ which text.now }
+// The word that the text is, if it is one.
+pub fn which(text: &[u8]) -> Option<Word>
+    ensures { result ≡ named (which text.now) }
 {
-    let rows = WORDS;
-    let mut k: u16 = 0;
-    while k < WORD_COUNT {
-        if is_word(text, rows[k as usize]) {
-            return k;
-        }
-        k += 1;
-    }
-    WORD_COUNT
+    rows().iter().find(|row| text == row.1).map(|row| row.0)
 }
 
-// Puts a word; past the last word there is nothing to put.
-pub fn put_word(buf: &mut [u8], at: usize, k: u16) -> usize
-    ensures { Put buf.old at (spelling k) buf.new result }
+// Puts a word.
+pub fn put_word(buf: &mut [u8], at: usize, word: Word) -> usize
+    ensures { Put buf.old at (spelling (number word)) buf.new result }
 {
-    let row = row_of(k);
-    let mut next = at;
-    let mut i: usize = 0;
-    while i < 14 {
-        let here = letter(row, i);
-        if here == b' ' {
-            return next;
-        }
-        next = text::put(buf, next, here);
-        i += 1;
-    }
-    next
+    let Row(_, letters, _) = row_of(word);
+    text::put_text(buf, at, letters)
 }
 
 // How many numbers stand before the list of roles.
-pub fn before_list(k: u16) -> u16
-    ensures { result ≡ (word_of k).numbers }
+pub fn before_list(word: Word) -> u16
+    ensures { result ≡ (word_of (number word)).numbers }
 {
-    let row = row_of(k);
-    (row[14] - b'0') as u16
-}
-
-// Does a list of roles of any length follow these numbers?
-fn has_list(k: u16) -> bool
-    ensures { result ≡ (word_of k).listed }
-{
-    let row = row_of(k);
-    row[15] == b'+'
+    let Row(_, _, follows) = row_of(word);
+    match follows {
+        Exactly(count) | ThenRoles(count) => *count,
+    }
 }
 
 // May the word be followed by so many numbers?
-pub fn takes(k: u16, n: u16) -> bool
-    ensures { result ≡ takes k n }
+pub fn takes(word: Word, n: u16) -> bool
+    ensures { result ≡ takes (number word) n }
 {
-    let before = before_list(k);
-    if has_list(k) {
-        before <= n
-    } else {
-        n == before
+    let Row(_, _, follows) = row_of(word);
+    match follows {
+        Exactly(count) => n == *count,
+        ThenRoles(count) => *count <= n,
     }
-}
-
-// Are two texts the same?
-pub fn same(a: &[u8], b: &[u8]) -> bool
-    ensures { result ≡ same a.now b.now }
-{
-    if a.len() != b.len() {
-        return false;
-    }
-    let mut i: usize = 0;
-    while i < a.len() {
-        if a[i] != b[i] {
-            return false;
-        }
-        i += 1;
-    }
-    true
 }

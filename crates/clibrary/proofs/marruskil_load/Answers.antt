@@ -4,4 +4,4 @@ use Rattle.clibrary.proofs.marruskil_load.Goals as goal
 
 pub returns : goal.returns
 unfolding told
-returns c = rw c.number_of.ensures c.load-answer.ensures
+returns c = rw c.number_of.ensures c.load.ensures

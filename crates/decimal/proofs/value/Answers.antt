@@ -1,25 +1,28 @@
--- The digits passed have given their value, and the others are still to be taken. Assumes nothing.
-use borrow.Author.Rules.{rules}
-use mathlib.Core.Path.{refl}
-use Prim.Native.Nat.{◌≤◌, ◌<◌}
+-- One digit more is taken. Assumes nothing.
+use mathlib.Core.Path.{◌≡◌, ap, ◌∙◌}
+use Prim.Native.Nat.{ℕ, ◌+◌, ◌*◌, ◌%◌, ◌≤◌, ◌<◌}
 use native.Mathlib.Numerals.{add-one}
 use native.Mathlib.Omega.{arith}
-use lib.ListN.{length, drop_of_length-le}
+use lib.ListN.{length, get_or, drop, drop_of_length-le}
 use lib.Seq.{drop-cons}
-use Rattle.decimal.specs.Decimal.{taken_from}
+use Rattle.decimal.specs.Decimal.{taken, taken_from}
 use Rattle.decimal.proofs.value.Goals as goal
 
-pub loop-i-init : goal.loop-i-init
-loop-i-init c = ((omega arith, omega arith), refl)
+-- wrapping each operation by itself leaves the same
+wrapped : (v b : ℕ) → (v * 10 % 65536 + b % 16) % 65536 ≡ taken v b
+wrapped v b = omega arith
 
-pub loop-i-preserved : goal.loop-i-preserved
+pub loop-b-preserved : goal.loop-b-preserved
 unfolding taken_from
-loop-i-preserved c =
-    let l : c.loop-i.i < length c.args.text.now = omega arith in
-    ((search rules, search rules), rw (drop-cons c.args.text.now c.loop-i.i 0 l, ← add-one) at c.loop-i.invariant.1)
+loop-b-preserved c =
+    let text = c.args.text.now in
+    let i = c.loop-b.b-index in
+    let l : i < length text = omega arith in
+    let e : (c.loop-b.v * 10 % 65536 + c.from.result) % 65536 ≡ taken c.loop-b.v (get_or text i 0) = ap (λ (n : ℕ). (c.loop-b.v * 10 % 65536 + n) % 65536) c.from.ensures ∙ wrapped c.loop-b.v (get_or text i 0) in
+    ap (λ (n : ℕ). taken_from n (drop (i + 1) text)) e ∙ rw (drop-cons text i 0 l, ← add-one) at c.loop-b.invariant
 
 pub returns : goal.returns
 unfolding taken_from
 returns c =
-    let l : length c.args.text.now ≤ c.loop-i.i = omega arith in
-    rw (drop_of_length-le c.args.text.now l) at c.loop-i.invariant.1
+    let l : length c.args.text.now ≤ c.loop-b.b-index = omega arith in
+    rw (drop_of_length-le c.args.text.now l) at c.loop-b.invariant

@@ -1,35 +1,35 @@
 -- The parts between the spaces are taken one by one: the first for a word, the others for numbers. Assumes nothing.
-use mathlib.Core.Path.{sym, ap, ◌∙◌}
+use mathlib.Core.List.{List}
+use mathlib.Core.Path.{◌≡◌, sym, ap, ◌∙◌}
 use Prim.Native.Nat.{ℕ}
-use native.Mathlib.Omega.{arith}
-use Rattle.decimal.specs.Decimal.{space}
+use denote.Ref.{Bor}
+use Rattle.words.specs.Rows.{named}
 use Rattle.words.specs.ScriptWords.{which}
-use Rattle.textlines.proofs.Laws.{past_more}
 use Rattle.reading.specs.Form.{word_in}
-use Rattle.reading.proofs.Gathering.{gathers-start, gathers-next, gathers-all, gathers-over}
+use Rattle.reading.proofs.Gathering.{gathers-start, gathers-next, gathers-end, gathers-over, gathered-unknown, gathered_none, gathered-line}
 use Rattle.reading.proofs.gather.Goals as goal
+use Rattle.reading.proofs.gather.Goals.{After-which}
 
-pub loop-at-init : goal.loop-at-init
+first : (c : After-which) → c.which.result ≡ named (word_in c.args.text.now)
 unfolding word_in
-loop-at-init c = (c.which-word.ensures ∙ ap which c.next_from.ensures.0, rw c.next_from.ensures.1 (gathers-start c.args.text.now))
+first c = c.which.ensures ∙ ap (λ (l : List ℕ). named (which l)) c.next.ensures.part
 
-pub returns-then-count-ge256 : goal.returns-then-count-ge256
-returns-then-count-ge256 c = c.no_line.ensures ∙ sym (gathers-over c.args.text.now _ _ _ c.loop-at-test.true c.if-count-ge256.true c.loop-at.invariant.1)
+pub returns-in_err-word : goal.returns-in_err-word
+returns-in_err-word c = c.from_residual.ensures ∙ sym (gathered-unknown _ (sym (first (goal.at.returns-in_err-word c).After-which) ∙ c.in_err-word.was))
 
-pub bounds-numbers-count : goal.bounds-numbers-count
-bounds-numbers-count c = omega (arith, c.loop-at.invariant.1.long, c.if-count-ge256.false)
+pub loop-reader-init : goal.loop-reader-init
+loop-reader-init c = record { text = ap (λ (b : Bor (List ℕ)). b.now) c.next.ensures.src; gathers = rw (c.new-numbers.ensures, c.next.ensures.at) (gathers-start c.args.text.now) }
 
-pub loop-at-smaller : goal.loop-at-smaller
-loop-at-smaller c = let h = past_more space c.args.text.now c.loop-at.at c.loop-at-test.true in omega (arith, c.next_from-in-loop-at.ensures.1, c.loop-at-test.true)
+pub loop-reader-preserved : goal.loop-reader-preserved
+loop-reader-preserved c =
+    let i = c.loop-reader.invariant in
+    record {
+      text = ap (λ (b : Bor (List ℕ)). b.now) c.next-in-loop-reader.ensures.src ∙ i.text;
+      gathers = rw (c.in_ok-push.ensures.1, c.value.ensures, c.next-in-loop-reader.ensures.part, c.next-in-loop-reader.ensures.at, i.text) (gathers-next c.args.text.now c.loop-reader.numbers c.loop-reader.reader.at c.loop-reader-test.true c.in_ok-push.ensures.0 i.gathers);
+    }
 
-pub loop-at-preserved : goal.loop-at-preserved
-loop-at-preserved c = (
-  c.loop-at.invariant.0,
-  rw (c.next_from-in-loop-at.ensures.1, c.value.ensures, c.next_from-in-loop-at.ensures.0) (gathers-next c.args.text.now c.loop-at.numbers c.loop-at.at c.loop-at.count c.loop-at-test.true c.if-count-ge256.false c.loop-at.invariant.1),
-)
-
-pub overflow_cast-result : goal.overflow_cast-result
-overflow_cast-result c = omega (arith, c.loop-at.invariant.1.room)
+pub returns-in_err-push : goal.returns-in_err-push
+returns-in_err-push c = c.from_residual-in_err-push.ensures ∙ sym (gathered_none _ (gathers-over c.args.text.now _ _ c.loop-reader-test.true c.in_err-push.ensures.0 c.loop-reader.invariant.gathers))
 
 pub returns : goal.returns
-returns c = ap (λ (w : ℕ). record { ok = mathlib.Core.Bool.true; word = w; count = c.loop-at.count; numbers = c.loop-at.numbers }) c.loop-at.invariant.0 ∙ sym (gathers-all c.args.text.now c.loop-at.numbers c.loop-at.at c.loop-at.count c.loop-at-test.false c.loop-at.invariant.1)
+returns c = sym (gathered-line c.args.text.now c.loop-reader.numbers c.in_ok-word.word (sym (first (goal.at.returns c).After-which) ∙ c.in_ok-word.was) (gathers-end c.args.text.now _ _ c.loop-reader-test.false c.loop-reader.invariant.gathers) c.loop-reader.invariant.gathers.room)

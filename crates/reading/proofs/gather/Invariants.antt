@@ -2,12 +2,11 @@
 use mathlib.Core.Path.{◌≡◌}
 use Prim.Native.Nat.{◌-◌}
 use lib.ListN.{length}
-use Rattle.reading.specs.Form.{word_in}
 use Rattle.reading.proofs.Gathering.{Gathers}
 use Rattle.reading.proofs.gather.Given as goal
 
-abbrev pub invariant-loop-at : goal.invariant-loop-at
-invariant-loop-at l = (l.word ≡ word_in l.text) × Gathers l.text l.numbers l.at l.count
+abbrev pub invariant-loop-reader : goal.invariant-loop-reader
+invariant-loop-reader l = record { text : l.reader.src.now ≡ l.text; gathers : Gathers l.text l.numbers l.reader.at }
 
-abbrev pub decreases-loop-at : goal.decreases-loop-at
-decreases-loop-at l = length l.text - l.at
+abbrev pub decreases-loop-reader : goal.decreases-loop-reader
+decreases-loop-reader l = length l.text - l.reader.at

@@ -1,29 +1,16 @@
--- The step's answer is put, with the session's number where there is a result. Assumes nothing.
-use mathlib.Core.Path.{◌≡◌, ap, ◌∙◌}
-use Prim.Native.Nat.{ℕ}
-use lib.Dec.{eqb}
-use Rattle.model.specs.Step.{step}
-use Rattle.state.specs.View.{view}
+-- The step's answer is put, with the session's number where one was opened. Assumes nothing.
+use mathlib.Core.Path.{refl}
+use Rattle.state.specs.Results.{told_of}
 use Rattle.script.proofs.obey_command.Goals as goal
-use Rattle.script.proofs.obey_command.Goals.{After-is_done-ok, After-number_of-number}
 
--- the answer's number, and whether it is 0
-number_is : (c : After-number_of-number) → c.number_of-number.result ≡ (step (view c.args.state.now) c.args.c c.args.list.now).answer
-number_is c = c.number_of-number.ensures ∙ c.step-o.ensures.answer
+pub returns-in-Ok-Some : goal.returns-in-Ok-Some
+unfolding told_of
+returns-in-Ok-Some c = rw (← c.step.ensures, c.in-Ok-Some.is, c.in-Ok-Some.field-0-is) (record { puts = record { text = c.put_answer.ensures.text; ok = c.put_answer.ensures.ok }; state = refl })
 
-ok-is : (c : After-is_done-ok) → c.is_done-ok.result ≡ eqb (step (view c.args.state.now) c.args.c c.args.list.now).answer 0
-ok-is c = c.is_done-ok.ensures ∙ ap (λ (n : ℕ). eqb n 0) c.step-o.ensures.answer
+pub returns-in-Ok-None : goal.returns-in-Ok-None
+unfolding told_of
+returns-in-Ok-None c = rw (← c.step.ensures, c.in-Ok-None.is, c.in-Ok-None.field-0-is) (record { puts = record { text = c.put_answer-in-Ok-None.ensures.text; ok = c.put_answer-in-Ok-None.ensures.ok }; state = refl })
 
-pub returns-then-o : goal.returns-then-o
-returns-then-o c =
-    record {
-      puts = record { text = rw (← number_is (goal.at.returns-then-o c).After-number_of-number, ← c.step-o.ensures.results, c.if-o.true) c.answer_text-len.ensures; ok = ok-is (goal.at.returns-then-o c).After-is_done-ok };
-      state = c.step-o.ensures.after;
-    }
-
-pub returns : goal.returns
-returns c =
-    record {
-      puts = record { text = rw (← number_is (goal.at.returns c).After-number_of-number, ← c.step-o.ensures.results, c.if-o.false) c.answer_text-len-2.ensures; ok = ok-is (goal.at.returns c).After-is_done-ok };
-      state = c.step-o.ensures.after;
-    }
+pub returns-in-Err : goal.returns-in-Err
+unfolding told_of
+returns-in-Err c = rw (← c.step.ensures, c.in-Err.is) (record { puts = record { text = c.put_answer-in-Err.ensures.text; ok = c.put_answer-in-Err.ensures.ok }; state = refl })

@@ -8,12 +8,12 @@ use Rattle.textlines.proofs.Laws.{part_within, part_front, part_none}
 use Rattle.textlines.proofs.part_at.Goals as goal
 
 pub slice_bounds-result-end : goal.slice_bounds-result-end
-slice_bounds-result-end c = let h : c.before.before.before.args.at ≤ length c.before.before.before.args.s.now = omega arith in omega (arith, c.end_of-end.ensures, part_within c.before.before.before.args.stop c.before.before.before.args.s.now c.before.before.before.args.at h)
+slice_bounds-result-end c = omega (arith, c.end_of-end.ensures, part_within c.args.stop c.args.s.now c.args.at c.if-at-s.true)
 
 pub returns-then-at-s : goal.returns-then-at-s
 returns-then-at-s c =
-    let e : c.before.end_of-end.result - c.before.before.before.before.args.at ≡ length (part_at c.before.before.before.before.args.stop c.before.before.before.before.args.s.now c.before.before.before.before.args.at) = omega (arith, c.before.end_of-end.ensures) in
-    ap (λ (n : ℕ). take n (drop c.before.before.before.before.args.at c.before.before.before.before.args.s.now)) e ∙ part_front c.before.before.before.before.args.stop c.before.before.before.before.args.s.now c.before.before.before.before.args.at
+    let e : c.end_of-end.result - c.args.at ≡ length (part_at c.args.stop c.args.s.now c.args.at) = omega (arith, c.end_of-end.ensures) in
+    ap (λ (n : ℕ). take n (drop c.args.at c.args.s.now)) e ∙ part_front c.args.stop c.args.s.now c.args.at
 
 pub returns-else-at-s : goal.returns-else-at-s
-returns-else-at-s c = let h : length c.before.before.before.args.s.now ≤ c.before.before.before.args.at = omega arith in sym (part_none c.before.before.before.args.stop c.before.before.before.args.s.now c.before.before.before.args.at h)
+returns-else-at-s c = let h : length c.args.s.now ≤ c.args.at = omega arith in sym (part_none c.args.stop c.args.s.now c.args.at h)

@@ -1,18 +1,12 @@
--- More numbers may follow where the word has a list. Assumes nothing.
-use mathlib.Core.Bool.{true, false}
-use mathlib.Core.Path.{◌≡◌, sym, ◌∙◌}
-use Rattle.words.specs.ScriptWords.{word_of, takes}
-use Rattle.words.proofs.Tables.{fits}
+-- What follows the word, by its row. Assumes nothing.
+use mathlib.Core.Path.{ap}
+use Rattle.words.specs.ScriptWords.{Word, fitting, takes}
 use Rattle.words.proofs.takes.Goals as goal
 
-pub returns-then-has_list : goal.returns-then-has_list
+pub returns-in-Exactly : goal.returns-in-Exactly
 unfolding takes
-returns-then-has_list c =
-    let listed : (word_of c.args.k).listed ≡ true = sym c.has_list.ensures ∙ c.if-has_list.true in
-    rw c.before_list-before.ensures (sym (fits (word_of c.args.k) c.args.n true listed))
+returns-in-Exactly c = rw c.in-Exactly.is at (ap (λ (w : Word). fitting w c.args.n) c.row_of.ensures)
 
-pub returns-else-has_list : goal.returns-else-has_list
+pub returns-in-ThenRoles : goal.returns-in-ThenRoles
 unfolding takes
-returns-else-has_list c =
-    let listed : (word_of c.args.k).listed ≡ false = sym c.has_list.ensures ∙ c.if-has_list.false in
-    rw c.before_list-before.ensures (sym (fits (word_of c.args.k) c.args.n false listed))
+returns-in-ThenRoles c = rw c.in-ThenRoles.is at (ap (λ (w : Word). fitting w c.args.n) c.row_of.ensures)

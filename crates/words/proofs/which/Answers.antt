@@ -1,42 +1,23 @@
--- The words up to the place are passed, and the rest is searched. Assumes nothing.
-use borrow.Author.Rules.{rules}
-use mathlib.Core.List.{List, []}
-use mathlib.Core.Path.{◌≡◌, refl, sym, ap, ◌∙◌}
-use Prim.Native.Nat.{ℕ, ◌+◌}
-use native.Mathlib.Omega.{arith}
-use lib.ListN.{get_or, drop}
-use Rattle.words.specs.Bytes.{same}
-use Rattle.words.specs.ScriptWords.{words, word_count, spelling, place_in, which}
-use Rattle.words.specs.Rows.{row, letters}
-use Rattle.words.proofs.Laws.{found, passed, none_left, which-starts}
-use Rattle.words.proofs.Rows.{table-letters}
+-- The first row with the letters of the text. Assumes nothing.
+use mathlib.Core.Path.{◌≡◌, ap, ◌∙◌}
+use Rattle.std.proofs.Common.{Option, Some, None, rules, tests}
+use Rattle.std.specs.Option.{option_map, MatchOption, IsSomeAnd}
+use Rattle.std.specs.Str.{bytes_eq}
+use Rattle.std.proofs.lemmas.Iterator.{YieldsList-from_slice}
+use Rattle.std.proofs.lemmas.Iterator.Search.{find_from_yields_List}
+use Rattle.words.specs.declared.Row.{Row}
+use Rattle.words.specs.declared.Word.{Word}
+use Rattle.words.proofs.Numbers.{found}
 use Rattle.words.proofs.which.Goals as goal
-use Rattle.words.proofs.which.Goals.{After-is_word}
+use denote.Ref.{Bor}
 
-pub loop-k-init : goal.loop-k-init
-unfolding words row
-loop-k-init c = (omega arith, refl, let e = which-starts c.args.text.now in omega (arith, e))
-
--- what the comparison with a row says of its word
-compared : (c : After-is_word) → c.is_word.result ≡ same c.args.text.now (spelling c.loop-k.k)
-compared c =
-    let text = c.args.text.now in
-    let k = c.loop-k.k in
-    let e = ap (λ (rows : List (List ℕ)). same text (letters (get_or rows k []))) c.loop-k.invariant.1 in
-    c.is_word.ensures ∙ e ∙ ap (same text) (table-letters k c.loop-k-test.true)
-
-pub returns-then-is_word : goal.returns-then-is_word
-returns-then-is_word c =
-    let e = found c.args.text.now c.loop-k.k c.loop-k-test.true (sym (compared (goal.at.returns-then-is_word c).After-is_word) ∙ c.if-is_word.true) in
-    omega (arith, e, c.loop-k.invariant.2)
-
-pub loop-k-preserved : goal.loop-k-preserved
-loop-k-preserved c =
-    let e = passed c.args.text.now c.loop-k.k c.loop-k-test.true (sym (compared (goal.at.loop-k-preserved c).After-is_word) ∙ c.if-is_word.false) in
-    (search rules, c.loop-k.invariant.1, omega (arith, e, c.loop-k.invariant.2))
+-- the word of the row that was found
+mapped : (P : Bor Row → Word → Type 0) (x : Option (Bor Row)) (y : Option Word) → MatchOption x (y ≡ None) (λ r. IsSomeAnd y (P r)) → ((r : Bor Row) (w : Word) → P r w → w ≡ r.now.0) → y ≡ option_map (λ (r : Row). r.0) (option_map (λ (r : Bor Row). r.now) x)
+mapped P None y h k = h
+mapped P (Some r) (Some w) h k = ap Some (k r w h)
+mapped P (Some r) None h k = absurd h
 
 pub returns : goal.returns
 returns c =
-    let z : c.loop-k.k ≡ word_count = omega arith in
-    let e : which c.args.text.now ≡ word_count + place_in (drop word_count words) c.args.text.now = rw z at c.loop-k.invariant.2 in
-    omega (arith, e, none_left c.args.text.now)
+    let first = find_from_yields_List (λ (r : Row). bytes_eq c.args.text.now r.1.now) _ _ c.find.result c.find.ensures.ran (YieldsList-from_slice c.rows.result.now cc) (λ x b q k. search (rules, tests)) in
+    mapped _ c.find.result c.map.result c.map.ensures.cases (λ r w p. search (rules, tests)) ∙ ap (option_map (λ (r : Row). r.0)) first ∙ found c.args.text.now c.rows.result.now c.rows.ensures.rows c.rows.ensures.in_order
