@@ -1,8 +1,9 @@
 // The bench: reads a script from standard input and prints what the script prints. Where it cannot read all of it or print all of it, it says so on
 // standard error. What is handed to the output is proved; that the system reads and writes what it is asked to is assumed.
+// Kept (6): no heap: what is read and written stands in arrays of fixed size, of which the front that is used is lent as a slice.
 #![tactic(auto)]
 
-ghost use Rattle.std.specs.Prelude.{◌≡◌, ◌+◌, ◌^◌, ◌<◌, ◌≤◌, length, IfOk, OnOk, OnErr};
+ghost use Rattle.std.specs.Prelude.{◌≡◌, ◌≤◌, length, IfOk, OnOk, OnErr};
 ghost use Rattle.std.specs.Io.KnownBytes.{Appends};
 ghost use Rattle.streams.specs.Writing.{Next, WritesFront};
 ghost use Rattle.script.specs.Script.{run_script};
@@ -12,24 +13,14 @@ use state::PLACES;
 use std::io;
 use std::io::Write;
 use std::process::ExitCode;
+use streams::{Piece, Text};
 
-// Writes the next bytes of what the script prints, of which `count` were written, and counts them. Nothing else writes or counts.
-fn write_next<W: Write>(
-    out: &mut W,
-    script: &[u8],
-    count: &mut usize,
-    bytes: &[u8],
-) -> io::Result<()>
-    requires next { Next (run_script script.now) count.old bytes.now }
-    requires bytes_bound { count.old + length bytes.now < 2 ^ 64 }
-    ensures counts { OnOk result (count.new ≡ count.old + length bytes.now) }
-    ensures writes { OnOk result (Appends (W.contents out.old) (W.contents out.new) bytes.now) }
-    ensures front { OnErr result (WritesFront bytes.now (W.contents out.old) (W.contents out.new)) }
-    ensures uncounted { OnErr result (count.new ≡ count.old) }
-{
-    streams::write_whole(out, bytes)?;
-    *count += bytes.len();
-    Ok(())
+// What the script prints, from the empty policy.
+#[derive(Drop)]
+struct Script<'a>(&'a [u8]);
+
+impl Text for Script<'_> {
+    ghost IsNext = { λ s count bytes. Next (run_script s.0.now) count bytes };
 }
 
 // Prints what the script prints, from its first byte to its last one, and says how many bytes that were. Where a write fails, only a front of it is
@@ -47,29 +38,28 @@ fn print_all<W: Write>(out: &mut W, script: &[u8]) -> io::Result<usize>
     while !run.over {
         let piece = program::next(script, &mut state, run, &mut buf);
         let len = piece.len;
-        write_next(out, script, &mut count, &buf[..len])?;
+        let next = Piece {
+            of: Script(script),
+            from: count,
+            bytes: &buf[..len],
+        };
+        count = streams::write_next(out, next)?;
         run = piece.run;
     }
     Ok(count)
-}
-
-// Says on standard error what failed.
-fn say(rt: &impl Eprint, what: &str) -> ExitCode {
-    let _ = rt.eprintln(what);
-    ExitCode::FAILURE
 }
 
 // One byte more than the longest script is asked for, to tell a longer one.
 fn main(rt: HostRuntime) -> ExitCode {
     let mut bytes = [0u8; LONGEST + 1];
     let Ok(len) = streams::read_whole(&mut rt.stdin(), &mut bytes) else {
-        return say(
+        return streams::say(
             &rt,
             "bench: nothing is answered: the script could not be read whole",
         );
     };
     match print_all(&mut rt.stdout(), &bytes[..len]) {
         Ok(_) => ExitCode::SUCCESS,
-        Err(_) => say(&rt, "bench: not all was printed: a write failed"),
+        Err(_) => streams::say(&rt, "bench: not all was printed: a write failed"),
     }
 }

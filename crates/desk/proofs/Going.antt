@@ -9,12 +9,15 @@ use lib.ListN.{length, take, length-append}
 use lib.Seq.{length-take-le}
 use Rattle.std.specs.declared.option.Option.{Option}
 use Rattle.std.specs.Io.KnownBytes.{Appends}
-use Rattle.streams.specs.Counts.{IsPrefixLen}
-use Rattle.numbers.specs.Answers.{number_of}
-use Rattle.numbers.specs.declared.Answer.{Answer}
+use Rattle.std.proofs.Common.{Result, Ok, Err}
+use Rattle.std.specs.Prelude.{MatchResult}
+use Rattle.numbers.specs.Answers.{number_of, refusal_number}
+use Rattle.numbers.specs.declared.Refusal.{Refusal}
+use Rattle.numbers.proofs.Answers.{refused-not-0}
 use Rattle.model.specs.Model.{Model, empty}
 use Rattle.model.specs.Sheet.{refused}
 use Rattle.state.specs.View.{view, told}
+use Rattle.state.specs.Results.{given_number}
 use Rattle.text.specs.Putting.{Put}
 use Rattle.text.proofs.Putting.{put_front, put-length}
 use Rattle.decimal.specs.Decimal.{decimal, numbered}
@@ -95,17 +98,13 @@ module _ (file script l : List ℕ) (r : Run) (before after : List ℕ) (x : Pri
       }
 
 -- A load into the empty policy is done and gives what the state holds, or it is refused.
-pub given : (file l : List ℕ) (a : Answer) → Loads empty file (told a l) → number_of a ≡ 0 → Gives file (view l)
+pub given : (file l : List ℕ) → Loads empty file (told (Ok tt) l) → Gives file (view l)
 unfolding told
-given file l a x e = subst (λ (n : ℕ). Loads empty file (record { answer = n; results = []; after = view l })) e x
+given file l x = x
 
-pub denied : (file l : List ℕ) (a : Answer) → Loads empty file (told a l) → (number_of a ≡ 0 → ⊥) → Loads empty file (refused (number_of a) empty)
+pub denied : (file l : List ℕ) (r : Refusal) → Loads empty file (told (Err r) l) → Loads empty file (refused (refusal_number r) empty)
 unfolding told
-denied file l a x h = subst (λ (m : Model). Loads empty file (refused (number_of a) m)) (load-refused empty file (told a l) x h) x
-
--- a place in a buffer counts the bytes before it
-pub counts : (n : ℕ) (l : List ℕ) → n ≤ length l → IsPrefixLen n l
-counts n l h = (h, sym (length-take-le n l h))
+denied file l r x = subst (λ (m : Model). Loads empty file (refused (refusal_number r) m)) (load-refused empty file (told (Err r) l) x (refused-not-0 r)) x
 
 -- an answer with no results is a short line
 pub number_short : (n : ℕ) → length (answer_text n []) ≤ 8
@@ -117,13 +116,17 @@ pub record Whole (file script after : List ℕ) (n : ℕ) : Type 0 where
   pub within : n ≤ length after
   pub saved : Saved file script (take n after)
 
-pub saved-whole : (file script : List ℕ) (m : Model) → Leaves file script m → (out after : List ℕ) (a n : ℕ) → a ≡ 0 → Saves m out after a n → Whole file script after n
-saved-whole file script m l out after a n e (inl x) = absurd (omega (arith, x.answered, e))
-saved-whole file script m l out after a n e (inr x) =
+pub saved-whole : (F : Type 0) (file script : List ℕ) (m : Model) → Leaves file script m → (out after : List ℕ) (r : Result ℕ Refusal) (n : ℕ) → MatchResult r (λ a. ◌≡◌ {A = Result ℕ F} (Ok n) (Ok a)) (λ _. ⊥) → Saves m out after (number_of r) (given_number r) → Whole file script after n
+saved-whole F file script m l out after (Err r) n e s = absurd e
+saved-whole F file script m l out after (Ok a) n e (inl x) = absurd (omega (arith, x.answered))
+saved-whole F file script m l out after (Ok a) n e (inr x) =
     record {
-      within = omega (arith, x.long, x.fits, put-length put);
+      within = omega (arith, same, x.long, x.fits, put-length put);
       saved = record { policy = l.policy; gives = l.gives; is = put_front put x.fits ∙ ap encode l.left };
     }
   where
+    same : n ≡ a
+    same = ap (λ (y : Result ℕ F). elim y [ Ok k ↦ k | Err _ ↦ 0 ]) e
+
     put : Put out 0 (encode m) after n
-    put = record { holds = x.stored; ends = omega (arith, x.long, x.fits) }
+    put = record { holds = x.stored; ends = omega (arith, same, x.long, x.fits) }

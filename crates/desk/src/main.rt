@@ -1,163 +1,140 @@
 // The desk: loads the policy file that its first argument names, runs the script from standard input on it, and prints the answer lines. Where a
 // second argument is given, saves under that name what it ends with. What it prints and saves is proved; that the system reads and writes what it is
 // asked to is assumed.
+// Kept (6): fixed memory: what is read and written stands in arrays of fixed size, of which the front that is used is lent as a slice.
 #![tactic(auto)]
 
+mod fault;
 mod saving;
 
-ghost use Rattle.std.specs.Prelude.{◌≡◌, ◌+◌, ◌^◌, ◌<◌, ◌≤◌, length, IfOk, OnOk, OnErr};
-ghost use Rattle.std.specs.Io.KnownBytes.{Appends};
+ghost use Rattle.std.specs.Prelude.{◌≡◌, ◌≤◌, length, IfOk, OnOk, OnErr};
 ghost use Rattle.model.specs.Model.{empty};
 ghost use Rattle.model.specs.Sheet.{refused};
-ghost use Rattle.numbers.specs.Answers.{number_of};
+ghost use Rattle.numbers.specs.Answers.{refusal_number};
 ghost use Rattle.state.specs.View.{view};
 ghost use Rattle.policyform.specs.Promises.{Loads};
 ghost use Rattle.streams.specs.Counts.{IsPrefixLen};
-ghost use Rattle.streams.specs.Writing.{WritesFront};
 ghost use Rattle.desk.specs.Desk.{Gives, Next, Prints, PrintsTo, PrintsFront, Leaves, Refused};
 
-use numbers::Answer;
+use fault::Fault;
+use numbers::Refusal;
+use policyfile::LONGEST_FILE;
 use program::LONGEST;
 use state::PLACES;
 use std::env::{Env, FillError};
-use std::fmt::Display;
 use std::io::Write;
 use std::process::ExitCode;
 use std::random::RandomSource;
 use std::rt::Files;
 use std::{fs, io, str};
-
-// The longest policy file, in bytes.
-const LONGEST_FILE: usize = 36048;
+use streams::{Piece, Text};
 
 // No name of a file is longer than this, in bytes.
 const LONGEST_NAME: usize = 4096;
 
-const TOO_LONG: &str = "File name too long";
+// What the two names are called.
+const OLD: &str = "the policy file's name";
 
-const USAGE: &str = "desk: usage: desk POLICY [NEW] < SCRIPT";
+const NEW: &str = "the name to save under";
 
-// Writes the next bytes of what the script prints from the policy of the file on, of which `count` were written, and counts them. Nothing else
-// writes or counts.
-fn write_next<W: Write>(
-    out: &mut W,
-    file: &[u8],
-    script: &[u8],
-    count: &mut usize,
-    bytes: &[u8],
-) -> io::Result<()>
-    requires next { Next file.now script.now count.old bytes.now }
-    requires bytes_bound { count.old + length bytes.now < 2 ^ 64 }
-    ensures counts { OnOk result (count.new ≡ count.old + length bytes.now) }
-    ensures writes { OnOk result (Appends (W.contents out.old) (W.contents out.new) bytes.now) }
-    ensures front { OnErr result (WritesFront bytes.now (W.contents out.old) (W.contents out.new)) }
-    ensures uncounted { OnErr result (count.new ≡ count.old) }
-{
-    streams::write_whole(out, bytes)?;
-    *count += bytes.len();
-    Ok(())
+// A policy file, and the script that is run on the policy that it gives.
+#[derive(Clone, Copy)]
+struct Job<'a> {
+    file: &'a [u8],
+    script: &'a [u8],
+}
+
+impl Text for Job<'_> {
+    ghost IsNext = { λ j count bytes. Next j.file.now j.script.now count bytes };
+}
+
+// A policy file that does not load, of which the answer's number is printed.
+#[derive(Drop)]
+struct BadFile<'a>(&'a [u8]);
+
+impl Text for BadFile<'_> {
+    ghost IsNext = { λ b count bytes. Refused b.0.now bytes };
 }
 
 // Runs the script on the state, which holds the policy of the file, and prints what the script prints, from its first byte to its last one. Says how
 // many bytes that were. Where a write fails, only a front of it is printed.
-fn print_all<W: Write>(
-    out: &mut W,
-    file: &[u8],
-    script: &[u8],
-    state: &mut [u64; PLACES],
-) -> io::Result<usize>
-    requires gives { Gives file.now (view state.old) }
-    requires script_len_bound { length script.now ≤ 32769 }
-    ensures prints { IfOk result (λ count. Prints file.now script.now count) }
-    ensures writes { OnOk result (PrintsTo file.now script.now (W.contents out.old) (W.contents out.new)) }
-    ensures front { OnErr result (PrintsFront file.now script.now (W.contents out.old) (W.contents out.new)) }
-    ensures leaves { OnOk result (Leaves file.now script.now (view state.new)) }
+// Kept (2): bench prints so from the empty policy; a public function for both would have to suppose what the state holds, and none supposes anything.
+// Not inlined: its buffer would else stand on the stack beside those of the save that follows.
+#[inline(never)]
+fn print_all<W: Write>(out: &mut W, job: Job, state: &mut [u64; PLACES]) -> io::Result<usize>
+    requires gives { Gives job.file.now (view state.old) }
+    requires script_len_bound { length job.script.now ≤ 32769 }
+    ensures prints { IfOk result (λ count. Prints job.entry.file.now job.entry.script.now count) }
+    ensures writes { OnOk result (PrintsTo job.entry.file.now job.entry.script.now (W.contents out.old) (W.contents out.new)) }
+    ensures front { OnErr result (PrintsFront job.entry.file.now job.entry.script.now (W.contents out.old) (W.contents out.new)) }
+    ensures leaves { OnOk result (Leaves job.entry.file.now job.entry.script.now (view state.new)) }
 {
     let mut buf = [0u8; 32768];
     let mut run = program::at_first();
     let mut count: usize = 0;
     while !run.over {
-        let piece = program::next(script, state, run, &mut buf);
+        let piece = program::next(job.script, state, run, &mut buf);
         let len = piece.len;
-        write_next(out, file, script, &mut count, &buf[..len])?;
+        let next = Piece {
+            of: job,
+            from: count,
+            bytes: &buf[..len],
+        };
+        count = streams::write_next(out, next)?;
         run = piece.run;
     }
     Ok(count)
 }
 
-// Writes the answer's number, where the file does not load.
-fn write_refusal<W: Write>(out: &mut W, file: &[u8], bytes: &[u8]) -> io::Result<()>
-    requires { Refused file.now bytes.now }
-    ensures ok { OnOk result (Appends (W.contents out.old) (W.contents out.new) bytes.now) }
-    ensures front { OnErr result (WritesFront bytes.now (W.contents out.old) (W.contents out.new)) }
+// Prints the refusal's number, and runs nothing.
+fn refuse<W: Write>(out: &mut W, file: &[u8], refusal: Refusal) -> io::Result<usize>
+    requires { Loads empty file.now (refused (refusal_number refusal) empty) }
 {
-    streams::write_whole(out, bytes)
-}
-
-// Prints the answer's number, and runs nothing.
-fn refuse<W: Write>(out: &mut W, file: &[u8], answer: Answer) -> io::Result<()>
-    requires loads { Loads empty file.now (refused (number_of answer) empty) }
-    requires fact { number_of answer ≡ 0 → ⊥ }
-{
-    let none = [0u16; 1];
     let mut line = [0u8; 8];
-    let len = script::answer_text(&mut line, numbers::number_of(answer), &none[..0]);
-    write_refusal(out, file, &line[..len])
-}
-
-// Says on standard error what failed.
-fn say<R: Eprint, D: Display + Drop>(rt: &R, what: D) -> ExitCode {
-    let _ = rt.eprintln(what);
-    ExitCode::FAILURE
+    let len = script::answer_text(&mut line, numbers::number_of(Err(refusal)), &[]);
+    let number = Piece {
+        of: BadFile(file),
+        from: 0,
+        bytes: &line[..len],
+    };
+    streams::write_next(out, number)
 }
 
 // Runs the script on the policy that the file gives, and saves what it ends with where a name is given for that.
-fn run_script<R: Input + Print + Eprint + Alloc + Files + RandomSource>(
+fn run_script<'a, R: Input + Print + Alloc + Files + RandomSource>(
     rt: &R,
     file: &[u8],
     state: &mut [u64; PLACES],
-    name: Option<&str>,
-) -> ExitCode
+    name: Option<&'a str>,
+) -> Result<(), Fault<'a>>
     requires { Gives file.now (view state.old) }
 {
     // One byte more than the longest script is asked for, to tell a longer one.
     let mut bytes = [0u8; LONGEST + 1];
-    let Ok(len) = streams::read_whole(&mut rt.reader(), &mut bytes) else {
-        return say(
-            rt,
-            "desk: nothing is answered: the script could not be read whole",
-        );
-    };
+    let len = streams::read_whole(&mut rt.reader(), &mut bytes).map_err(|_| Fault::Unread)?;
     let script = &bytes[..len];
-    if print_all(&mut io::writer(rt), file, script, state).is_err() {
-        return say(
-            rt,
-            "desk: not all was printed, and nothing is saved: a write failed",
-        );
-    }
+    let job = Job { file, script };
+    print_all(&mut io::writer(rt), job, state).map_err(|_| Fault::Unprinted)?;
     match name {
-        Some(name) => saving::save_state(rt, file, script, state, name),
-        None => ExitCode::SUCCESS,
+        Some(name) => saving::save_state(rt, job, state, name),
+        None => Ok(()),
     }
 }
 
 // Loads the file, and runs the script where it was loaded.
-fn work<R: Input + Print + Eprint + Alloc + Files + RandomSource>(
+fn work<'a, R: Input + Print + Alloc + Files + RandomSource>(
     rt: &R,
     file: &[u8],
-    name: Option<&str>,
-) -> ExitCode {
+    name: Option<&'a str>,
+) -> Result<(), Fault<'a>> {
     let mut state = [0u64; PLACES];
     state::stores::start(&mut state);
-    let answer = policyfile::load(&mut state, file);
-    if numbers::is_done(answer) {
-        run_script(rt, file, &mut state, name)
-    } else {
-        let _ = refuse(&mut io::writer(rt), file, answer);
-        say(
-            rt,
-            "desk: no line is answered: the policy file does not load",
-        )
+    match policyfile::load(&mut state, file) {
+        Ok(()) => run_script(rt, file, &mut state, name),
+        Err(refusal) => {
+            let _ = refuse(&mut io::writer(rt), file, refusal);
+            Err(Fault::Unloaded)
+        }
     }
 }
 
@@ -166,64 +143,56 @@ fn read_policy(rt: &impl Files, path: &str, file: &mut [u8]) -> io::Result<usize
     ensures count { IfOk result (λ n. IsPrefixLen n file.new) }
     ensures length { length file.new ≡ length file.old }
 {
-    if path.is_empty() || path == "-" {
+    if matches!(path, "" | "-") {
         return Ok(file.len().min(16));
     }
     let mut opened = fs::open(rt, path)?;
     streams::read_whole(&mut opened, file)
 }
 
-// Says why a name could not be taken.
-fn refuse_name<R: Eprint>(rt: &R, which: &str, why: &str) -> ExitCode {
-    say(rt, format_args!("desk: {which}: {why}"))
+// The argument of that number, which is put at the front of the buffer, where there is one.
+fn argument<'a>(
+    rt: &impl Env,
+    number: usize,
+    which: &'static str,
+    buf: &'a mut [u8],
+) -> Result<Option<&'a [u8]>, Fault<'a>> {
+    match rt.arg(number, buf) {
+        Ok(len) => Ok(Some(&buf[..len])),
+        Err(FillError::NotPresent) => Ok(None),
+        Err(FillError::TooLong) => Err(Fault::Name(which, "File name too long")),
+    }
 }
 
-// Loads the file of the first name, runs the script on it, and saves what is left under the second name, where there is one. A name is text.
-fn start<R: Input + Print + Eprint + Alloc + Files + RandomSource>(
+// A name is text.
+fn named<'a>(which: &'static str, bytes: &'a [u8]) -> Result<&'a str, Fault<'a>> {
+    str::from_utf8(bytes).map_err(|_| Fault::Name(which, "it is no text"))
+}
+
+// Loads the file of the first name, runs the script on it, and saves what is left under the second name, where there is one.
+fn start<'a, R: Env + Input + Print + Alloc + Files + RandomSource>(
     rt: &R,
-    path: &[u8],
-    name: Option<&[u8]>,
-) -> ExitCode {
-    let Ok(path) = str::from_utf8(path) else {
-        return refuse_name(rt, "the policy file's name", "it is no text");
-    };
-    let name = match name {
-        None => None,
-        Some(bytes) => match str::from_utf8(bytes) {
-            Ok(text) => Some(text),
-            Err(_) => return refuse_name(rt, "the name to save under", "it is no text"),
-        },
-    };
+    path: &'a mut [u8],
+    name: &'a mut [u8],
+) -> Result<(), Fault<'a>> {
+    let path = argument(rt, 1, OLD, path)?.ok_or(Fault::Usage)?;
+    let name = argument(rt, 2, NEW, name)?;
+    if !matches!(rt.arg(3, &mut []), Err(FillError::NotPresent)) {
+        return Err(Fault::Usage);
+    }
+    let path = named(OLD, path)?;
+    let name = name.map(|bytes| named(NEW, bytes)).transpose()?;
     // One byte more than the longest file is asked for, to tell a longer one, which is not of the form.
     let mut file = [0u8; LONGEST_FILE + 1];
-    match read_policy(rt, path, &mut file) {
-        Ok(len) => work(rt, &file[..len], name),
-        Err(e) => say(rt, format_args!("{path}: {e}")),
-    }
+    let len = read_policy(rt, path, &mut file).map_err(|e| Fault::File(path, e))?;
+    work(rt, &file[..len], name)
 }
 
 fn main(rt: HostRuntime) -> ExitCode {
     let mut path = [0u8; LONGEST_NAME];
-    let path_len = match rt.arg(1, &mut path) {
-        Ok(len) => len,
-        Err(FillError::NotPresent) => return say(&rt, USAGE),
-        Err(FillError::TooLong) => {
-            return refuse_name(&rt, "the policy file's name", TOO_LONG);
-        }
-    };
     let mut name = [0u8; LONGEST_NAME];
-    let name_len = match rt.arg(2, &mut name) {
-        Ok(len) => Some(len),
-        Err(FillError::NotPresent) => None,
-        Err(FillError::TooLong) => {
-            return refuse_name(&rt, "the name to save under", TOO_LONG);
-        }
-    };
-    match (rt.arg(3, &mut []), name_len) {
-        (Err(FillError::NotPresent), None) => start(&rt, &path[..path_len], None),
-        (Err(FillError::NotPresent), Some(len)) => {
-            start(&rt, &path[..path_len], Some(&name[..len]))
-        }
-        _ => say(&rt, USAGE),
+    match start(&rt, &mut path, &mut name) {
+        Ok(()) => ExitCode::SUCCESS,
+        Err(fault) => streams::say(&rt, fault),
     }
 }

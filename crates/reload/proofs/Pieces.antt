@@ -1,5 +1,5 @@
 -- The two pieces that are printed for a file: the answer's line, and the file again. Assumes nothing.
-use mathlib.Core.Bool.{Bool, true, false}
+use mathlib.Core.Bool.{true, false}
 use mathlib.Core.List.{List, [], ◌∷◌, ◌++◌, append-nil}
 use mathlib.Core.Logic.{inl, inr}
 use mathlib.Core.Path.{◌≡◌, refl, sym, ap, ap₂, subst, ◌∙◌}
@@ -10,10 +10,14 @@ use lib.ListN.{length, take, length-append, length-take}
 use Rattle.streams.specs.Writing.{WritesFront}
 use Rattle.streams.proofs.Writing.{writes_none, writes_front}
 use lib.Seq.{take_at, drop_at, take-length, length-take-le}
-use borrow.Author.Tests.{eqb-true}
-use Rattle.numbers.specs.Answers.{number_of}
-use Rattle.numbers.specs.declared.Answer.{Answer}
+use borrow.Author.Tests.{ne_eqb}
+use Rattle.std.proofs.lemmas.Bool.{true≢false}
+use Rattle.std.proofs.Common.{Result, Ok, Err, is_err, IsOk}
+use Rattle.numbers.specs.Answers.{Answer, number_of, refusal_number}
+use Rattle.numbers.specs.declared.Refusal.{Refusal}
+use Rattle.numbers.proofs.Answers.{refused-not-0}
 use Rattle.state.specs.View.{view, told}
+use Rattle.state.specs.Results.{given_number}
 use Rattle.std.specs.declared.option.Option.{Option}
 use Rattle.std.specs.Io.KnownBytes.{Appends}
 use Rattle.std.proofs.KnownBytes.{Appends-trans}
@@ -25,7 +29,7 @@ use Rattle.decimal.specs.Decimal.{decimal}
 use Rattle.decimal.proofs.Laws.{decimal-short}
 use Rattle.policyform.specs.Encode.{encode}
 use Rattle.policyform.specs.Promises.{Loads, Saves}
-use Rattle.policyfile.proofs.Laws.{loads-one, loaded, sound-size}
+use Rattle.policyfile.proofs.Laws.{loads-one, loaded, sound-size, save-fits}
 use Rattle.reload.specs.Reloading.{answer_line, reloaded, NextFor, AllFor, PrintsFor, FrontFor}
 
 -- what is printed, in its two cases
@@ -95,6 +99,20 @@ saved-again file t l e out after a n room (inr x) =
     put : Put out 0 (encode t.after) after n
     put = record { holds = x.stored; ends = omega (arith, x.long, x.fits) }
 
+-- and there is room for it
+pub saved-done : (file : List ℕ) (t : Told) → Loads empty file t → t.answer ≡ 0 → (out after : List ℕ) (r : Result ℕ Refusal) → 36048 ≤ length out → Saves t.after out after (number_of r) (given_number r) → IsOk r
+saved-done file t l e out after (Ok n) room s = refl
+saved-done file t l e out after (Err r) room s = absurd (refused-not-0 r (save-fits t.after out after (refusal_number r) 0 (loaded empty file t l e).0 room s))
+
+-- what is done has the number 0, and what is refused has another
+done-0 : (a : Answer) → is_err a ≡ false → number_of a ≡ 0
+done-0 (Ok x) e = refl
+done-0 (Err r) e = absurd (true≢false e)
+
+refused-eqb : (a : Answer) → is_err a ≡ true → eqb (number_of a) 0 ≡ false
+refused-eqb (Ok x) e = absurd (true≢false (sym e))
+refused-eqb (Err r) e = ne_eqb _ _ (refused-not-0 r)
+
 -- The file was loaded into the empty state, which told this answer and left this state, and the answer's line was put.
 pub record Answered (file state line after : List ℕ) (a : Answer) (len : ℕ) : Type 0 where
   pub loads : Loads empty file (told a state)
@@ -119,46 +137,51 @@ module _ (file state line after : List ℕ) (a : Answer) (len : ℕ) (x : Answer
   pub answer_front : (b c : Option (List ℕ)) → WritesFront (take len after) b c → FrontFor file b c
   answer_front b c f told l = writes_front b b c (reloaded told.answer file) (take len after) 0 (omega arith) (writes_none b (reloaded told.answer file)) (answer_next told l) f
 
-  is_zero : (done : Bool) → done ≡ eqb (number_of a) 0 → done ≡ true → (told a state).answer ≡ 0
-  unfolding told
-  is_zero done e d = eqb-true _ _ (sym e ∙ d)
-
-  is_not : (done : Bool) → done ≡ eqb (number_of a) 0 → done ≡ false → eqb (told a state).answer 0 ≡ false
-  unfolding told
-  is_not done e d = sym e ∙ d
-
   -- where it was not loaded, that is all
-  module _ (done : Bool) (e : done ≡ eqb (number_of a) 0) (no : done ≡ false) (count : ℕ) (counted : count ≡ 0 + length (take len after)) where
-    pub answer_all : AllFor file count
-    answer_all = subst (AllFor file) (sym (line_counted count counted)) (line_all file (told a state) x.loads line after len x.put x.room (is_not done e no))
+  module _ (no : is_err a ≡ true) where
+    is_not : eqb (told a state).answer 0 ≡ false
+    unfolding told
+    is_not = refused-eqb a no
+
+    pub answer_all : (count : ℕ) → count ≡ 0 + length (take len after) → AllFor file count
+    answer_all count counted = subst (AllFor file) (sym (line_counted count counted)) (line_all file (told a state) x.loads line after len x.put x.room is_not)
 
     pub answer_prints : (b c : Option (List ℕ)) → Appends b c (take len after) → PrintsFor file b c
-    answer_prints = line_prints file (told a state) x.loads line after len x.put x.room (is_not done e no)
+    answer_prints = line_prints file (told a state) x.loads line after len x.put x.room is_not
 
   -- where it was, it is saved again
-  module _ (done : Bool) (e : done ≡ eqb (number_of a) 0) (yes : done ≡ true) (count : ℕ) (counted : count ≡ 0 + length (take len after)) (out saved : List ℕ) (answer size : ℕ) (room : 36048 ≤ length out) (s : Saves (view state) out saved answer size) where
-    again : Again file saved size
+  module _ (yes : is_err a ≡ false) (out saved : List ℕ) (r : Result ℕ Refusal) (room : 36048 ≤ length out) (s : Saves (view state) out saved (number_of r) (given_number r)) where
+    is_zero : (told a state).answer ≡ 0
     unfolding told
-    again = saved-again file (told a state) x.loads (is_zero done e yes) out saved answer size room s
+    is_zero = done-0 a yes
 
-    pub saved_within : size ≤ length saved
-    saved_within = again.within
+    save : Saves (told a state).after out saved (number_of r) (given_number r)
+    unfolding told
+    save = s
 
-    pub saved_next : NextFor file count (take size saved)
-    saved_next = subst (λ (n : ℕ). NextFor file n (take size saved)) (sym (line_counted count counted)) (file_next file (told a state) x.loads line after len x.put x.room (is_zero done e yes) (take size saved) again.front)
+    pub saved_fits : IsOk r
+    saved_fits = saved-done file (told a state) x.loads is_zero out saved r room save
 
-    pub saved_all : (last : ℕ) → last ≡ count + length (take size saved) → AllFor file last
-    saved_all last h =
-        let same : last ≡ len + size = omega (arith, h, counted, line_len, length-take-le size saved again.within) in
-        subst (AllFor file) (sym same) (file_all file (told a state) x.loads line after len x.put x.room (is_zero done e yes) size again.size)
+    -- so many bytes of it
+    module _ (size : ℕ) (is : r ≡ Ok size) (count : ℕ) (counts : count ≡ 0 + length (take len after)) where
+      again : Again file saved size
+      again = saved-again file (told a state) x.loads is_zero out saved (number_of r) size room (subst (λ (n : ℕ). Saves (told a state).after out saved (number_of r) n) (ap given_number is) save)
 
-    pub saved_prints : (b c d : Option (List ℕ)) → Appends b c (take len after) → Appends c d (take size saved) → PrintsFor file b d
-    saved_prints = file_prints file (told a state) x.loads line after len x.put x.room (is_zero done e yes) (take size saved) again.front
+      pub saved_next : NextFor file count (take size saved)
+      saved_next = subst (λ (n : ℕ). NextFor file n (take size saved)) (sym (line_counted count counts)) (file_next file (told a state) x.loads line after len x.put x.room is_zero (take size saved) again.front)
 
-    pub saved_front : (b c d : Option (List ℕ)) → Appends b c (take len after) → WritesFront (take size saved) c d → FrontFor file b d
-    saved_front b c d w f told l =
-        let text = reloaded told.answer file in
-        let same : count ≡ length (take len after) = omega (arith, counted) in
-        let first : take len after ≡ take count text = answer_next told l ∙ ap (λ (n : ℕ). take n text) (sym same) in
-        let within : count ≤ length text = omega (arith, same, ap length first, length-take count text) in
-        writes_front b c d text (take size saved) count within (subst (Appends b c) first w) (saved_next told l) f
+      pub saved_all : (last : ℕ) → last ≡ count + length (take size saved) → AllFor file last
+      saved_all last h =
+          let same : last ≡ len + size = omega (arith, h, counts, line_len, length-take-le size saved again.within) in
+          subst (AllFor file) (sym same) (file_all file (told a state) x.loads line after len x.put x.room is_zero size again.size)
+
+      pub saved_prints : (b c d : Option (List ℕ)) → Appends b c (take len after) → Appends c d (take size saved) → PrintsFor file b d
+      saved_prints = file_prints file (told a state) x.loads line after len x.put x.room is_zero (take size saved) again.front
+
+      pub saved_front : (b c d : Option (List ℕ)) → Appends b c (take len after) → WritesFront (take size saved) c d → FrontFor file b d
+      saved_front b c d w f told l =
+          let text = reloaded told.answer file in
+          let same : count ≡ length (take len after) = omega (arith, counts) in
+          let first : take len after ≡ take count text = answer_next told l ∙ ap (λ (n : ℕ). take n text) (sym same) in
+          let within : count ≤ length text = omega (arith, same, ap length first, length-take count text) in
+          writes_front b c d text (take size saved) count within (subst (Appends b c) first w) (saved_next told l) f

@@ -1,19 +1,20 @@
 // Reads a policy file from standard input, loads it into the empty state, and prints the answer's number and, after a 0, the file as it is saved
 // again. Where it cannot read all of it or print all of it, it says so on standard error.
+// Kept (6): no heap: what is read and written stands in arrays of fixed size, of which the front that is used is lent as a slice.
 #![tactic(auto)]
 
-ghost use Rattle.std.specs.Prelude.{◌≡◌, ◌+◌, ◌^◌, ◌<◌, length, IfOk, OnOk, OnErr};
-ghost use Rattle.std.specs.Io.KnownBytes.{Appends};
+ghost use Rattle.std.specs.Prelude.{IfOk, OnOk, OnErr};
 ghost use Rattle.numbers.specs.Answers.{number_of};
 ghost use Rattle.text.specs.Putting.{Put};
-ghost use Rattle.streams.specs.Writing.{WritesFront};
 ghost use Rattle.reload.specs.Reloading.{answer_line, NextFor, AllFor, PrintsFor, FrontFor};
 
 use numbers::Answer;
+use policyfile::LONGEST_FILE;
 use state::PLACES;
 use std::io;
 use std::io::Write;
 use std::process::ExitCode;
+use streams::{Piece, Text};
 
 // Puts the answer's number and LF.
 fn put_answer(line: &mut [u8], answer: Answer) -> usize
@@ -23,18 +24,12 @@ fn put_answer(line: &mut [u8], answer: Answer) -> usize
     text::put(line, last, 10)
 }
 
-// Writes the next bytes of what is printed for the file, of which `count` were written, and counts them. Nothing else writes or counts.
-fn write_next<W: Write>(out: &mut W, file: &[u8], count: &mut usize, bytes: &[u8]) -> io::Result<()>
-    requires next_for { NextFor file.now count.old bytes.now }
-    requires bytes_bound { count.old + length bytes.now < 2 ^ 64 }
-    ensures counts { OnOk result (count.new ≡ count.old + length bytes.now) }
-    ensures writes { OnOk result (Appends (W.contents out.old) (W.contents out.new) bytes.now) }
-    ensures front { OnErr result (WritesFront bytes.now (W.contents out.old) (W.contents out.new)) }
-    ensures uncounted { OnErr result (count.new ≡ count.old) }
-{
-    streams::write_whole(out, bytes)?;
-    *count += bytes.len();
-    Ok(())
+// What is printed for a file.
+#[derive(Drop)]
+struct Reloaded<'a>(&'a [u8]);
+
+impl Text for Reloaded<'_> {
+    ghost IsNext = { λ r count bytes. NextFor r.0.now count bytes };
 }
 
 // Loads the file, and saves it again where it was loaded. The longest file has 36,048 bytes. Says how many bytes were printed. Where a write fails,
@@ -49,34 +44,36 @@ fn print_all<W: Write>(out: &mut W, file: &[u8]) -> io::Result<usize>
     let answer = policyfile::load(&mut state, file);
     let mut line = [0u8; 8];
     let len = put_answer(&mut line, answer);
-    let mut count: usize = 0;
-    write_next(out, file, &mut count, &line[..len])?;
-    if numbers::is_done(answer) {
-        let mut saved_file = [0u8; 36048];
-        let saved = policyfile::save(&state, &mut saved_file);
-        let size = saved.length;
-        write_next(out, file, &mut count, &saved_file[..size])?;
+    let first = Piece {
+        of: Reloaded(file),
+        from: 0,
+        bytes: &line[..len],
+    };
+    let count = streams::write_next(out, first)?;
+    if answer.is_err() {
+        return Ok(count);
     }
-    Ok(count)
-}
-
-// Says on standard error what failed.
-fn say(rt: &impl Eprint, what: &str) -> ExitCode {
-    let _ = rt.eprintln(what);
-    ExitCode::FAILURE
+    let mut saved_file = [0u8; LONGEST_FILE];
+    let size = policyfile::save(&state, &mut saved_file).unwrap();
+    let second = Piece {
+        of: Reloaded(file),
+        from: count,
+        bytes: &saved_file[..size],
+    };
+    streams::write_next(out, second)
 }
 
 // One byte more than the longest file is asked for, to tell a longer one, which is not of the form.
 fn main(rt: HostRuntime) -> ExitCode {
-    let mut bytes = [0u8; 36049];
+    let mut bytes = [0u8; LONGEST_FILE + 1];
     let Ok(len) = streams::read_whole(&mut rt.stdin(), &mut bytes) else {
-        return say(
+        return streams::say(
             &rt,
             "reload: nothing is loaded: the file could not be read whole",
         );
     };
     match print_all(&mut rt.stdout(), &bytes[..len]) {
         Ok(_) => ExitCode::SUCCESS,
-        Err(_) => say(&rt, "reload: not all was printed: a write failed"),
+        Err(_) => streams::say(&rt, "reload: not all was printed: a write failed"),
     }
 }

@@ -19,12 +19,12 @@ loop-run-init g c = record {
 pub slice_bounds-buf-end : goal.slice_bounds-buf-end
 slice_bounds-buf-end g c = piece_within _ _ _ _ _ _ _ _ _ (omega (arith, c.loop-run.invariant.room)) c.loop-run.invariant.handing (not-true _ c.loop-run-test.true) c.next-piece.ensures
 
-pub write_next-requires-clause-next : goal.write_next-requires-clause-next
+pub invariant_of-next-clause-next : goal.invariant_of-next-clause-next
 unfolding run_script
-write_next-requires-clause-next g c = piece_next _ _ _ _ _ _ _ _ _ (omega (arith, c.loop-run.invariant.room)) c.loop-run.invariant.handing (not-true _ c.loop-run-test.true) c.next-piece.ensures
+invariant_of-next-clause-next g c = ∣ piece_next _ _ _ _ _ _ _ _ _ (omega (arith, c.loop-run.invariant.room)) c.loop-run.invariant.handing (not-true _ c.loop-run-test.true) c.next-piece.ensures ∣₁
 
-pub write_next-requires-clause-bytes_bound : goal.write_next-requires-clause-bytes_bound
-write_next-requires-clause-bytes_bound g c =
+pub invariant_of-next-clause-in_range : goal.invariant_of-next-clause-in_range
+invariant_of-next-clause-in_range g c =
     let room : 24582 ≤ length c.loop-run.buf = omega (arith, c.loop-run.invariant.room) in
     omega (
       arith,
@@ -42,12 +42,12 @@ loop-run-preserved g c =
     let room : 24582 ≤ length c.loop-run.buf = omega (arith, c.loop-run.invariant.room) in
     let next : Next (run_script c.args.script.now) c.loop-run.count (take c.next-piece.result.len c.next-piece.new.buf) = piece_next _ _ _ _ _ _ _ _ _ room c.loop-run.invariant.handing (not-true _ c.loop-run-test.true) c.next-piece.ensures in
     let long : length (take c.next-piece.result.len c.next-piece.new.buf) ≡ c.next-piece.result.len = length-take-le _ _ (piece_within _ _ _ _ _ _ _ _ _ room c.loop-run.invariant.handing (not-true _ c.loop-run-test.true) c.next-piece.ensures) in
-    let counted : c.write_next.new.count ≡ c.loop-run.count + length (take c.next-piece.result.len c.next-piece.new.buf) = c.in_ok-write_next.ensures.counts in
-    let wrote : c.write_next.new.count ≡ c.loop-run.count + c.next-piece.result.len = omega (arith, counted, long) in
+    let counted : c.in_ok-count.count ≡ c.loop-run.count + length (take c.next-piece.result.len c.next-piece.new.buf) = c.in_ok-count.ensures.counts in
+    let wrote : c.in_ok-count.count ≡ c.loop-run.count + c.next-piece.result.len = omega (arith, counted, long) in
     record {
       room = put-length c.next-piece.ensures.puts.text ∙ c.loop-run.invariant.room;
       handing = subst (λ (n : ℕ). Handing empty c.args.script.now c.next-piece.new.state c.next-piece.result.run n) (sym wrote) (hands_on _ _ _ _ _ _ _ _ _ room c.loop-run.invariant.handing (not-true _ c.loop-run-test.true) c.next-piece.ensures);
-      printed = writes_on (g.W.Write.contents c.args.out.now) (g.W.Write.contents c.loop-run.out) (g.W.Write.contents c.write_next.new.out) (run_script c.args.script.now) _ _ _ counted c.loop-run.invariant.printed c.in_ok-write_next.ensures.writes next;
+      printed = writes_on (g.W.Write.contents c.args.out.now) (g.W.Write.contents c.loop-run.out) (g.W.Write.contents c.write_next.new.out) (run_script c.args.script.now) _ _ _ counted c.loop-run.invariant.printed c.in_ok-count.ensures.writes next;
     }
 
 pub returns-clause-all : goal.returns-clause-all
@@ -58,9 +58,9 @@ pub returns-clause-prints : goal.returns-clause-prints
 unfolding run_script
 returns-clause-prints g c = writes_all (g.W.Write.contents c.args.out.now) (g.W.Write.contents c.loop-run.out) (run_script c.args.script.now) _ (hands_none _ _ _ _ _ c.loop-run.invariant.handing (not-false _ c.loop-run-test.false)) c.loop-run.invariant.printed
 
-pub returns-in_err-write_next-clause-front : goal.returns-in_err-write_next-clause-front
+pub returns-in_err-count-clause-front : goal.returns-in_err-count-clause-front
 unfolding run_script
-returns-in_err-write_next-clause-front g c =
+returns-in_err-count-clause-front g c =
     let room : 24582 ≤ length c.loop-run.buf = omega (arith, c.loop-run.invariant.room) in
     let next : Next (run_script c.args.script.now) c.loop-run.count (take c.next-piece.result.len c.next-piece.new.buf) = piece_next _ _ _ _ _ _ _ _ _ room c.loop-run.invariant.handing (not-true _ c.loop-run-test.true) c.next-piece.ensures in
-    on_err c.from_residual.result _ (writes_front (g.W.Write.contents c.args.out.now) (g.W.Write.contents c.loop-run.out) (g.W.Write.contents c.write_next.new.out) (run_script c.args.script.now) _ _ c.loop-run.invariant.handing.within c.loop-run.invariant.printed next c.in_err-write_next.ensures.front)
+    on_err c.from_residual.result _ (writes_front (g.W.Write.contents c.args.out.now) (g.W.Write.contents c.loop-run.out) (g.W.Write.contents c.write_next.new.out) (run_script c.args.script.now) _ _ c.loop-run.invariant.handing.within c.loop-run.invariant.printed next c.in_err-count.ensures.front)

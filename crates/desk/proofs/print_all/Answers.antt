@@ -11,11 +11,11 @@ loop-run-init g c = record { room = search rules; going = begins _ _ _ _ _ c.req
 pub slice_bounds-buf-end : goal.slice_bounds-buf-end
 slice_bounds-buf-end g c = part_within _ _ _ _ _ _ _ _ _ _ _ c.loop-run.invariant.room c.loop-run.invariant.going (not-true _ c.loop-run-test.true) c.next-piece.ensures
 
-pub write_next-requires-clause-next : goal.write_next-requires-clause-next
-write_next-requires-clause-next g c = part_next _ _ _ _ _ _ _ _ _ _ _ c.loop-run.invariant.room c.loop-run.invariant.going (not-true _ c.loop-run-test.true) c.next-piece.ensures
+pub invariant_of-next-clause-next : goal.invariant_of-next-clause-next
+invariant_of-next-clause-next g c = ∣ part_next _ _ _ _ _ _ _ _ _ _ _ c.loop-run.invariant.room c.loop-run.invariant.going (not-true _ c.loop-run-test.true) c.next-piece.ensures ∣₁
 
-pub write_next-requires-clause-bytes_bound : goal.write_next-requires-clause-bytes_bound
-write_next-requires-clause-bytes_bound g c =
+pub invariant_of-next-clause-in_range : goal.invariant_of-next-clause-in_range
+invariant_of-next-clause-in_range g c =
     omega (
       arith,
       c.requires.script_len_bound,
@@ -28,7 +28,7 @@ loop-run-smaller g c = part_fewer _ _ _ _ _ _ _ _ _ _ _ c.loop-run.invariant.roo
 pub loop-run-preserved : goal.loop-run-preserved
 loop-run-preserved g c = record {
   room = part_room _ _ _ _ _ _ _ _ _ _ _ c.loop-run.invariant.room c.loop-run.invariant.going (not-true _ c.loop-run-test.true) c.next-piece.ensures;
-  going = going_on _ _ _ _ _ _ _ _ _ _ _ c.loop-run.invariant.room c.loop-run.invariant.going (not-true _ c.loop-run-test.true) c.next-piece.ensures _ (g.W.Write.contents c.write_next.new.out) c.in_ok-write_next.ensures.counts c.in_ok-write_next.ensures.writes;
+  going = going_on _ _ _ _ _ _ _ _ _ _ _ c.loop-run.invariant.room c.loop-run.invariant.going (not-true _ c.loop-run-test.true) c.next-piece.ensures _ (g.W.Write.contents c.write_next.new.out) c.in_ok-count.ensures.counts c.in_ok-count.ensures.writes;
 }
 
 pub returns-clause-prints : goal.returns-clause-prints
@@ -40,5 +40,5 @@ returns-clause-writes g c = going_writes _ _ _ _ _ _ _ c.loop-run.invariant.goin
 pub returns-clause-leaves : goal.returns-clause-leaves
 returns-clause-leaves g c = going_leaves _ _ _ _ _ _ _ c.loop-run.invariant.going (not-false _ c.loop-run-test.false)
 
-pub returns-in_err-write_next-clause-front : goal.returns-in_err-write_next-clause-front
-returns-in_err-write_next-clause-front g c = on_err c.from_residual.result _ (going_front _ _ _ _ _ _ _ _ _ _ _ c.loop-run.invariant.room c.loop-run.invariant.going (not-true _ c.loop-run-test.true) c.next-piece.ensures (g.W.Write.contents c.write_next.new.out) c.in_err-write_next.ensures.front)
+pub returns-in_err-count-clause-front : goal.returns-in_err-count-clause-front
+returns-in_err-count-clause-front g c = on_err c.from_residual.result _ (going_front _ _ _ _ _ _ _ _ _ _ _ c.loop-run.invariant.room c.loop-run.invariant.going (not-true _ c.loop-run-test.true) c.next-piece.ensures (g.W.Write.contents c.write_next.new.out) c.in_err-count.ensures.front)

@@ -24,8 +24,8 @@ loop-len-preserved g c =
     let room = length c.loop-len.buf - from in
     let more = c.in_ok-more.more in
     let within = c.loop-len.invariant.within in
-    let part = slice_range-put_mid from room more c.loop-len.buf c.read_once.new.part within c.in_ok-more.ensures.count.0 in
-    let joined = take_split from (from + more) c.loop-len.buf (put_mid from room c.loop-len.buf c.read_once.new.part) (omega arith) (take-put_mid_below _ _ _ _ _ (le_refl _) within) in
+    let part = slice_range-put_mid from room more c.loop-len.buf c.read.new.buf within c.in_ok-more.ensures.bound.0 in
+    let joined = take_split from (from + more) c.loop-len.buf (put_mid from room c.loop-len.buf c.read.new.buf) (omega arith) (take-put_mid_below _ _ _ _ _ (le_refl _) within) in
     record {
       within = search rules;
       kept = search rules;
