@@ -1,9 +1,7 @@
 -- All that is claimed, one line for each theorem: what docs/PROMISES.md names as a claim is a line here, and what is a line here is proved (in
 -- proofs/Claims). A theorem that were taken out, or that said less, would leave this file unproved. Assumes nothing.
-use Rattle.std.specs.Prelude.{List, ◌≡◌, ℕ, ◌<◌}
-use Rattle.numbers.specs.Answers.{number_of, answer_of}
-use Rattle.numbers.specs.declared.Answer.{Answer}
-use Rattle.numbers.specs.declared.Named.TheVariants.{Is}
+use Rattle.std.specs.Prelude.{List, ◌≡◌, ℕ, ◌<◌, Some}
+use Rattle.numbers.specs.Answers.{Answer, number_of, answer_of}
 use Rattle.model.specs.Model.{Model}
 use Rattle.demands.specs.Demand1.{Demand1}
 use Rattle.demands.specs.Demand2.{Demand2}
@@ -48,7 +46,7 @@ use Rattle.unique.specs.Frame.{Frame}
 use Rattle.unique.specs.AnyState.{AnyState}
 
 -- "For each, prove that any two outcomes meeting it are equal": every public function of each crate.
-pub record OneOutcome : Type 0 where
+pub record OneOutcome : Type 2 where
   pub roleset : promises.Roleset
   pub numbers : promises.Numbers
   pub hierarchy : promises.Hierarchy
@@ -88,11 +86,11 @@ pub record AnswerSheet : Type 0 where
   -- every number is one of 0 to 16,
   pub below : (a : Answer) → number_of a < 17
   -- an answer's number finds it,
-  pub found : (a : Answer) → answer_of (number_of a) ≡ Is a
+  pub found : (a : Answer) → answer_of (number_of a) ≡ Some a
   -- and an answer that a number finds has this number.
-  pub back : (n : ℕ) (a : Answer) → answer_of n ≡ Is a → number_of a ≡ n
+  pub back : (n : ℕ) (a : Answer) → answer_of n ≡ Some a → number_of a ≡ n
 
-pub record Claims : Type 0 where
+pub record Claims : Type 2 where
   -- ---- the three demands, over the model
   pub answer_sheet : AnswerSheet
   pub demand1 : Demand1

@@ -4,7 +4,8 @@ use mathlib.Core.Logic.{inl, inr}
 use mathlib.Core.Path.{refl}
 use Prim.Native.Nat.{ℕ}
 use Rattle.numbers.specs.Answers.{with_number}
-use Rattle.numbers.specs.declared.Answer.TheVariants.{NotOfForm}
+use Rattle.std.proofs.Common.{Err}
+use Rattle.numbers.specs.declared.Refusal.TheVariants.{NotOfForm}
 use Rattle.model.specs.Model.{Model}
 use Rattle.model.specs.Sheet.{Told}
 use Rattle.model.proofs.Asking.{asked-same}
@@ -18,7 +19,7 @@ use Rattle.demands.proofs.Settled.{numbered, settled-harmless}
 -- whatever a load tells is harmless: of the form, it is settled; not of the form, it is 14
 load-harmless : (m : Model) (bytes : List ℕ) (told : Told) → Loads m bytes told → Harmless m told
 unfolding rules_broken numbered with_number
-load-harmless m bytes told (inl h) = rw h.tells (record { unchanged = λ n. refl; silent = λ n. refl; on_sheet = (NotOfForm, refl) })
+load-harmless m bytes told (inl h) = rw h.tells (record { unchanged = λ n. refl; silent = λ n. refl; on_sheet = (Err NotOfForm, refl) })
 load-harmless m bytes told (inr h) = rw h.tells (settled-harmless (rules_broken h.model) m [] h.model refl)
 
 -- after any answer but 0 the policy, the sessions and the results are what they were: all commands and all questions

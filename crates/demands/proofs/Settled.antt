@@ -7,10 +7,8 @@ use native.Mathlib.Omega.{arith}
 use lib.Dec.{eqb}
 use borrow.Author.Tests.{eqb-false, not-true}
 use Rattle.roleset.proofs.BoundedLaws.{clash, and_left, and_right}
-use Rattle.numbers.specs.Answers.{answer_of}
-use Rattle.numbers.specs.declared.Answer.TheVariants.{Done}
-use Rattle.numbers.specs.declared.Named.{Named}
-use Rattle.numbers.specs.declared.Named.TheVariants.{Nothing, Is}
+use Rattle.std.proofs.Common.{Option, Some, None, Ok}
+use Rattle.numbers.specs.Answers.{Answer, answer_of}
 use Rattle.numbers.proofs.Answers.{number-back}
 use Rattle.model.specs.Model.{Model}
 use Rattle.model.specs.Sheet.{Refusal, verdict, settle}
@@ -37,15 +35,15 @@ settled-lacks n rs m results after p e z = verdict-lacks n rs p e (sym (settle-a
 
 -- some answer has the number
 unfoldable pub numbered : ℕ → Bool
-numbered n = elim (answer_of n) [ Nothing ↦ false | Is a ↦ true ]
+numbered n = elim (answer_of n) [ None ↦ false | Some a ↦ true ]
 
 pub numbered-on : (n : ℕ) → numbered n ≡ true → OnSheet n
 unfolding numbered
 numbered-on n h = go (answer_of n) refl
   where
-    go : (x : Named) → answer_of n ≡ x → OnSheet n
-    go Nothing e = clash false (rw (numbered, e) at h) refl
-    go (Is a) e = (a, sym (number-back n a e))
+    go : (x : Option Answer) → answer_of n ≡ x → OnSheet n
+    go None e = clash false (rw (numbered, e) at h) refl
+    go (Some a) e = (a, sym (number-back n a e))
 
 -- and so has every number of the list
 abbrev pub all_numbered : List Refusal → Bool
@@ -54,7 +52,7 @@ all_numbered (r ∷ rest) = numbered r.number && all_numbered rest
 
 verdict-on : (rs : List Refusal) → all_numbered rs ≡ true → OnSheet (verdict rs)
 unfolding verdict
-verdict-on [] e = (Done, refl)
+verdict-on [] e = (Ok tt, refl)
 verdict-on (r ∷ rest) e = go r.holds (verdict-on rest (and_right (numbered r.number) (all_numbered rest) e))
   where
     go : (b : Bool) → OnSheet (verdict rest) → OnSheet (elim b as (λ _. ℕ) [ true ↦ r.number | false ↦ verdict rest ])

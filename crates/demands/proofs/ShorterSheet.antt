@@ -10,7 +10,7 @@ use borrow.Author.Tests.{eqb-true}
 use Rattle.roleset.specs.Bounded.{every}
 use Rattle.roleset.proofs.BoundedLaws.{or_cases, every-elim}
 use Rattle.numbers.specs.Answers.{answer_of, with_number}
-use Rattle.numbers.specs.declared.Named.TheVariants.{Nothing}
+use Rattle.std.proofs.Common.{None}
 use Rattle.numbers.proofs.Answers.{nothing-named}
 use Rattle.hierarchy.specs.Lines.{Chain}
 use Rattle.hierarchy.proofs.CircleLaws.{chain_circle, circular_complete}
@@ -33,7 +33,7 @@ use Rattle.demands.proofs.Settled.{numbered, numbered-on}
 -- ---- the number
 
 -- what answers on the sheet does not answer a number that names none
-not_on : (k n : ℕ) → answer_of k ≡ Nothing → OnSheet n → n ≡ k → ⊥
+not_on : (k n : ℕ) → answer_of k ≡ None → OnSheet n → n ≡ k → ⊥
 not_on k n none on e = nothing-named k none on.0 (sym on.1 ∙ e)
 
 -- every number below `most` but k is an answer's, where a test says so

@@ -2,8 +2,7 @@
 -- paper names." That every command and question answers, whatever it is given, is the prover's own: a function that might not return, or
 -- might read or write out of bounds, is not proved. Assumes nothing.
 use Rattle.std.specs.Prelude.{List, [], ◌≡◌, ℕ}
-use Rattle.numbers.specs.Answers.{number_of}
-use Rattle.numbers.specs.declared.Answer.{Answer}
+use Rattle.numbers.specs.Answers.{Answer, number_of}
 use Rattle.model.specs.Model.{Model}
 use Rattle.model.specs.Questions.{ask}
 use Rattle.model.specs.Sheet.{Told}

@@ -1,8 +1,6 @@
 -- The answer sheet has no 13, "a chain of inheritance of more than 64 roles is met": no such chain is, and nothing answers so. Assumes nothing.
-use Rattle.std.specs.Prelude.{List, ◌≡◌, ℕ, ◌<◌}
-use Rattle.numbers.specs.Answers.{number_of, answer_of}
-use Rattle.numbers.specs.declared.Answer.{Answer}
-use Rattle.numbers.specs.declared.Named.TheVariants.{Nothing}
+use Rattle.std.specs.Prelude.{List, ◌≡◌, ℕ, ◌<◌, None}
+use Rattle.numbers.specs.Answers.{Answer, number_of, answer_of}
 use Rattle.hierarchy.specs.Lines.{Chain}
 use Rattle.model.specs.Model.{Model}
 use Rattle.model.specs.Questions.{ask}
@@ -23,7 +21,7 @@ pub record ShorterSheet : Type 0 where
   pub loading : (before m : Model) (bytes : List ℕ) (told : Told) → FileOf m bytes → Loads before bytes told → (n r : ℕ) → 64 < n → Chain m.juniors n r → told ≡ refused 6 before
   -- "the number stays unused": it is no answer's number, and going back from it there is no answer.
   pub unused : (a : Answer) → number_of a ≡ 13 → ⊥
-  pub names_none : answer_of 13 ≡ Nothing
+  pub names_none : answer_of 13 ≡ None
   -- "and all else stays": every other number of 0 to 15 is an answer's.
   pub others : (n : ℕ) → n < 16 → (n ≡ 13 → ⊥) → OnSheet n
   -- No command, no question and no load answers it, on any policy.

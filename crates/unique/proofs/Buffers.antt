@@ -7,19 +7,21 @@ use Prim.Native.Nat.{ℕ, zero, suc, ◌+◌, ◌-◌, ◌≤◌, ◌<◌}
 use native.Mathlib.Omega.{arith}
 use native.Mathlib.Decide.{dec_le}
 use lib.Dec.{ltb}
+use Rattle.std.proofs.Common.{Result}
 use lib.ListN.{length, get_or, set, drop, length-append, length-drop, length-set, get_or-eq_default}
 use lib.Seq.{sets, length-sets, get_or-append-add, get_or-drop, get_or-set_same, get_or-set_other}
 use borrow.Author.Tests.{ltb-false}
 use Rattle.numbers.specs.Answers.{number_of}
+use Rattle.numbers.specs.declared.Refusal.{Refusal}
 use Rattle.model.specs.Model.{Model}
 use Rattle.model.specs.Questions.{ask}
 use Rattle.model.specs.Sheet.{Told}
 use Rattle.model.specs.declared.Question.{Question}
 use Rattle.model.specs.declared.Question.TheVariants as questions
 use Rattle.demands.proofs.Demand1.{demand1}
+use Rattle.state.specs.Results.{given_number}
 use Rattle.state.specs.View.{view}
 use Rattle.reviews.specs.Reviewing.{Reviewed, fitted}
-use Rattle.reviews.specs.declared.Review.{Review}
 use Rattle.reviews.proofs.Promised.{reviews-fit}
 use Rattle.reviews.proofs.WhichReview.{is_review}
 use Rattle.policyform.specs.Encode.{encode}
@@ -44,7 +46,7 @@ over list before after fits e = (ap length e ∙ omega (arith, length-append lis
         ∙ subst (λ (j : ℕ). get_or (list ++ drop (length list) before) j 0 ≡ get_or before j 0) place (get_or-append-add list (drop (length list) before) (k - length list) 0 ∙ get_or-drop (length list) before (k - length list) 0)
 
 -- what is told with no results on a refusal, and with no more than there is room for
-lent : {told : Told} {before after : List ℕ} {x : Review} → ((told.answer ≡ 0 → ⊥) → told.results ≡ []) → length told.results ≤ length before → Reviewed told before after x → Lent (number_of x.answer) x.count before after
+lent : {told : Told} {before after : List ℕ} {x : Result ℕ Refusal} → ((told.answer ≡ 0 → ⊥) → told.results ≡ []) → length told.results ≤ length before → Reviewed told before after x → Lent (number_of x) (given_number x) before after
 lent {told} {before} {after} {x} silent fits r =
     record {
       refused = λ h. let none = silent (λ z. h (r.answer ∙ z)) in (r.count ∙ ap length none, r.buffer ∙ ap (λ (l : List ℕ). l ++ drop (length l) before) none);
@@ -56,7 +58,7 @@ lent {told} {before} {after} {x} silent fits r =
 -- ---- the reviews
 
 -- a review by its own function
-reviewed : {before after : List ℕ} {x : Review} (m : Model) (q : Question) → is_review q ≡ true → Reviewed (ask m (length before) q) before after x → Lent (number_of x.answer) x.count before after
+reviewed : {before after : List ℕ} {x : Result ℕ Refusal} (m : Model) (q : Question) → is_review q ≡ true → Reviewed (ask m (length before) q) before after x → Lent (number_of x) (given_number x) before after
 reviewed {before} m q h r = lent (demand1.questions m (length before) q).silent (reviews-fit m (length before) q h) r
 
 -- and any question through `ask`: what is told fits, or is refused with 15
@@ -76,7 +78,7 @@ fitted-fits room told = go (ltb room (length told.results)) refl
     go true e = rw (e, fitted) (omega arith)
     go false e = rw (e, fitted) (ltb-false room (length told.results) e)
 
-asked-any : (m : Model) (q : Question) {before after : List ℕ} {x : Review} → Reviewed (fitted (length before) (ask m (length before) q)) before after x → Lent (number_of x.answer) x.count before after
+asked-any : (m : Model) (q : Question) {before after : List ℕ} {x : Result ℕ Refusal} → Reviewed (fitted (length before) (ask m (length before) q)) before after x → Lent (number_of x) (given_number x) before after
 asked-any m q {before} r = lent (fitted-silent _ _ (demand1.questions m (length before) q).silent) (fitted-fits _ _) r
 
 -- ---- a text at the front

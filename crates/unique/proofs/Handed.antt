@@ -1,16 +1,18 @@
 -- What the code hands back can be reached. Assumes nothing.
-use mathlib.Core.List.{List, []}
+use mathlib.Core.List.{List, [], ◌∷◌}
 use mathlib.Core.Logic.{inl, inr}
 use mathlib.Core.Path.{◌≡◌, sym, ap, subst}
 use Prim.Native.Nat.{ℕ}
-use Rattle.numbers.specs.declared.Answer.{Answer}
+use Rattle.numbers.specs.Answers.{Answer}
 use Rattle.model.specs.Model.{Model}
 use Rattle.model.specs.Sheet.{Told}
 use Rattle.model.specs.Step as steps
 use Rattle.model.specs.declared.Command.{Command}
 use Rattle.model.specs.declared.Command.TheVariants as commands
 use Rattle.state.specs.View.{view, told}
-use Rattle.sessions.specs.Answering.{told_opened}
+use Rattle.numbers.specs.declared.Session.{Session}
+use Rattle.engine.specs.Stepping.{opened}
+use Rattle.unique.proofs.Unique.{leaves}
 use Rattle.textlines.specs.Parts.{part_at}
 use Rattle.script.specs.Script.{line_feed, obey}
 use Rattle.script.specs.declared.Progress.{Progress}
@@ -44,7 +46,7 @@ obeyed-reachable m text out put n l r (inl p) = subst Reachable (sym p.unchanged
 obeyed-reachable m text out put n l r (inr p) = subst Reachable (sym p.state) (script-lines.reachable m text r)
 
 pub reachable : {l : List ℕ} → Handed l → Reachable (view l)
-unfolding steps.step told told_opened
+unfolding steps.step told
 reachable (empty c) = subst Reachable (sym c.met) start
 -- ---- written by tests/unique.py: the commands
 reachable (user c h) = stepped _ (reachable h) (commands.AddUser c.given.1.0) [] c.result _ c.met
@@ -67,8 +69,8 @@ reachable (activate c h) = stepped _ (reachable h) (commands.Activate c.given.1.
 reachable (drop c h) = stepped _ (reachable h) (commands.DropActive c.given.1.0 c.given.1.1.0 c.given.1.1.1.0) [] c.result _ c.met
 reachable (end c h) = stepped _ (reachable h) (commands.EndSession c.given.1.0 c.given.1.1.0) [] c.result _ c.met
 -- ---- end of what tests/unique.py writes
-reachable (session c h) = subst Reachable (sym (ap (λ (t : Told). t.after) c.met.tells)) (after (reachable h) (commands.OpenSession c.given.1.0) c.given.1.1.0.now)
-reachable (step c h) = subst Reachable (sym c.met.after) (after (reachable h) c.given.1.0 c.given.1.1.0.now)
+reachable (session c h) = subst Reachable (sym (leaves (λ (s : Session). s.number ∷ []) c.result _ c.met)) (after (reachable h) (commands.OpenSession c.given.1.0) c.given.1.1.0.now)
+reachable (step c h) = subst Reachable (sym (leaves opened c.result _ c.met)) (after (reachable h) c.given.1.0 c.given.1.1.0.now)
 reachable (answer_line c h) = subst Reachable (sym c.met.state) (script-lines.reachable _ c.given.1.0.now (reachable h))
 reachable (turn c h) = subst Reachable (sym c.met.state) (script-lines.reachable _ (part_at line_feed c.given.0.now c.given.1.1.0.at) (reachable h))
 reachable (begin c) = subst Reachable (sym c.met.state) start

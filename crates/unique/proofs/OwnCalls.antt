@@ -8,12 +8,13 @@ use native.Mathlib.Omega.{arith}
 use lib.Dec.{eqb, ltb}
 use lib.ListN.{length, get_or, take, drop}
 use lib.Seq.{sets, take_at}
-use borrow.Author.Tests.{eqb-true, eqb-false, leb-false, lt-leb, le-ltb, ltb-true, ltb-false}
+use borrow.Author.Tests.{ne_eqb, eqb-true, eqb-false, leb-false, lt-leb, le-ltb, ltb-true, ltb-false}
 use Rattle.roleset.specs.Bounded.{bit}
 use Rattle.roleset.specs.Roles.{has}
 use Rattle.roleset.proofs.BoundedLaws.{clash, or-clear}
-use Rattle.numbers.specs.Answers.{number_of}
-use Rattle.numbers.specs.declared.Answer.{Answer}
+use Rattle.numbers.specs.Answers.{Answer, number_of, refusal_number}
+use Rattle.numbers.specs.declared.Refusal.{Refusal}
+use Rattle.numbers.proofs.Answers.{refused-not-0}
 use Rattle.numbers.specs.declared.Session.{Session}
 use Rattle.model.specs.Model.{Model}
 use Rattle.model.specs.Questions.{ask}
@@ -24,14 +25,11 @@ use Rattle.model.specs.declared.Command.TheVariants as commands
 use Rattle.model.specs.declared.Question.{Question}
 use Rattle.model.specs.declared.Question.TheVariants as questions
 use Rattle.state.specs.View.{view, told}
-use Rattle.state.specs.Results.{is_done, given, both_given}
-use Rattle.checking.specs.Answering.{told_checked, Owns, told_owned}
+use Rattle.state.specs.Results.{told_of, given_number, given, both_given}
+use Rattle.checking.specs.Answering.{told_checked, told_owned}
 use Rattle.checking.specs.declared.Checked as code
-use Rattle.checking.specs.declared.Owned.{Owned}
-use Rattle.engine.specs.Stepping.{Steps}
-use Rattle.engine.specs.declared.Stepped.{Stepped}
+use Rattle.engine.specs.Stepping as stepping
 use Rattle.reviews.specs.Reviewing.{Reviewed, fitted}
-use Rattle.reviews.specs.declared.Review.{Review}
 use Rattle.reviews.proofs.Promised.{asked-with-room}
 use Rattle.policyform.specs.Encode.{encode}
 use Rattle.policyform.specs.Promises.{Saves, Loads}
@@ -39,8 +37,9 @@ use Rattle.policyfile.proofs.Laws.{saved-buffer}
 use Rattle.words.specs.ScriptWords.{word_of}
 use Rattle.transcripts.specs.LineForm.{LineForm}
 use Rattle.meaning.specs.Meaning.{meant}
+use Rattle.std.proofs.Common.{Option, Some, None, Result, Ok, Err, IsOkAnd}
 use Rattle.meaning.specs.declared.Meant.{Meant}
-use Rattle.meaning.specs.declared.Meant.TheVariants.{Do, Ask, Nothing}
+use Rattle.meaning.specs.declared.Meant.TheVariants.{Do, Ask}
 use Rattle.text.specs.Putting.{Put}
 use Rattle.textlines.specs.Parts.{part_at}
 use Rattle.script.specs.Script.{obey, doing, line_feed}
@@ -73,9 +72,12 @@ use Rattle.unique.proofs.Unique.{states}
 does : {l : List ℕ} {t : Told} → Handed l → (c : Command) (list : List ℕ) → t ≡ steps.step (view l) c list → Does (view l) c list t
 does {l} h c list e = subst (Does (view l) c list) (sym e) (demand2.commands (view l) (reachable h) c list)
 
-stepped-tells : {t : Told} {x : Stepped} {l : List ℕ} → Steps t x l → told_stepped x l ≡ t
-unfolding told_stepped
-stepped-tells s = λ i. record { answer = s.answer i; results = s.results i; after = s.after i }
+-- a step tells what its contract says
+stepped-tells : (x : Result (Option Session) Refusal) (l : List ℕ) → told_stepped x l ≡ stepping.told_stepped x l
+unfolding told_of
+stepped-tells (Ok None) l = refl
+stepped-tells (Ok (Some opened)) l = refl
+stepped-tells (Err refusal) l = refl
 
 of-commands : Commands
 unfolding steps.step
@@ -98,23 +100,23 @@ of-commands =
       add_member = λ c h. does h (commands.AddMember c.given.1.0 c.given.1.1.0 c.given.1.1.1.0) [] c.met;
       drop_member = λ c h. does h (commands.DropMember c.given.1.0 c.given.1.1.0 c.given.1.1.1.0) [] c.met;
       set_cardinality = λ c h. does h (commands.SetCardinality c.given.1.0 c.given.1.1.0 c.given.1.1.1.0) [] c.met;
-      session = λ c h. does h (commands.OpenSession c.given.1.0) c.given.1.1.0.now c.met.tells;
+      session = λ c h. does h (commands.OpenSession c.given.1.0) c.given.1.1.0.now c.met;
       activate = λ c h. does h (commands.Activate c.given.1.0 c.given.1.1.0 c.given.1.1.1.0) [] c.met;
       drop = λ c h. does h (commands.DropActive c.given.1.0 c.given.1.1.0 c.given.1.1.1.0) [] c.met;
       end = λ c h. does h (commands.EndSession c.given.1.0 c.given.1.1.0) [] c.met;
       -- ---- end of what tests/unique.py writes
-      step = λ c h. does h c.given.1.0 c.given.1.1.0.now (stepped-tells c.met);
+      step = λ c h. does h c.given.1.0 c.given.1.1.0.now (stepped-tells c.result _ ∙ c.met);
     }
 
 -- ---- the questions
 
 -- what a review hands back is what was told, where that changes nothing
-reviewed-tells : {t : Told} {m : Model} {before after : List ℕ} {x : Review} → t.after ≡ m → Reviewed t before after x → told_review m x after ≡ t
+reviewed-tells : {t : Told} {m : Model} {before after : List ℕ} {x : Result ℕ Refusal} → t.after ≡ m → Reviewed t before after x → told_review m x after ≡ t
 unfolding told_review
 reviewed-tells {t} {m} {before} {after} {x} same r = λ i. record { answer = r.answer i; results = results i; after = sym same i }
   where
-    results : take x.count after ≡ t.results
-    results = ap (take x.count) r.buffer ∙ take_at t.results (drop (length t.results) before) x.count (sym r.count)
+    results : take (given_number x) after ≡ t.results
+    results = ap (take (given_number x)) r.buffer ∙ take_at t.results (drop (length t.results) before) (given_number x) (sym r.count)
 
 -- what is told where it is to stand in a buffer leaves the same policy
 fitted-after : (room : ℕ) (t : Told) → (fitted room t).after ≡ t.after
@@ -126,7 +128,7 @@ fitted-after room t = go (ltb room (length t.results)) refl
     go false e = rw (e, fitted)
 
 -- in a buffer with so many places
-in-places : (m : Model) (q : Question) {before after : List ℕ} {x : Review} → Reviewed (fitted (length before) (ask m (length before) q)) before after x → InPlaces (length before) m (ask m (length before) q) (told_review m x after)
+in-places : (m : Model) (q : Question) {before after : List ℕ} {x : Result ℕ Refusal} → Reviewed (fitted (length before) (ask m (length before) q)) before after x → InPlaces (length before) m (ask m (length before) q) (told_review m x after)
 unfolding fitted
 in-places m q {before} {after} {x} r = go (ltb room (length t.results)) refl
   where
@@ -154,10 +156,10 @@ two-or-15 false false m said n room = go (ltb room 2) refl
     go true e = ((λ z. (refl, ltb-true room 2 e)), λ q. refl)
     go false e = ((λ z. absurd (omega (arith, z))), λ q. absurd (omega (arith, q.1, ltb-false room 2 e)))
 
-check-15 : (m : Model) (q : Question) (s : Session) (op obj : ℕ) {before after : List ℕ} {x : Review} → q ≡ questions.Check s op obj → Reviewed (fitted (length before) (ask m (length before) q)) before after x → (number_of x.answer ≡ 15) ↔ (((n : ℕ) → Applies (check_refusals m s.number op obj) n → ⊥) × (length before < 2))
+check-15 : (m : Model) (q : Question) (s : Session) (op obj : ℕ) {before after : List ℕ} {x : Result ℕ Refusal} → q ≡ questions.Check s op obj → Reviewed (fitted (length before) (ask m (length before) q)) before after x → (number_of x ≡ 15) ↔ (((n : ℕ) → Applies (check_refusals m s.number op obj) n → ⊥) × (length before < 2))
 unfolding ask check
 check-15 m q s op obj {before} {after} {x} e r =
-    let told : number_of x.answer ≡ (fitted (length before) (check m s.number op obj)).answer = (rw e at r.answer) in
+    let told : number_of x ≡ (fitted (length before) (check m s.number op obj)).answer = (rw e at r.answer) in
     let both = two-or-15 (session_beyond s.number || permission_beyond op obj) (session_missing m s.number) m (bit (permitted m s.number (permission op obj))) (looked m s.number (permission op obj)) (length before) in
     let whole : Exactly m (check_refusals m s.number op obj) _ m (check m s.number op obj) = exact (check_refusals m s.number op obj) m _ m refl refl in
     ((λ z. let y = both.0 (sym told ∙ z) in (whole.done.0 y.0, y.1)), λ z. told ∙ both.1 (whole.done.1 z.0, z.1))
@@ -173,43 +175,51 @@ open-session {m} {s} {r} shape e = go e.through
     go (inl h) = live r h
     go (inr (a, h, below)) = live a h
 
--- a first result that is 1 says yes
-said : (b y : Bool) (n k : ℕ) → both_given b (bit y) n ≡ 1 ∷ k ∷ [] → y ≡ true
-said b true n k e = refl
-said true false n k e = absurd (let z : ◌≡◌ {A = ℕ} 0 1 = cc in omega arith)
-said false false n k e = absurd (omega (arith, ap length e))
-
 -- what `check` hands back says yes exactly where access is granted
-says-yes : (m : Model) (s op obj : ℕ) (x : code.Checked) → Shape m → Checked m s op obj (told_checked m x) → (is_done x.answer ≡ false → (x.yes ≡ false) × (x.looked ≡ 0)) → (x.yes ≡ true) ↔ MayDo m s op obj
-unfolding told_checked
-says-yes m s op obj x shape c silent = (granted (is_done x.answer) refl, yes)
+-- where the session may, no refusal of `check` applies
+clear-of-refusals : (m : Model) (s op obj : ℕ) → Shape m → MayDo m s op obj → (n : ℕ) → Applies (check_refusals m s op obj) n → ⊥
+clear-of-refusals m s op obj shape may =
+    let there = open-session shape may.granted.effective in
+    let within : (s beyond 63 || (op beyond 15 || obj beyond 255)) ≡ false = rw (lt-leb 64 s (omega (arith, there.1)), lt-leb 16 op (omega (arith, may.operation)), lt-leb 256 obj (omega (arith, may.object))) in
+    none-applies (check_refusals m s op obj) (within, (rw there.0, tt))
+
+says-yes : (m : Model) (s op obj : ℕ) (x : Result code.Checked Refusal) → Shape m → Checked m s op obj (told_checked m x) → IsOkAnd x (λ c. c.yes ≡ true) ↔ MayDo m s op obj
+unfolding told_of
+says-yes m s op obj (Err r) shape c = ((λ y. absurd y), λ may. refused-not-0 r (done may))
   where
-    granted : (b : Bool) → is_done x.answer ≡ b → x.yes ≡ true → MayDo m s op obj
-    granted false d y = clash x.yes y (silent d).0
-    granted true d y =
-        let zero = eqb-true (number_of x.answer) 0 d in
-        let clear = (applies-none (check_refusals m s op obj) (c.done.0 zero)).0 in
+    done : MayDo m s op obj → refusal_number r ≡ 0
+    done may = c.done.1 (clear-of-refusals m s op obj shape may)
+says-yes m s op obj (Ok x) shape c = (granted, yes)
+  where
+    granted : x.yes ≡ true → MayDo m s op obj
+    granted y =
+        let clear = (applies-none (check_refusals m s op obj) (c.done.0 refl)).0 in
         let ranges = or-clear (op beyond 15) (obj beyond 255) (or-clear (s beyond 63) (op beyond 15 || obj beyond 255) clear).1 in
-        record { operation = omega (arith, leb-false 16 op ranges.0); object = omega (arith, leb-false 256 obj ranges.1); granted = (c.exactly zero).0 (x.looked, rw (d, y)) }
+        record { operation = omega (arith, leb-false 16 op ranges.0); object = omega (arith, leb-false 256 obj ranges.1); granted = (c.exactly refl).0 (x.looked, rw y) }
+
+    said : (y : Bool) (n k : ℕ) → ◌≡◌ {A = List ℕ} (bit y ∷ n ∷ []) (1 ∷ k ∷ []) → y ≡ true
+    said true n k e = refl
+    said false n k e = absurd (let z : ◌≡◌ {A = ℕ} 0 1 = cc in omega arith)
 
     yes : MayDo m s op obj → x.yes ≡ true
-    yes may =
-        let there = open-session shape may.granted.effective in
-        let within : (s beyond 63 || (op beyond 15 || obj beyond 255)) ≡ false = rw (lt-leb 64 s (omega (arith, there.1)), lt-leb 16 op (omega arith), lt-leb 256 obj (omega arith)) in
-        let zero = c.done.1 (none-applies (check_refusals m s op obj) (within, (rw there.0, tt))) in
-        let told = (c.exactly zero).1 may.granted in said (is_done x.answer) x.yes x.looked told.0 told.1
+    yes may = let told = (c.exactly refl).1 may.granted in said x.yes x.looked told.0 told.1
 
 -- whose a session is
-owner-told : (m : Model) (s : ℕ) (x : Owned) → Owns m (owner m s) x → OwnerTold m s (number_of x.answer) x.owner
-unfolding told_owned owner
-owner-told m s x o = subst (Exactly m _ _ m) (sym o.tells) (exact (1 when (s beyond 63) ∷ 2 when not (m.sessions s).live ∷ []) m ((m.sessions s).owner ∷ []) m refl refl)
+owner-tells : (m : Model) (x : Result ℕ Refusal) → ◌≡◌ {A = Told} (record { answer = number_of x; results = given (eqb (number_of x) 0) (given_number x); after = m }) (told_owned m x)
+unfolding told_of
+owner-tells m (Ok n) = refl
+owner-tells m (Err r) = rw (ne_eqb (refusal_number r) 0 (refused-not-0 r))
+
+owner-told : (m : Model) (s : ℕ) (x : Result ℕ Refusal) → told_owned m x ≡ owner m s → OwnerTold m s (number_of x) (given_number x)
+unfolding owner
+owner-told m s x o = subst (Exactly m _ _ m) (sym (owner-tells m x ∙ o)) (exact (1 when (s beyond 63) ∷ 2 when not (m.sessions s).live ∷ []) m ((m.sessions s).owner ∷ []) m refl refl)
 
 of-questions : Questions
 unfolding ask
 of-questions =
     record {
-      check = λ c h. subst (Checked _ _ _ _) (sym c.met.tells) (demand2.access _ (reachable h) _ _ _);
-      yes = λ c h. says-yes _ _ _ _ c.result (owned.shape h) (subst (Checked _ _ _ _) (sym c.met.tells) (demand2.access _ (reachable h) _ _ _)) c.met.silent;
+      check = λ c h. subst (Checked _ _ _ _) (sym c.met) (demand2.access _ (reachable h) _ _ _);
+      yes = λ c h. says-yes _ _ _ _ c.result (owned.shape h) (subst (Checked _ _ _ _) (sym c.met) (demand2.access _ (reachable h) _ _ _));
       ask = λ c h. reviewed-tells (demand1.asking _ _ c.given.1.0) (rw (asked-with-room _ _ c.given.1.0 h) at c.met);
       asked = λ c h room. subst (reviewing.Answered (view c.given.0.now) (length c.given.1.1.0.now) c.given.1.0) (sym (reviewed-tells (demand1.asking _ _ c.given.1.0) (rw (asked-with-room _ _ c.given.1.0 room) at c.met))) (questions-demand.questions (view c.given.0.now) (reachable h) (length c.given.1.1.0.now) c.given.1.0);
       in_places = λ c. in-places (view c.given.0.now) c.given.1.0 c.met;
@@ -234,10 +244,10 @@ of-questions =
 
 -- ---- lines of a script
 
-means : {m : Model} → Reachable m → (x : Meant) (list : List ℕ) → Means m x list (doing m x list)
-means {m} r (Do c) list = demand2.commands m r c list
-means {m} r (Ask q) list = refl
-means {m} r Nothing list = refl
+means : {m : Model} → Reachable m → (x : Option Meant) (list : List ℕ) → Means m x list (doing m x list)
+means {m} r (Some (Do c)) list = demand2.commands m r c list
+means {m} r (Some (Ask q)) list = refl
+means {m} r None list = refl
 
 line-tells : {m : Model} → Reachable m → (text : List ℕ) → LineTells m text (obey m text)
 line-tells {m} r text = record { formed = formed; not_formed = script-lines.not_formed m text }

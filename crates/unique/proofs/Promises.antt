@@ -18,6 +18,7 @@ roleset =
       is_empty = λ κs a x y e f vx vy p q. laws.answers_one p q;
       count = λ κs a x y e f vx vy p q. p.0 ∙ sym q.0;
       lowest = λ κs a x y e f vx vy p q. laws.lowest-one a.0 x y p q;
+      members = λ κs a x y e f vx vy p q. laws.ascending-one x y (p ∙ sym q);
       size = λ κs a x y e f vx vy p q. p.0 ∙ sym q.0;
       at_least = λ κs a x y e f vx vy p q. p ∙ sym q;
     }
@@ -27,29 +28,31 @@ numbers =
     record {
       number_of = λ κs a x y e f vx vy p q. p ∙ sym q;
       answer_of = λ κs a x y e f vx vy p q. p ∙ sym q;
-      is_done = λ κs a x y e f vx vy p q. p ∙ sym q;
-      user_beyond = λ κs a x y e f vx vy p q. p ∙ sym q;
-      role_beyond = λ κs a x y e f vx vy p q. p ∙ sym q;
-      session_beyond = λ κs a x y e f vx vy p q. p ∙ sym q;
-      set_beyond = λ κs a x y e f vx vy p q. p ∙ sym q;
       activation_beyond = λ κs a x y e f vx vy p q. p ∙ sym q;
+      user_number = λ κs a x y e f vx vy p q. p ∙ sym q;
+      user_is_beyond = λ κs a x y e f vx vy p q. p ∙ sym q;
+      role_number = λ κs a x y e f vx vy p q. p ∙ sym q;
+      role_is_beyond = λ κs a x y e f vx vy p q. p ∙ sym q;
+      session_number = λ κs a x y e f vx vy p q. p ∙ sym q;
+      session_is_beyond = λ κs a x y e f vx vy p q. p ∙ sym q;
+      set_name_number = λ κs a x y e f vx vy p q. p ∙ sym q;
+      set_name_is_beyond = λ κs a x y e f vx vy p q. p ∙ sym q;
     }
 
 pub hierarchy : promises.Hierarchy
 hierarchy =
     record {
-      reach = λ κs a x y e f vx vy p q. laws.reaches-one p q;
+      reach = λ T L g d κs a x y e f vx vy p q. laws.reaches-one p q;
       circular = λ κs a x y e f vx vy p q. laws.tells-circle-one p q;
       turned = λ κs a x y e f vx vy p q. laws.arrays 64 x y _ vx.1.1.0.1 vy.1.1.0.1 p q;
       at_or_above = λ κs a x y e f vx vy p q. laws.reaches-up-one p q;
+      array_u6464_below = λ κs a x y e f vx vy p q. p ∙ sym q;
     }
 
 pub state : promises.State
 state =
     record {
-      either = λ κs a x y e f vx vy p q. p ∙ sym q;
       permission_beyond = λ κs a x y e f vx vy p q. p ∙ sym q;
-      less = λ κs a x y e f vx vy p q. p ∙ sym q;
       juniors = λ κs a x y e f p q. laws.table-one p q;
       assigned = λ κs a x y e f p q. laws.table-one p q;
       active = λ κs a x y e f p q. laws.table-one p q;
@@ -108,7 +111,7 @@ sweeps =
       shed = λ κs a x y e f vx vy p q. laws.sheds-all-one p q;
       end_all = λ κs a x y e f sx sy p q. (refl, laws.states sx sy p q);
       has_open = λ κs a x y e f vx vy p q. p ∙ sym q;
-      lowest_free = λ κs a x y e f vx vy p q. p ∙ sym q;
+      lowest_free = λ κs a x y e f vx vy p q. laws.free-one _ p q;
       strip = λ κs a x y e f vx vy p q. laws.strips-one p q;
     }
 
@@ -167,7 +170,7 @@ sets =
 pub sessions : promises.Sessions
 sessions =
     record {
-      session = λ κs a x y e f sx sy p q. laws.opens_one sx sy p q;
+      session = λ κs a x y e f sx sy p q. laws.told-opened-one sx sy p q;
       activate = λ κs a x y e f sx sy p q. laws.outcomes sx sy p q;
       drop = λ κs a x y e f sx sy p q. laws.outcomes sx sy p q;
       end = λ κs a x y e f sx sy p q. laws.outcomes sx sy p q;
@@ -176,8 +179,8 @@ sessions =
 pub checking : promises.Checking
 checking =
     record {
-      owner = λ κs a x y e f vx vy p q. laws.owns-one p q;
-      check = λ κs a x y e f vx vy p q. laws.checks-one p q;
+      owner = λ κs a x y e f vx vy p q. laws.told-owned-one _ p q;
+      check = λ κs a x y e f vx vy p q. laws.told-checked-one _ p q;
     }
 
 pub reviews : promises.Reviews
@@ -201,7 +204,7 @@ reviews =
 pub engine : promises.Engine
 engine =
     record {
-      step = λ κs a x y e f sx sy p q. laws.steps-one sx sy p q;
+      step = λ κs a x y e f sx sy p q. laws.told-stepped-one sx sy p q;
       ask = λ κs a x y e f vx vy p q. laws.reviewed-one p q;
     }
 
@@ -254,7 +257,6 @@ words =
       put_word = λ κs a x y e f vx vy p q. laws.put_one p q;
       before_list = λ κs a x y e f vx vy p q. p ∙ sym q;
       takes = λ κs a x y e f vx vy p q. p ∙ sym q;
-      same = λ κs a x y e f vx vy p q. p ∙ sym q;
     }
 
 pub textlines : promises.Textlines
@@ -262,21 +264,22 @@ textlines =
     record {
       part_at = λ κs a x y e f p q. p ∙ sym q;
       past = λ κs a x y e f vx vy p q. p ∙ sym q;
-      next_from = λ κs a x y e f p q. λ i. ((p.0 ∙ sym q.0) i, (p.1 ∙ sym q.1) i);
-      bumped = λ κs a x y e f vx vy p q. p ∙ sym q;
-      tallied = λ κs a x y e f vx vy p q. p ∙ sym q;
+      reader_next = λ κs a x y e f p q. λ i. ((p.0 ∙ sym q.0) i, record { src = (p.1.0 ∙ sym q.1.0) i; at = (p.1.1 ∙ sym q.1.1) i });
+      tally_counted = λ κs a x y e f vx vy p q. p ∙ sym q;
+      tally_bump = λ κs a x y e f vx vy p q. (refl, p ∙ sym q);
     }
 
 pub reading : promises.Reading
 reading =
     record {
       read_line = λ κs a x y e f vx vy p q. p ∙ sym q;
+      numbers_as_slice = λ κs a x y e f p q. p ∙ sym q;
     }
 
 pub meaning : promises.Meaning
 meaning =
     record {
-      meaning = λ κs a x y e f vx vy p q. p ∙ sym q;
+      meaning = λ κs a x y e f vx vy p q. laws.some-one p q;
     }
 
 pub script : promises.Script

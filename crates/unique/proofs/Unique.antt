@@ -3,7 +3,7 @@
 use mathlib.Core.Bool.{Bool, true, false}
 use mathlib.Core.List.{List, [], ◌∷◌}
 use mathlib.Core.Logic.{inl, inr}
-use mathlib.Core.Path.{◌≡◌, refl, sym, ap, ◌∙◌}
+use mathlib.Core.Path.{◌≡◌, refl, sym, ap, subst, ◌∙◌}
 use Prim.Native.Nat.{ℕ, zero, suc, ◌≤◌, ◌<◌, ◌^◌}
 use native.Mathlib.Omega.{arith}
 use native.Mathlib.Decide.{dec_lt}
@@ -14,13 +14,18 @@ use mir.Syntax.{w64}
 use denote.Array.{each}
 use denote.Plain.{UInt}
 use denote.Shadow.{shadow}
+use Rattle.std.proofs.Props.{props}
+use Rattle.roleset.specs.declared.Ascending.{Ascending}
 use Rattle.roleset.specs.Bounded.{bit}
 use Rattle.roleset.specs.Roles.{has, is_empty}
 use Rattle.roleset.specs.Promises.{Made, Answers, Lowest}
 use Rattle.roleset.proofs.BoundedLaws.{clash, agree}
-use Rattle.numbers.specs.Answers.{number_of}
-use Rattle.numbers.specs.declared.Answer.{Answer}
-use Rattle.numbers.proofs.Answers.{number-one-to-one}
+use Rattle.roleset.proofs.Laws.{is_empty-true}
+use Rattle.std.proofs.Common.{Option, Some, None, Result, Ok, Err, MatchOption}
+use Rattle.numbers.specs.Answers.{Answer, number_of, refusal_number}
+use Rattle.numbers.specs.declared.Refusal.{Refusal}
+use Rattle.numbers.specs.declared.Session.{Session as Opened}
+use Rattle.numbers.proofs.Answers.{number-one-to-one, refusal-one-to-one, refused-not-0}
 use Rattle.model.specs.Model.{Model, Session}
 use Rattle.model.specs.Sheet.{Told}
 use Rattle.lists.specs.Reading.{Reads}
@@ -31,18 +36,13 @@ use Rattle.state.proofs.OneToOne.{view_one_to_one}
 use Rattle.state.proofs.Tables as tables
 use Rattle.hierarchy.specs.Walks.{Reaches, ReachesUp, TellsCircle}
 use Rattle.sweeps.specs.Sweeps.{ShedsAll, Strips}
-use Rattle.state.specs.Results.{is_done, given, both_given}
-use Rattle.sessions.specs.Answering.{Opens, told_opened}
-use Rattle.checking.specs.Answering.{Checks, Owns, told_checked, told_owned}
-use Rattle.sessions.specs.declared.Opened.{Opened}
+use Rattle.state.specs.Results.{told_of, given_number}
+use Rattle.sessions.specs.Answering.{told_opened}
+use Rattle.checking.specs.Answering.{told_checked, told_owned}
 use Rattle.checking.specs.declared.Checked.{Checked}
-use Rattle.checking.specs.declared.Owned.{Owned}
-use Rattle.engine.specs.Stepping.{Steps}
-use Rattle.engine.specs.declared.Stepped.{Stepped}
+use Rattle.engine.specs.Stepping.{opened, told_stepped}
 use Rattle.reviews.specs.Reviewing.{Reviewed}
-use Rattle.reviews.specs.declared.Review.{Review}
 use Rattle.policyform.specs.Promises.{Saves, Loads}
-use Rattle.policyfile.specs.declared.Saved.{Saved}
 use Rattle.policyfile.proofs.Laws as files
 use Rattle.text.specs.Putting.{Put}
 use Rattle.text.specs.Places.{Wrote}
@@ -81,6 +81,10 @@ outcomes {x = x} {y} sl sr p q = (number-one-to-one x y (ap (λ (t : Told). t.an
 pub numbers-one : {n : ℕ} {x y : Answer} → number_of x ≡ n → number_of y ≡ n → x ≡ y
 numbers-one {x = x} {y} p q = number-one-to-one x y (p ∙ sym q)
 
+-- two results that are the same as something that may be there are one
+pub some-one : {A : Type 0} {m : Option A} {x y : A} → Some x ≡ m → Some y ≡ m → x ≡ y
+some-one p q = let z = p ∙ sym q in cc
+
 -- two arrays with the same places are one
 pub arrays : (n : ℕ) (x y : List ℕ) (f : ℕ → ℕ) → length x ≡ n → length y ≡ n → ((k : ℕ) → k < n → get_or x k 0 ≡ f k) → ((k : ℕ) → k < n → get_or y k 0 ≡ f k) → x ≡ y
 arrays n x y f lx ly p q = ext_get_or 0 x y (lx ∙ sym ly) (λ k h. let l : k < n = omega arith in p k l ∙ sym (q k l))
@@ -101,12 +105,26 @@ one-lowest s a b x y = go (dec_lt a b) (dec_lt b a)
     go (no l) (yes r) = clash (has s b) y.member (x.first b r)
     go (no l) (no r) = omega arith
 
-pub lowest-one : (s a b : ℕ) → (a ≤ 64) × ((is_empty s ≡ false → Lowest s a) × (is_empty s ≡ true → a ≡ 64)) → (b ≤ 64) × ((is_empty s ≡ false → Lowest s b) × (is_empty s ≡ true → b ≡ 64)) → a ≡ b
-lowest-one s a b p q = go (is_empty s) refl
-  where
-    go : (e : Bool) → is_empty s ≡ e → a ≡ b
-    go true e = p.1.1 e ∙ sym (q.1.1 e)
-    go false e = one-lowest s a b (p.1.0 e) (q.1.0 e)
+pub lowest-one : (s : ℕ) (a b : Option ℕ) → MatchOption a (is_empty s ≡ true) (λ r. (r < 64) × Lowest s r) → MatchOption b (is_empty s ≡ true) (λ r. (r < 64) × Lowest s r) → a ≡ b
+lowest-one s None None p q = refl
+lowest-one s None (Some b) p q = clash (has s b) q.1.member (is_empty-true s p b q.0)
+lowest-one s (Some a) None p q = clash (has s a) p.1.member (is_empty-true s q a p.0)
+lowest-one s (Some a) (Some b) p q = let z : a ≡ b = one-lowest s a b p.1 q.1 in cc
+
+-- ---- a free session
+
+pub free-one : (n : ℕ) {x y : Option Opened} → MatchOption x (n ≡ 64) (λ s. (s.number ≡ n) × (s.number < 64)) → MatchOption y (n ≡ 64) (λ s. (s.number ≡ n) × (s.number < 64)) → x ≡ y
+free-one n {x = None} {y = None} p q = refl
+free-one n {x = None} {y = Some b} p q = absurd (omega (arith, p, q.0, q.1))
+free-one n {x = Some a} {y = None} p q = absurd (omega (arith, q, p.0, p.1))
+free-one n {x = Some a} {y = Some b} p q = λ i. Some (record { number = (p.0 ∙ sym q.0) i })
+
+-- ---- what goes over a set
+
+pub ascending-one : (x y : Ascending) → x.rest ≡ y.rest → x ≡ y
+ascending-one x y e =
+    let one : IsProp (x.rest < 2 ^ 64) = hlevel props in
+    subst (λ (b : ℕ). (g : b < 2 ^ 64) → x ≡ record { rest = b; fits = g }) e (λ g. λ i. record { rest = x.rest; fits = one x.fits g i }) y.fits
 
 -- ---- the walk
 
@@ -144,79 +162,74 @@ second : List ℕ → ℕ
 second [] = 0
 second (a ∷ rest) = first rest
 
--- Two results, each given where its flag says so and 0 where it does not, are one where what is told is, and so are the flags.
-results-one : (b d : Bool) (m n : ℕ) → given b m ≡ given d n → (b ≡ false → m ≡ 0) → (d ≡ false → n ≡ 0) → (b ≡ d) × (m ≡ n)
-unfolding first
-results-one true true m n e sm sn = (refl, ap first e)
-results-one true false m n e sm sn = absurd (omega (arith, ap length e))
-results-one false true m n e sm sn = absurd (omega (arith, ap length e))
-results-one false false m n e sm sn = (refl, sm refl ∙ sym (sn refl))
-
--- The same of two that are given together.
-both_one : (b d : Bool) (m n k j : ℕ) → both_given b m k ≡ both_given d n j → (b ≡ false → (m ≡ 0) × (k ≡ 0)) → (d ≡ false → (n ≡ 0) × (j ≡ 0)) → (m ≡ n) × (k ≡ j)
-unfolding first second
-both_one true true m n k j e sm sn = (ap first e, ap second e)
-both_one true false m n k j e sm sn = absurd (omega (arith, ap length e))
-both_one false true m n k j e sm sn = absurd (omega (arith, ap length e))
-both_one false false m n k j e sm sn = ((sm refl).0 ∙ sym (sn refl).0, (sm refl).1 ∙ sym (sn refl).1)
-
 bits-one : (a b : Bool) → bit a ≡ bit b → a ≡ b
 bits-one true true e = refl
 bits-one true false e = absurd (omega arith)
 bits-one false true e = absurd (omega arith)
 bits-one false false e = refl
 
-pub opens_one : {t : Told} {x y : Opened} {l r : List ℕ} → State l → State r → Opens t x l → Opens t y r → (x ≡ y) × (l ≡ r)
-unfolding told_opened
-opens_one {x = x} {y} {l} {r} sl sr p q = ((λ i. record { answer = answers i; session = record { number = numbers_one i } }), states sl sr (ap (λ (t : Told). t.after) p.tells) (ap (λ (t : Told). t.after) q.tells))
-  where
-    same : told_opened x l ≡ told_opened y r
-    same = p.tells ∙ sym q.tells
+-- two outcomes with results that tell the same are one, where different results are told differently
+told-of-one : {A : Type 0} (results : A → List ℕ) → ((a b : A) → results a ≡ results b → a ≡ b) → (x y : Result A Refusal) (m n : Model) → told_of results x m ≡ told_of results y n → x ≡ y
+unfolding told_of
+told-of-one results one (Ok a) (Ok b) m n e = let z : a ≡ b = one a b (ap (λ (t : Told). t.results) e) in cc
+told-of-one results one (Ok a) (Err r) m n e = absurd (refused-not-0 r (sym (ap (λ (t : Told). t.answer) e)))
+told-of-one results one (Err r) (Ok b) m n e = absurd (refused-not-0 r (ap (λ (t : Told). t.answer) e))
+told-of-one results one (Err r) (Err q) m n e = let z : r ≡ q = refusal-one-to-one r q (ap (λ (t : Told). t.answer) e) in cc
 
-    answers : x.answer ≡ y.answer
-    answers = number-one-to-one x.answer y.answer (ap (λ (t : Told). t.answer) same)
+-- and what is told leaves the policy and sessions that it is told over
+told-of-after : {A : Type 0} (results : A → List ℕ) (x : Result A Refusal) (m : Model) → (told_of results x m).after ≡ m
+unfolding told_of
+told-of-after results (Ok a) m = refl
+told-of-after results (Err r) m = refl
 
-    numbers_one : x.session.number ≡ y.session.number
-    numbers_one = (results-one (is_done x.answer) (is_done y.answer) x.session.number y.session.number (ap (λ (t : Told). t.results) same) p.silent q.silent).1
+pub leaves : {A : Type 0} (results : A → List ℕ) (x : Result A Refusal) (l : List ℕ) {t : Told} → told_of results x (view l) ≡ t → view l ≡ t.after
+leaves results x l p = sym (told-of-after results x (view l)) ∙ ap (λ (t : Told). t.after) p
 
-pub checks-one : {m : Model} {told : Told} {x y : Checked} → Checks m told x → Checks m told y → x ≡ y
-unfolding told_checked
-checks-one {m} {x = x} {y} p q = λ i. record { answer = answers i; yes = bits-one x.yes y.yes both.0 i; looked = both.1 i }
-  where
-    same : told_checked m x ≡ told_checked m y
-    same = p.tells ∙ sym q.tells
+-- the same, with the states that were left
+leaves-one : {A : Type 0} (results : A → List ℕ) → ((a b : A) → results a ≡ results b → a ≡ b) → {t : Told} {x y : Result A Refusal} {l r : List ℕ} → State l → State r → told_of results x (view l) ≡ t → told_of results y (view r) ≡ t → (x ≡ y) × (l ≡ r)
+leaves-one results one {t} {x} {y} {l} {r} sl sr p q =
+    (told-of-one results one x y _ _ (p ∙ sym q), states sl sr (leaves results x l p) (leaves results y r q))
 
-    answers : x.answer ≡ y.answer
-    answers = number-one-to-one x.answer y.answer (ap (λ (t : Told). t.answer) same)
+-- two refusals or counts that answer and count the same are one
+counted-one : (x y : Result ℕ Refusal) → number_of x ≡ number_of y → given_number x ≡ given_number y → x ≡ y
+counted-one (Ok a) (Ok b) n c = cc
+counted-one (Ok a) (Err r) n c = absurd (refused-not-0 r (sym n))
+counted-one (Err r) (Ok b) n c = absurd (refused-not-0 r n)
+counted-one (Err r) (Err q) n c = let z : r ≡ q = refusal-one-to-one r q n in cc
 
-    both : (bit x.yes ≡ bit y.yes) × (x.looked ≡ y.looked)
-    both = both_one (is_done x.answer) (is_done y.answer) (bit x.yes) (bit y.yes) x.looked y.looked (ap (λ (t : Told). t.results) same) (λ h. (ap bit (p.silent h).0, (p.silent h).1)) (λ h. (ap bit (q.silent h).0, (q.silent h).1))
+session-one : (a b : Opened) → ◌≡◌ {A = List ℕ} (a.number ∷ []) (b.number ∷ []) → a ≡ b
+unfolding first
+session-one a b e = λ i. record { number = (ap first e) i }
 
-pub owns-one : {m : Model} {told : Told} {x y : Owned} → Owns m told x → Owns m told y → x ≡ y
-unfolding told_owned
-owns-one {m} {x = x} {y} p q = λ i. record { answer = answers i; owner = (results-one (is_done x.answer) (is_done y.answer) x.owner y.owner (ap (λ (t : Told). t.results) same) p.silent q.silent).1 i }
-  where
-    same : told_owned m x ≡ told_owned m y
-    same = p.tells ∙ sym q.tells
+pub told-opened-one : {t : Told} {x y : Result Opened Refusal} {l r : List ℕ} → State l → State r → told_opened x l ≡ t → told_opened y r ≡ t → (x ≡ y) × (l ≡ r)
+told-opened-one sl sr p q = leaves-one (λ (s : Opened). s.number ∷ []) session-one sl sr p q
 
-    answers : x.answer ≡ y.answer
-    answers = number-one-to-one x.answer y.answer (ap (λ (t : Told). t.answer) same)
+checked-one : (a b : Checked) → ◌≡◌ {A = List ℕ} (bit a.yes ∷ a.looked ∷ []) (bit b.yes ∷ b.looked ∷ []) → a ≡ b
+unfolding first second
+checked-one a b e = λ i. record { yes = bits-one a.yes b.yes (ap first e) i; looked = (ap second e) i }
+
+pub told-checked-one : (m : Model) {told : Told} {x y : Result Checked Refusal} → told_checked m x ≡ told → told_checked m y ≡ told → x ≡ y
+told-checked-one m {x = x} {y} p q = told-of-one (λ (c : Checked). bit c.yes ∷ c.looked ∷ []) checked-one x y m m (p ∙ sym q)
+
+pub told-owned-one : (m : Model) {told : Told} {x y : Result ℕ Refusal} → told_owned m x ≡ told → told_owned m y ≡ told → x ≡ y
+unfolding first
+told-owned-one m {x = x} {y} p q = told-of-one (λ (o : ℕ). o ∷ []) (λ a b e. ap first e) x y m m (p ∙ sym q)
 
 -- ---- every command through one function
 
-pub steps-one : {t : Told} {x y : Stepped} {l r : List ℕ} → State l → State r → Steps t x l → Steps t y r → (x ≡ y) × (l ≡ r)
-steps-one {x = x} {y} sl sr p q = (
-  (λ i. record { answer = number-one-to-one x.answer y.answer (p.answer ∙ sym q.answer) i; result = results.0 i; opened = record { number = results.1 i } }),
-  states sl sr p.after q.after,
-)
-  where
-    results : (x.result ≡ y.result) × (x.opened.number ≡ y.opened.number)
-    results = results-one x.result y.result x.opened.number y.opened.number (p.results ∙ sym q.results) p.silent q.silent
+opened-one : (a b : Option Opened) → opened a ≡ opened b → a ≡ b
+opened-one None None e = refl
+opened-one None (Some b) e = absurd (omega (arith, ap length e))
+opened-one (Some a) None e = absurd (omega (arith, ap length e))
+opened-one (Some a) (Some b) e = let z : a ≡ b = session-one a b e in cc
+
+pub told-stepped-one : {t : Told} {x y : Result (Option Opened) Refusal} {l r : List ℕ} → State l → State r → told_stepped x l ≡ t → told_stepped y r ≡ t → (x ≡ y) × (l ≡ r)
+told-stepped-one sl sr p q = leaves-one opened opened-one sl sr p q
 
 -- ---- the reviews, with the buffer lent
 
-pub reviewed-one : {told : Told} {before after after' : List ℕ} {x y : Review} → Reviewed told before after x → Reviewed told before after' y → (x ≡ y) × (after ≡ after')
-reviewed-one {x = x} {y} p q = ((λ i. record { answer = number-one-to-one x.answer y.answer (p.answer ∙ sym q.answer) i; count = (p.count ∙ sym q.count) i }), p.buffer ∙ sym q.buffer)
+pub reviewed-one : {told : Told} {before after after' : List ℕ} {x y : Result ℕ Refusal} → Reviewed told before after x → Reviewed told before after' y → (x ≡ y) × (after ≡ after')
+reviewed-one {x = x} {y} p q = (counted-one x y (p.answer ∙ sym q.answer) (p.count ∙ sym q.count), p.buffer ∙ sym q.buffer)
 
 -- ---- texts and files
 
@@ -229,10 +242,10 @@ wrote_one p q = (p.next ∙ sym q.next, p.buffer ∙ sym q.buffer)
 pub tells-one : {statement : Type 0} {x y : Bool} → Tells x statement → Tells y statement → x ≡ y
 tells-one {x = x} {y} p q = agree x y (λ h. q.says (p.holds h)) (λ h. p.says (q.holds h))
 
-pub saves-one : {m : Model} {out after after' : List ℕ} {x y : Saved} → Saves m out after (number_of x.answer) x.length → Saves m out after' (number_of y.answer) y.length → (x ≡ y) × (after ≡ after')
+pub saves-one : {m : Model} {out after after' : List ℕ} {x y : Result ℕ Refusal} → Saves m out after (number_of x) (given_number x) → Saves m out after' (number_of y) (given_number y) → (x ≡ y) × (after ≡ after')
 saves-one {m} {out} {after} {after'} {x} {y} p q =
-    let one = files.saves-one m out after after' (number_of x.answer) (number_of y.answer) x.length y.length p q in
-    ((λ i. record { answer = number-one-to-one x.answer y.answer one.0 i; length = one.1.0 i }), one.1.1)
+    let one = files.saves-one m out after after' (number_of x) (number_of y) (given_number x) (given_number y) p q in
+    (counted-one x y one.0 one.1.0, one.1.1)
 
 pub loads-one : {m : Model} {bytes : List ℕ} {x y : Answer} {l r : List ℕ} → State l → State r → Loads m bytes (told x l) → Loads m bytes (told y r) → (x ≡ y) × (l ≡ r)
 loads-one {m} {bytes} {x} {y} {l} {r} sl sr p q = outcomes sl sr refl (sym (files.loads-one m bytes (told x l) (told y r) p q))

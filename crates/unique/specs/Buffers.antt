@@ -3,6 +3,7 @@
 -- Assumes nothing.
 use Rattle.std.specs.Prelude.{List, ◌≡◌, ℕ, ◌≤◌, ◌<◌, length, get_or}
 use Rattle.numbers.specs.Answers.{number_of}
+use Rattle.state.specs.Results.{given_number}
 use Rattle.state.specs.View.{view}
 use Rattle.textlines.specs.Parts.{part_at}
 use Rattle.script.specs.Script.{answer_text, obey, line_feed}
@@ -51,23 +52,23 @@ pub record Around (at next : ℕ) (before after : List ℕ) : Type 0 where
 pub record Buffers : Type 0 where
   -- Every review, by its own function and by `ask`: the buffer has the results at its front.
   -- ---- written by tests/unique.py: the reviews
-  pub assigned_users : (c : Call reviews.assigned_users.Kinds.ps reviews.assigned_users.Kinds.r reviews.assigned_users.Reads.Post) → Lent (number_of c.result.answer) c.result.count c.given.1.1.0.now c.exits.1.1.0.now
-  pub assigned_roles : (c : Call reviews.assigned_roles.Kinds.ps reviews.assigned_roles.Kinds.r reviews.assigned_roles.Reads.Post) → Lent (number_of c.result.answer) c.result.count c.given.1.1.0.now c.exits.1.1.0.now
-  pub auth_users : (c : Call reviews.auth_users.Kinds.ps reviews.auth_users.Kinds.r reviews.auth_users.Reads.Post) → Lent (number_of c.result.answer) c.result.count c.given.1.1.0.now c.exits.1.1.0.now
-  pub auth_roles : (c : Call reviews.auth_roles.Kinds.ps reviews.auth_roles.Kinds.r reviews.auth_roles.Reads.Post) → Lent (number_of c.result.answer) c.result.count c.given.1.1.0.now c.exits.1.1.0.now
-  pub role_perms : (c : Call reviews.role_perms.Kinds.ps reviews.role_perms.Kinds.r reviews.role_perms.Reads.Post) → Lent (number_of c.result.answer) c.result.count c.given.1.1.0.now c.exits.1.1.0.now
-  pub user_perms : (c : Call reviews.user_perms.Kinds.ps reviews.user_perms.Kinds.r reviews.user_perms.Reads.Post) → Lent (number_of c.result.answer) c.result.count c.given.1.1.0.now c.exits.1.1.0.now
-  pub session_roles : (c : Call reviews.session_roles.Kinds.ps reviews.session_roles.Kinds.r reviews.session_roles.Reads.Post) → Lent (number_of c.result.answer) c.result.count c.given.1.1.0.now c.exits.1.1.0.now
-  pub session_perms : (c : Call reviews.session_perms.Kinds.ps reviews.session_perms.Kinds.r reviews.session_perms.Reads.Post) → Lent (number_of c.result.answer) c.result.count c.given.1.1.0.now c.exits.1.1.0.now
-  pub role_ops : (c : Call reviews.role_ops.Kinds.ps reviews.role_ops.Kinds.r reviews.role_ops.Reads.Post) → Lent (number_of c.result.answer) c.result.count c.given.1.1.1.0.now c.exits.1.1.1.0.now
-  pub user_ops : (c : Call reviews.user_ops.Kinds.ps reviews.user_ops.Kinds.r reviews.user_ops.Reads.Post) → Lent (number_of c.result.answer) c.result.count c.given.1.1.1.0.now c.exits.1.1.1.0.now
-  pub set_names : (c : Call reviews.set_names.Kinds.ps reviews.set_names.Kinds.r reviews.set_names.Reads.Post) → Lent (number_of c.result.answer) c.result.count c.given.1.1.0.now c.exits.1.1.0.now
-  pub set_roles : (c : Call reviews.set_roles.Kinds.ps reviews.set_roles.Kinds.r reviews.set_roles.Reads.Post) → Lent (number_of c.result.answer) c.result.count c.given.1.1.1.0.now c.exits.1.1.1.0.now
-  pub set_count : (c : Call reviews.set_count.Kinds.ps reviews.set_count.Kinds.r reviews.set_count.Reads.Post) → Lent (number_of c.result.answer) c.result.count c.given.1.1.1.0.now c.exits.1.1.1.0.now
-  pub ask : (c : Call engine.ask.Kinds.ps engine.ask.Kinds.r engine.ask.Reads.Post) → Lent (number_of c.result.answer) c.result.count c.given.1.1.0.now c.exits.1.1.0.now
+  pub assigned_users : (c : Call reviews.assigned_users.Kinds.ps reviews.assigned_users.Kinds.r reviews.assigned_users.Reads.Post) → Lent (number_of c.result) (given_number c.result) c.given.1.1.0.now c.exits.1.1.0.now
+  pub assigned_roles : (c : Call reviews.assigned_roles.Kinds.ps reviews.assigned_roles.Kinds.r reviews.assigned_roles.Reads.Post) → Lent (number_of c.result) (given_number c.result) c.given.1.1.0.now c.exits.1.1.0.now
+  pub auth_users : (c : Call reviews.auth_users.Kinds.ps reviews.auth_users.Kinds.r reviews.auth_users.Reads.Post) → Lent (number_of c.result) (given_number c.result) c.given.1.1.0.now c.exits.1.1.0.now
+  pub auth_roles : (c : Call reviews.auth_roles.Kinds.ps reviews.auth_roles.Kinds.r reviews.auth_roles.Reads.Post) → Lent (number_of c.result) (given_number c.result) c.given.1.1.0.now c.exits.1.1.0.now
+  pub role_perms : (c : Call reviews.role_perms.Kinds.ps reviews.role_perms.Kinds.r reviews.role_perms.Reads.Post) → Lent (number_of c.result) (given_number c.result) c.given.1.1.0.now c.exits.1.1.0.now
+  pub user_perms : (c : Call reviews.user_perms.Kinds.ps reviews.user_perms.Kinds.r reviews.user_perms.Reads.Post) → Lent (number_of c.result) (given_number c.result) c.given.1.1.0.now c.exits.1.1.0.now
+  pub session_roles : (c : Call reviews.session_roles.Kinds.ps reviews.session_roles.Kinds.r reviews.session_roles.Reads.Post) → Lent (number_of c.result) (given_number c.result) c.given.1.1.0.now c.exits.1.1.0.now
+  pub session_perms : (c : Call reviews.session_perms.Kinds.ps reviews.session_perms.Kinds.r reviews.session_perms.Reads.Post) → Lent (number_of c.result) (given_number c.result) c.given.1.1.0.now c.exits.1.1.0.now
+  pub role_ops : (c : Call reviews.role_ops.Kinds.ps reviews.role_ops.Kinds.r reviews.role_ops.Reads.Post) → Lent (number_of c.result) (given_number c.result) c.given.1.1.1.0.now c.exits.1.1.1.0.now
+  pub user_ops : (c : Call reviews.user_ops.Kinds.ps reviews.user_ops.Kinds.r reviews.user_ops.Reads.Post) → Lent (number_of c.result) (given_number c.result) c.given.1.1.1.0.now c.exits.1.1.1.0.now
+  pub set_names : (c : Call reviews.set_names.Kinds.ps reviews.set_names.Kinds.r reviews.set_names.Reads.Post) → Lent (number_of c.result) (given_number c.result) c.given.1.1.0.now c.exits.1.1.0.now
+  pub set_roles : (c : Call reviews.set_roles.Kinds.ps reviews.set_roles.Kinds.r reviews.set_roles.Reads.Post) → Lent (number_of c.result) (given_number c.result) c.given.1.1.1.0.now c.exits.1.1.1.0.now
+  pub set_count : (c : Call reviews.set_count.Kinds.ps reviews.set_count.Kinds.r reviews.set_count.Reads.Post) → Lent (number_of c.result) (given_number c.result) c.given.1.1.1.0.now c.exits.1.1.1.0.now
+  pub ask : (c : Call engine.ask.Kinds.ps engine.ask.Kinds.r engine.ask.Reads.Post) → Lent (number_of c.result) (given_number c.result) c.given.1.1.0.now c.exits.1.1.0.now
   -- ---- end of what tests/unique.py writes
   -- "Saving answers 15 or 0 with the length".
-  pub save : (c : Call policyfile.save.Kinds.ps policyfile.save.Kinds.r policyfile.save.Reads.Post) → Lent (number_of c.result.answer) c.result.length c.given.1.0.now c.exits.1.0.now
+  pub save : (c : Call policyfile.save.Kinds.ps policyfile.save.Kinds.r policyfile.save.Reads.Post) → Lent (number_of c.result) (given_number c.result) c.given.1.0.now c.exits.1.0.now
   -- A line of a script puts its answer's text, done or refused, and nothing else.
   pub answer_line : (c : Call script.answer_line.Kinds.ps script.answer_line.Kinds.r script.answer_line.Reads.Post)
       → let t = obey (view c.given.0.now) c.given.1.0.now in Texted (answer_text t.answer t.results) c.result.len c.given.1.1.0.now c.exits.1.1.0.now

@@ -5,9 +5,10 @@
 --
 -- Of a call c, `c.given` is what the function was given, in the order of its parameters: .0 is the first, .1 .0 the second, .1 .1 .0 the third. `c.exits`
 -- is the same after the call, `c.result` what it handed back, and `.now` the numbers of what was lent.
-use Rattle.std.specs.Prelude.{true, not, List, [], ◌∷◌, ◌⊎◌, ◌↔◌, ◌≡◌, ℕ, ◌+◌, ◌*◌, ◌<◌, ◌≤◌, eqb, length, get_or, take, drop}
+use Rattle.std.specs.Prelude.{true, not, Result, Ok, Err, IsOkAnd, List, [], ◌∷◌, ◌⊎◌, ◌↔◌, ◌≡◌, ℕ, ◌+◌, ◌*◌, ◌<◌, ◌≤◌, eqb, length, get_or, take, drop, Option, Some, None}
 use Rattle.std.proofs.lemmas.List.Edits.{sets}
-use Rattle.numbers.specs.Answers.{number_of}
+use Rattle.numbers.specs.Answers.{number_of, refusal_number}
+use Rattle.numbers.specs.declared.Refusal.{Refusal}
 use Rattle.numbers.specs.declared.Session.{Session}
 use Rattle.model.specs.Model.{Model, empty}
 use Rattle.model.specs.Questions as model
@@ -17,11 +18,9 @@ use Rattle.model.specs.declared.Command.TheVariants as commands
 use Rattle.model.specs.declared.Question.{Question}
 use Rattle.model.specs.declared.Question.TheVariants as questions
 use Rattle.state.specs.View.{view, told}
-use Rattle.state.specs.Results.{given, both_given}
+use Rattle.state.specs.Results.{given_number, given, both_given}
 use Rattle.sessions.specs.Answering.{told_opened}
 use Rattle.checking.specs.Answering.{told_checked}
-use Rattle.engine.specs.declared.Stepped.{Stepped}
-use Rattle.reviews.specs.declared.Review.{Review}
 use Rattle.text.specs.Putting.{Put}
 use Rattle.textlines.specs.Parts.{part_at, place_past}
 use Rattle.textlines.specs.Tallies.{counted}
@@ -29,7 +28,7 @@ use Rattle.words.specs.ScriptWords.{word_of}
 use Rattle.transcripts.specs.LineForm.{LineForm}
 use Rattle.meaning.specs.Meaning.{meant}
 use Rattle.meaning.specs.declared.Meant.{Meant}
-use Rattle.meaning.specs.declared.Meant.TheVariants.{Do, Ask, Nothing}
+use Rattle.meaning.specs.declared.Meant.TheVariants.{Do, Ask}
 use Rattle.script.specs.Script.{answer_text, line_feed}
 use Rattle.program.specs.Printing.{Begins, stage_of, line}
 use Rattle.demands.specs.Demand2.{Exactly, Applies, ◌beyond◌, refusals, results, effect, check_refusals, Checked, Granted}
@@ -66,9 +65,11 @@ Does m c list told = Exactly m (refusals m c list) (results m c list) (effect m 
 abbrev pub Obeyed : List ℕ → Command → List ℕ → Told → Type 0
 Obeyed l c list told = Handed l → Does (view l) c list told
 
--- What `step` told that left the state l: the answer's number, the session that was opened where there is a result, and the policy and sessions after it.
-unfoldable pub told_stepped : Stepped → List ℕ → Told
-told_stepped x l = record { answer = number_of x.answer; results = given x.result x.opened.number; after = view l }
+-- What `step` told that left the state l: the answer's number, the session that was opened where there is one, and the policy and sessions after it.
+abbrev pub told_stepped : Result (Option Session) Refusal → List ℕ → Told
+told_stepped (Ok None) l = record { answer = 0; results = []; after = view l }
+told_stepped (Ok (Some opened)) l = record { answer = 0; results = opened.number ∷ []; after = view l }
+told_stepped (Err refusal) l = record { answer = refusal_number refusal; results = []; after = view l }
 
 -- Each command, by its own function, with any numbers and any list; and any command through `step`.
 pub record Commands : Type 0 where
@@ -106,11 +107,11 @@ pub record MayDo (m : Model) (s op obj : ℕ) : Type 0 where
   pub granted : Granted m s (op * 256 + obj)
 
 -- What a review told over m that left this buffer: the answer's number, and as many results at the buffer's front as it counted. A question changes nothing.
-unfoldable pub told_review : Model → Review → List ℕ → Told
-told_review m x after = record { answer = number_of x.answer; results = take x.count after; after = m }
+unfoldable pub told_review : Model → Result ℕ Refusal → List ℕ → Told
+told_review m x after = record { answer = number_of x; results = take (given_number x) after; after = m }
 
 -- What a review handed back is what the model's `ask` tells of the question, asked of the state l with as much room as the buffer had before.
-abbrev pub Tells : List ℕ → Question → List ℕ → List ℕ → Review → Type 0
+abbrev pub Tells : List ℕ → Question → List ℕ → List ℕ → Result ℕ Refusal → Type 0
 Tells l q before after x = told_review (view l) x after ≡ model.ask (view l) (length before) q
 
 -- What is told of a question in a buffer with so many places: what has no more results than that is told as it is, and what would have more is 15.
@@ -129,7 +130,7 @@ pub record Questions : Type 0 where
   -- `check`, asked with the lent state and the session's number, is refused and answered as demand 2 says.
   pub check : (c : Call checking.check.Kinds.ps checking.check.Kinds.r checking.check.Reads.Post) → Handed c.given.0.now → Checked (view c.given.0.now) c.given.1.0.number c.given.1.1.0 c.given.1.1.1.0 (told_checked (view c.given.0.now) c.result)
   -- "Yes exactly when some effective role of the session holds the grant."
-  pub yes : (c : Call checking.check.Kinds.ps checking.check.Kinds.r checking.check.Reads.Post) → Handed c.given.0.now → (c.result.yes ≡ true) ↔ MayDo (view c.given.0.now) c.given.1.0.number c.given.1.1.0 c.given.1.1.1.0
+  pub yes : (c : Call checking.check.Kinds.ps checking.check.Kinds.r checking.check.Reads.Post) → Handed c.given.0.now → IsOkAnd c.result (λ x. x.yes ≡ true) ↔ MayDo (view c.given.0.now) c.given.1.0.number c.given.1.1.0 c.given.1.1.1.0
   -- Any question through `ask`, of any state: a review with any buffer, `check` with one of two places or more.
   pub ask : (c : Call engine.ask.Kinds.ps engine.ask.Kinds.r engine.ask.Reads.Post) → HasRoom c.given.1.0 (length c.given.1.1.0.now)
       → Tells c.given.0.now c.given.1.0 c.given.1.1.0.now c.exits.1.1.0.now c.result
@@ -141,9 +142,9 @@ pub record Questions : Type 0 where
       → InPlaces (length c.given.1.1.0.now) (view c.given.0.now) (model.ask (view c.given.0.now) (length c.given.1.1.0.now) c.given.1.0) (told_review (view c.given.0.now) c.result c.exits.1.1.0.now)
   -- So `check` is 15 exactly where it is not refused otherwise and the buffer has fewer than two places (request 10).
   pub two_places : (c : Call engine.ask.Kinds.ps engine.ask.Kinds.r engine.ask.Reads.Post) (s : Session) (op obj : ℕ) → c.given.1.0 ≡ questions.Check s op obj
-      → (number_of c.result.answer ≡ 15) ↔ (((n : ℕ) → Applies (check_refusals (view c.given.0.now) s.number op obj) n → ⊥) × (length c.given.1.1.0.now < 2))
+      → (number_of c.result ≡ 15) ↔ (((n : ℕ) → Applies (check_refusals (view c.given.0.now) s.number op obj) n → ⊥) × (length c.given.1.1.0.now < 2))
   -- Whose a session is, of any state: 1 where its number is beyond 63, else 2 where it is not open, else its owner.
-  pub owner : (c : Call checking.owner.Kinds.ps checking.owner.Kinds.r checking.owner.Reads.Post) → OwnerTold (view c.given.0.now) c.given.1.0.number (number_of c.result.answer) c.result.owner
+  pub owner : (c : Call checking.owner.Kinds.ps checking.owner.Kinds.r checking.owner.Reads.Post) → OwnerTold (view c.given.0.now) c.given.1.0.number (number_of c.result) (given_number c.result)
   -- Each review by its own function, of any state, with any buffer.
   -- ---- written by tests/unique.py: the reviews
   pub assigned_users : (c : Call reviews.assigned_users.Kinds.ps reviews.assigned_users.Kinds.r reviews.assigned_users.Reads.Post) → Tells c.given.0.now (questions.AssignedUsers c.given.1.0) c.given.1.1.0.now c.exits.1.1.0.now c.result
@@ -164,10 +165,10 @@ pub record Questions : Type 0 where
 -- ---- lines of a script
 
 -- What is told of a line that means a command, a question or nothing.
-abbrev pub Means : Model → Meant → List ℕ → Told → Type 0
-Means m (Do c) list told = Does m c list told
-Means m (Ask q) list told = told ≡ model.ask m 4096 q
-Means m Nothing list told = told ≡ refused 14 m
+abbrev pub Means : Model → Option Meant → List ℕ → Told → Type 0
+Means m (Some (Do c)) list told = Does m c list told
+Means m (Some (Ask q)) list told = told ≡ model.ask m 4096 q
+Means m None list told = told ≡ refused 14 m
 
 -- What is told of any text: where it is a word and its numbers, written as the paper says, what these mean; else 14, and nothing is changed.
 pub record LineTells (m : Model) (text : List ℕ) (told : Told) : Type 0 where
@@ -199,17 +200,17 @@ pub record Lines : Type 0 where
 
 pub record Files : Type 0 where
   -- "A policy of ours never needs more than 36,048 bytes": with that much room saving is done.
-  pub room : (s : Call policyfile.save.Kinds.ps policyfile.save.Kinds.r policyfile.save.Reads.Post) → Handed s.given.0.now → 36048 ≤ length s.given.1.0.now → number_of s.result.answer ≡ 0
+  pub room : (s : Call policyfile.save.Kinds.ps policyfile.save.Kinds.r policyfile.save.Reads.Post) → Handed s.given.0.now → 36048 ≤ length s.given.1.0.now → number_of s.result ≡ 0
   -- "A saved policy loads as itself": a save that is done, and then a load, into any state, of the bytes that it wrote. The load is done, and the array
   -- after it is the array that was saved, number by number.
   pub itself : (s : Call policyfile.save.Kinds.ps policyfile.save.Kinds.r policyfile.save.Reads.Post) (l : Call policyfile.load.Kinds.ps policyfile.load.Kinds.r policyfile.load.Reads.Post)
-      → Handed s.given.0.now → State s.given.0.now → State l.exits.0.now → number_of s.result.answer ≡ 0 → l.given.1.0.now ≡ take s.result.length s.exits.1.0.now
+      → Handed s.given.0.now → State s.given.0.now → State l.exits.0.now → number_of s.result ≡ 0 → l.given.1.0.now ≡ take (given_number s.result) s.exits.1.0.now
       → (number_of l.result ≡ 0) × (l.exits.0.now ≡ s.given.0.now)
   -- "a file that loads is saved again byte for byte": a load that is done, and then a save of what it left into a buffer with room for the file. The save
   -- is done, and what it wrote is the file.
   pub again : (l : Call policyfile.load.Kinds.ps policyfile.load.Kinds.r policyfile.load.Reads.Post) (s : Call policyfile.save.Kinds.ps policyfile.save.Kinds.r policyfile.save.Reads.Post)
       → number_of l.result ≡ 0 → s.given.0.now ≡ l.exits.0.now → length l.given.1.0.now ≤ length s.given.1.0.now
-      → (number_of s.result.answer ≡ 0) × (s.result.length ≡ length l.given.1.0.now) × (take s.result.length s.exits.1.0.now ≡ l.given.1.0.now)
+      → (number_of s.result ≡ 0) × (given_number s.result ≡ length l.given.1.0.now) × (take (given_number s.result) s.exits.1.0.now ≡ l.given.1.0.now)
 
 -- ---- what a C program calls
 

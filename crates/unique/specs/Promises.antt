@@ -1,5 +1,8 @@
 -- Every public function's promise leaves one outcome. One line for each function, over its own contract; a record for each crate. Assumes nothing.
 use Rattle.std.specs.Prelude.{List, ℕ}
+use denote.Param.Laws.{Laws}
+use mir.Syntax.{Dict}
+use Rattle.std.specs.Borrow.{RattleType}
 use Rattle.unique.specs.Unique.{Unique, UniqueLent, UniqueSeen, UniqueState, UniqueBoth}
 -- ---- written by tests/unique.py: the crates
 use Rattle.roleset.proofs as roleset
@@ -33,6 +36,8 @@ use Rattle.meaning.proofs as meaning
 use Rattle.script.proofs as script
 use Rattle.program.proofs as program
 use Rattle.clibrary.proofs as clibrary
+use Rattle.textlines.specs.declared.Reader.{Reader}
+use Rattle.hierarchy.specs.declared.Lines as Lines_of_hierarchy
 
 -- ---- end of what tests/unique.py writes
 -- ---- written by tests/unique.py: a record for each crate, a line for each public function
@@ -48,29 +53,32 @@ pub record Roleset : Type 0 where
   pub is_empty : Unique roleset.is_empty.Kinds.ps roleset.is_empty.Kinds.r roleset.is_empty.Reads.Post
   pub count : Unique roleset.count.Kinds.ps roleset.count.Kinds.r roleset.count.Reads.Post
   pub lowest : Unique roleset.lowest.Kinds.ps roleset.lowest.Kinds.r roleset.lowest.Reads.Post
+  pub members : Unique roleset.members.Kinds.ps roleset.members.Kinds.r roleset.members.Reads.Post
   pub size : Unique roleset.size.Kinds.ps roleset.size.Kinds.r roleset.size.Reads.Post
   pub at_least : Unique roleset.at_least.Kinds.ps roleset.at_least.Kinds.r roleset.at_least.Reads.Post
 
 pub record Numbers : Type 0 where
   pub number_of : Unique numbers.number_of.Kinds.ps numbers.number_of.Kinds.r numbers.number_of.Reads.Post
   pub answer_of : Unique numbers.answer_of.Kinds.ps numbers.answer_of.Kinds.r numbers.answer_of.Reads.Post
-  pub is_done : Unique numbers.is_done.Kinds.ps numbers.is_done.Kinds.r numbers.is_done.Reads.Post
-  pub user_beyond : Unique numbers.user_beyond.Kinds.ps numbers.user_beyond.Kinds.r numbers.user_beyond.Reads.Post
-  pub role_beyond : Unique numbers.role_beyond.Kinds.ps numbers.role_beyond.Kinds.r numbers.role_beyond.Reads.Post
-  pub session_beyond : Unique numbers.session_beyond.Kinds.ps numbers.session_beyond.Kinds.r numbers.session_beyond.Reads.Post
-  pub set_beyond : Unique numbers.set_beyond.Kinds.ps numbers.set_beyond.Kinds.r numbers.set_beyond.Reads.Post
   pub activation_beyond : Unique numbers.activation_beyond.Kinds.ps numbers.activation_beyond.Kinds.r numbers.activation_beyond.Reads.Post
+  pub user_number : Unique numbers.UserNumbered.number.Kinds.ps numbers.UserNumbered.number.Kinds.r numbers.UserNumbered.number.Reads.Post
+  pub user_is_beyond : Unique numbers.UserNumbered.is_beyond.Kinds.ps numbers.UserNumbered.is_beyond.Kinds.r numbers.UserNumbered.is_beyond.Reads.Post
+  pub role_number : Unique numbers.RoleNumbered.number.Kinds.ps numbers.RoleNumbered.number.Kinds.r numbers.RoleNumbered.number.Reads.Post
+  pub role_is_beyond : Unique numbers.RoleNumbered.is_beyond.Kinds.ps numbers.RoleNumbered.is_beyond.Kinds.r numbers.RoleNumbered.is_beyond.Reads.Post
+  pub session_number : Unique numbers.SessionNumbered.number.Kinds.ps numbers.SessionNumbered.number.Kinds.r numbers.SessionNumbered.number.Reads.Post
+  pub session_is_beyond : Unique numbers.SessionNumbered.is_beyond.Kinds.ps numbers.SessionNumbered.is_beyond.Kinds.r numbers.SessionNumbered.is_beyond.Reads.Post
+  pub set_name_number : Unique numbers.SetNameNumbered.number.Kinds.ps numbers.SetNameNumbered.number.Kinds.r numbers.SetNameNumbered.number.Reads.Post
+  pub set_name_is_beyond : Unique numbers.SetNameNumbered.is_beyond.Kinds.ps numbers.SetNameNumbered.is_beyond.Kinds.r numbers.SetNameNumbered.is_beyond.Reads.Post
 
-pub record Hierarchy : Type 0 where
-  pub reach : Unique hierarchy.reach.Kinds.ps hierarchy.reach.Kinds.r hierarchy.reach.Reads.Post
+pub record Hierarchy : Type 2 where
+  pub reach : (T : RattleType) (L : Laws T) (g : Lines_of_hierarchy.Ghosts T.Denot) (d : Dict) → Unique (hierarchy.reach.Kinds.ps T L) (hierarchy.reach.Kinds.r T L) (hierarchy.reach.Reads.Post T L g d)
   pub circular : Unique hierarchy.circular.Kinds.ps hierarchy.circular.Kinds.r hierarchy.circular.Reads.Post
   pub turned : Unique hierarchy.turned.Kinds.ps hierarchy.turned.Kinds.r hierarchy.turned.Reads.Post
   pub at_or_above : Unique hierarchy.at_or_above.Kinds.ps hierarchy.at_or_above.Kinds.r hierarchy.at_or_above.Reads.Post
+  pub array_u6464_below : Unique hierarchy.ArrayU6464Lines.below.Kinds.ps hierarchy.ArrayU6464Lines.below.Kinds.r hierarchy.ArrayU6464Lines.below.Reads.Post
 
 pub record State : Type 0 where
-  pub either : Unique state.naming.either.Kinds.ps state.naming.either.Kinds.r state.naming.either.Reads.Post
   pub permission_beyond : Unique state.naming.permission_beyond.Kinds.ps state.naming.permission_beyond.Kinds.r state.naming.permission_beyond.Reads.Post
-  pub less : Unique state.naming.less.Kinds.ps state.naming.less.Kinds.r state.naming.less.Reads.Post
   pub juniors : UniqueSeen state.parts.juniors.Kinds.ps state.parts.juniors.Kinds.r state.parts.juniors.Reads.Post (λ κs x e. x.now)
   pub assigned : UniqueSeen state.parts.assigned.Kinds.ps state.parts.assigned.Kinds.r state.parts.assigned.Reads.Post (λ κs x e. x.now)
   pub active : UniqueSeen state.parts.active.Kinds.ps state.parts.active.Kinds.r state.parts.active.Reads.Post (λ κs x e. x.now)
@@ -212,17 +220,17 @@ pub record Words : Type 0 where
   pub put_word : UniqueLent words.put_word.Kinds.ps words.put_word.Kinds.r words.put_word.Reads.Post (λ κs e. e.0.now)
   pub before_list : Unique words.before_list.Kinds.ps words.before_list.Kinds.r words.before_list.Reads.Post
   pub takes : Unique words.takes.Kinds.ps words.takes.Kinds.r words.takes.Reads.Post
-  pub same : Unique words.same.Kinds.ps words.same.Kinds.r words.same.Reads.Post
 
 pub record Textlines : Type 0 where
   pub part_at : UniqueSeen textlines.part_at.Kinds.ps textlines.part_at.Kinds.r textlines.part_at.Reads.Post (λ κs x e. x.now)
   pub past : Unique textlines.past.Kinds.ps textlines.past.Kinds.r textlines.past.Reads.Post
-  pub next_from : UniqueSeen {A = List ℕ × ℕ} textlines.next_from.Kinds.ps textlines.next_from.Kinds.r textlines.next_from.Reads.Post (λ κs x e. (x.now, e.1.0.now))
-  pub bumped : Unique textlines.bumped.Kinds.ps textlines.bumped.Kinds.r textlines.bumped.Reads.Post
-  pub tallied : Unique textlines.tallied.Kinds.ps textlines.tallied.Kinds.r textlines.tallied.Reads.Post
+  pub reader_next : UniqueSeen {A = List ℕ × Reader} textlines.Reader.next.Kinds.ps textlines.Reader.next.Kinds.r textlines.Reader.next.Reads.Post (λ κs x e. (x.now, e.0.now))
+  pub tally_counted : Unique textlines.Tally.counted.Kinds.ps textlines.Tally.counted.Kinds.r textlines.Tally.counted.Reads.Post
+  pub tally_bump : UniqueLent textlines.Tally.bump.Kinds.ps textlines.Tally.bump.Kinds.r textlines.Tally.bump.Reads.Post (λ κs e. e.0.now)
 
 pub record Reading : Type 0 where
   pub read_line : Unique reading.read_line.Kinds.ps reading.read_line.Kinds.r reading.read_line.Reads.Post
+  pub numbers_as_slice : UniqueSeen reading.Numbers.as_slice.Kinds.ps reading.Numbers.as_slice.Kinds.r reading.Numbers.as_slice.Reads.Post (λ κs x e. x.now)
 
 pub record Meaning : Type 0 where
   pub meaning : Unique meaning.meaning.Kinds.ps meaning.meaning.Kinds.r meaning.meaning.Reads.Post
