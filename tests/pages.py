@@ -238,7 +238,8 @@ def check_answer_row(row, sentence, all_words, scene):
 
 def check_answers(all_words, scene):
     page = read("docs/ANSWERS.md")
-    sheet = re.findall(r"^number_of \w+ = (\d+)  -- (.*)$", read("crates/numbers/specs/Answers.antt"), re.M)
+    text = read("crates/numbers/specs/Answers.antt")
+    sheet = re.findall(r"^number_of \(Ok _\) = (\d+)  -- (.*)$", text, re.M) + re.findall(r"^refusal_number \w+ = (\d+)  -- (.*)$", text, re.M)
     (rows,) = tables(page)
     same("docs/ANSWERS.md, the numbers", [row["No."] for row in rows], [number for number, _ in sheet])
     for row, (_, sentence) in zip(rows, sheet):

@@ -25,6 +25,10 @@ BARE = {"op", "obj", "p", "card"}
 BARE_IN = {"sets.make_set n", "sets.set_cardinality n", "state.parts.sets_from", "numbers.answer_of n", "numbers.number_of"}
 
 
+# A review answers how many results there are.
+COUNTS = "reviews."
+
+
 def stop(text):
     print("types: " + text)
     sys.exit(1)
@@ -51,7 +55,8 @@ def bare(path, takes, gives):
     """The bare numbers of a function that are not said to be right."""
     name = path.replace("::", ".")
     found = [n for n, t in takes if t in ("u16", "usize") and not re.fullmatch(r"a\d", n) and n not in BARE and f"{name} {n}" not in BARE_IN]
-    return found + ["its result"] * (gives in ("u16", "usize") and name not in BARE_IN)
+    held = re.fullmatch(r"(?:Option<|Result<)*(u16|usize)(?:>|, Refusal>)*", gives)
+    return found + ["its result"] * (held is not None and name not in BARE_IN and not name.startswith(COUNTS))
 
 
 class Program:
@@ -62,9 +67,10 @@ class Program:
 
     def call(self, path, takes, homes, back="", slip=None):
         for word in re.findall(r"\b[A-Z]\w*", " ".join([t for _, t in takes] + [back])):
-            self.uses.add("numbers::" + word if word in KINDS else homes.get(word) or stop(f"{path}: where is {word}?"))
+            if word not in ("Option", "Result"):
+                self.uses.add("numbers::" + word if word in KINDS + ["Refusal"] else homes.get(word) or stop(f"{path}: where is {word}?"))
         given = ", ".join(f"{n}: {t}" for n, t in takes)
-        hold = f"let held: {back} = " if back else "let held = " if path.split("::")[1][0].isupper() else ""
+        hold = f"let held: {back} = " if back else "let _ = "
         self.lines.append(f"fn call_{len(self.lines)}({given}) {{ {hold}{path}({', '.join(n for n, _ in takes)}); }}")
         if slip:
             self.slips[len(self.lines)] = "error[mismatched-types]: expected `%s`, found `%s`" % slip
@@ -73,13 +79,21 @@ class Program:
         return "\n".join(self.lines + [f"use {u};" for u in sorted(self.uses)] + ["fn main() {}", ""])
 
 
+def holds(gives):
+    """The kind of number that a result is or, where there is one, holds."""
+    found = re.fullmatch(r"(?:Option<|Result<)*(\w+)(?:>|, Refusal>)*", gives)
+    return found[1] if found and found[1] in KINDS else ""
+
+
 def slips(takes, gives):
     """The slips of one function: each place with each wrong kind, as its call's parameters, its result, and what the compiler must say."""
     for i in [i for i, (_, t) in enumerate(takes) if t in KINDS]:
         for kind in [k for k in KINDS if k != takes[i][1]]:
             yield takes[:i] + [(takes[i][0], kind)] + takes[i + 1 :], "", (takes[i][1], kind)
-    for kind in [k for k in KINDS if gives in KINDS and k != gives]:
-        yield takes, kind, (kind, gives)
+    held = holds(gives)
+    for kind in [k for k in KINDS if held and k != held]:
+        back = re.sub(rf"\b{held}\b", kind, gives)
+        yield takes, back, (back, gives)
 
 
 def programs():
@@ -95,7 +109,7 @@ def programs():
                 yield program
                 program = Program()
             if wrong:
-                program.call(path, takes, homes, gives if gives in KINDS else "")
+                program.call(path, takes, homes, gives if holds(gives) else "")
             for given, back, slip in wrong:
                 program.call(path, given, homes, back, slip)
             some = some or bool(wrong)

@@ -20,9 +20,9 @@ from pathlib import Path
 ROOT = Path(__file__).resolve().parent.parent
 HOME = ROOT / "crates" / "unique"
 
-# Public functions with no line (docs/DECISIONS.md, 'Exceptions to uniqueness'): two borrow a struct, and a contract over one cannot be cited; the
-# others take a reader or a writer of any type, and how far it comes before it fails no contract can say.
-WITHOUT = {"textlines.next", "textlines.bump", "streams.read_whole", "streams.write_whole"}
+# Public functions with no line (docs/DECISIONS.md, 'Exceptions to uniqueness'): they take a reader, a writer or a runtime of any type, and how far that comes
+# before it fails no contract can say. (`say` fixes the status that it gives back.)
+WITHOUT = {"streams.read_whole", "streams.write_whole", "streams.write_next", "streams.say"}
 
 # Promises that have another's law: they are that promise by definition, or two crates use one name.
 LAW_OF = {
@@ -37,8 +37,10 @@ BY_HAND = {
     "roleset.count": "p.0 ∙ sym q.0",
     "roleset.size": "p.0 ∙ sym q.0",
     "roleset.lowest": "laws.{lowest_one} a.0 x y p q",
+    "sweeps.lowest_free": "laws.{free_one} _ p q",
+    "textlines.Reader.next": "λ i. ((p.0 ∙ sym q.0) i, record { src = (p.1.0 ∙ sym q.1.0) i; at = (p.1.1 ∙ sym q.1.1) i })",
+    "roleset.members": "laws.{ascending_one} x y (p ∙ sym q)",
     "hierarchy.turned": "laws.arrays 64 x y _ vx.1.1.0.1 vy.1.1.0.1 p q",
-    "textlines.next_from": "λ i. ((p.0 ∙ sym q.0) i, (p.1 ∙ sym q.1) i)",
 }
 
 # The state's type; every other array that is lent to be changed is a buffer.
@@ -115,13 +117,18 @@ def closing(text, i):
 
 
 class Function:
-    def __init__(self, crate, where, name, text):
-        """A function from its signature on: what it takes, its result and its promise."""
-        self.crate, self.place, self.name = crate, where + "." + name, name
-        at = re.match(SIGNATURE + r"\s*(<[^(]*>)?\s*", text).end()
+    def __init__(self, crate, where, name, text, of=""):
+        """A function from its signature on: what it takes, its result and its promise; of which type it is a method."""
+        self.crate, self.place, self.name, self.of = crate, where + "." + name, name, of
+        begins = re.match(SIGNATURE + r"\s*(<[^(]*>)?\s*", text)
+        at, over = begins.end(), [p.split(":") for p in split((begins[2] or "<>")[1:-1]) if not p.startswith("'")]
+        if len(over) > 1 or any(len(p) != 2 for p in over):
+            self.bad("has other parameters than one type with one bound")
+        self.bound = over[0][1].strip() if over else ""
         end = closing(text, at)
         plain = lambda t: re.sub(r"&\s*'\w+\s+", "&", " ".join(t.split()))
-        self.types = [plain(p.split(":", 1)[1]) for p in split(text[at + 1 : end - 1])]
+        typed = lambda p: p.split(":", 1)[1] if ":" in p else re.sub(r"\bself$", of, p)
+        self.types = [plain(typed(p)) for p in split(text[at + 1 : end - 1])]
         told = re.compile(r"\s*->\s*(.*?)\s*(?=\bensures\b|\brequires\b|\{)", re.S).match(text, end)
         self.result = plain(told[1]) if told else ""
         end = told.end() if told else end
@@ -131,28 +138,33 @@ class Function:
             if clause[1] == "requires":
                 stop(f"{self.place} has a `requires`: no public function supposes anything (docs/DECISIONS.md, 'Suppositions')")
             promises.append(text[clause.end() + 1 : end - 1])
-        if len(promises) != 1:
-            self.bad("has not one promise `ensures { .. }`")
-        self.promise = " ".join(promises[0].split())
+        if not promises:
+            self.bad("has no promise `ensures { .. }`")
+        # several are met together, one after another
+        self.promise = " × ".join(" ".join(p.split()) for p in promises)
 
     def bad(self, why):
         stop(f"{self.place} {why}, which tests/unique.py does not know")
 
     def field(self):
-        return self.name
+        return re.sub(r"(?<!^)(?=[A-Z])", "_", self.of).lower() + "_" + self.name if self.of else self.name
 
     def kind(self):
         """The kind of statement, and what follows the contract in it."""
         states = [i for i, t in enumerate(self.types) if t == "&mut " + STATE]
         buffers = [i for i, t in enumerate(self.types) if re.fullmatch(r"&mut \[.*\]", t) and i not in states]
         numbers = [i for i, t in enumerate(self.types) if re.fullmatch(r"&mut (u8|u16|u32|u64|usize)", t)]
-        known = len(states) + len(buffers) + len(numbers)
+        structs = [i for i, t in enumerate(self.types) if self.of and t == f"&mut {self.of}"]
+        known = len(states) + len(buffers) + len(numbers) + len(structs)
         if known != sum("&mut" in t for t in self.types):
-            self.bad("is lent to change what is neither an array nor a number")
+            self.bad("is lent to change what is neither an array, a number nor its own struct")
         after = lambda i: f"(λ κs e. e.{place(i)}.now)"
         seen = re.fullmatch(r"&\[.*\]", self.result)
         if seen and known == 0:
             return "UniqueSeen", ["(λ κs x e. x.now)"]
+        if known == len(structs) == 1 and (seen or not self.result):
+            lent = f"e.{place(structs[0])}.now"
+            return (f"UniqueSeen {{A = List ℕ × {self.of}}}", [f"(λ κs x e. (x.now, {lent}))"]) if seen else ("UniqueLent", [f"(λ κs e. {lent})"])
         if seen and known == len(numbers) == 1:
             return "UniqueSeen {A = List ℕ × ℕ}", [f"(λ κs x e. (x.now, e.{place(numbers[0])}.now))"]
         if numbers and not seen and len(numbers) == 1 and len(buffers) <= 1 and not states:
@@ -175,7 +187,16 @@ class Function:
     def statement(self):
         kind, seen = self.kind()
         f = self.place
-        return f"  pub {self.field()} : " + " ".join([kind, f + ".Kinds.ps", f + ".Kinds.r", f + ".Reads.Post"] + seen)
+        parts = [f + ".Kinds.ps", f + ".Kinds.r", f + ".Reads.Post"]
+        if self.bound:
+            # of any type that has the bound: with its laws, what the trait's ghost members are of it, and its table of methods
+            parts = [f"({parts[0]} T L)", f"({parts[1]} T L)", f"({parts[2]} T L g d)"]
+            kind = f"(T : RattleType) (L : Laws T) (g : {self.trait()}.Ghosts T.Denot) (d : Dict) → {kind}"
+        return f"  pub {self.field()} : " + " ".join([kind] + parts + seen)
+
+    def trait(self):
+        """What the trait of the bound is called in specs/Promises."""
+        return f"{self.bound}_of_{self.crate}"
 
     def equation(self):
         """The left side of the promise, where that is an equation."""
@@ -199,12 +220,18 @@ class Function:
             by = re.sub(r"\{(\w+)\}", lambda m: laws[m[1]], BY_HAND[self.place])
         elif kind in ("Unique", "UniqueSeen") and left in ("result", "result.now"):
             by = "p ∙ sym q"
+        elif kind == "UniqueLent" and self.result == "" and left == "self.new":
+            by = "(refl, p ∙ sym q)"
+        elif kind == "Unique" and left == "Some result":
+            by = f"laws.{laws['some_one']} p q"
         elif kind == "Unique" and left == "number_of result":
             by = f"laws.{laws['numbers_one']} p q"
         elif kind == "UniqueState" and self.result == "" and left and re.fullmatch(r"view \w+\.new", left):
             by = "(refl, laws.states sx sy p q)"
         elif kind == "UniqueState" and self.tells():
             by = "laws.outcomes sx sy p q"
+        elif left and (told := re.match(r"told_\w+(?= )", left)) and told[0] + "_one" in laws:
+            by = f"laws.{laws[told[0] + '_one']} {states or '_ '}p q"
         elif left is None and name:
             law = LAW_OF.get(f"{self.crate}.{name[0]}", re.sub(r"(?<!^)(?=[A-Z])", "_", name[0]).lower() + "_one")
             if law not in laws:
@@ -212,7 +239,8 @@ class Function:
             by = f"laws.{laws[law]} {states}p q"
         else:
             stop(f"{self.place} has a promise of a new form: write its proof in BY_HAND of tests/unique.py")
-        return f"      {self.field()} = λ κs a x y e f {given}p q. {by};"
+        of = "T L g d " if self.bound else ""
+        return f"      {self.field()} = λ {of}κs a x y e f {given}p q. {by};"
 
     def tells(self):
         """Whether the promise is a command's: the answer and the state tell what the model's definition tells."""
@@ -248,19 +276,66 @@ def place(i):
     return "1." * i + "0"
 
 
+def blocks(text, word):
+    """The blocks of a file that begin with this word, at its left edge: what stands before the brace, and what is within."""
+    for m in re.finditer(rf"^{word}\b((?:\[[^\]]*\]|[^{{;])*)\{{", text, re.M):
+        yield " ".join(m[1].split()), text[m.end() : closing(text, m.end() - 1) - 1]
+
+
+def without(place):
+    """Whether a public function that is there has no line."""
+    if place in WITHOUT:
+        met.add(place)
+    return place in WITHOUT
+
+
+def traits():
+    """The public traits of the repository, each with what stands in it."""
+    found = {}
+    for path in sorted(ROOT.glob("crates/*/src/**/*.rt")):
+        for head, body in blocks(bare(path), "pub trait"):
+            name = re.match(r"\w+", head)[0]
+            if name in found:
+                stop(f"two public traits have the name {name}")
+            found[name] = body
+    return found
+
+
+def methods_of(crate, text, where):
+    """The public methods of a module's types: those of an `impl` of a type, and of each public type that a trait of the repository is for. A trait's method is proved
+    for each type, under the type's and the trait's name together, and promises of each what the trait says. (The library's traits say what their methods promise.)"""
+    for head, body in blocks(text, "impl"):
+        head = re.sub(r"^<[^>]*>\s*", "", head)
+        trait, _, of = head.partition(" for ") if " for " in head else ("", "", head)
+        array = re.match(r"\[(\w+); (\w+)\]", of)
+        of = f"Array{array[1].title()}{array[2]}" if array else re.match(r"\w+", of)[0]
+        if trait and (trait not in TRAITS or not (array or re.search(rf"^pub (?:struct|enum) {of}\b", text, re.M))):
+            continue
+        found = r"^    fn\s+(\w+)" if trait else r"^    pub\s+fn\s+(\w+)"
+        for m in re.finditer(found, TRAITS[trait] if trait else body, re.M):
+            at, signature = m.start(), TRAITS[trait] if trait else body
+            if without(f"{where}.{of}{trait}.{m[1]}"):
+                continue
+            yield Function(crate, f"{where}.{of}{trait}", m[1], ("pub " if trait else "") + signature[at:].lstrip(), of)
+
+
 def functions_of(crate, path, where, below):
     """The public functions of a module and of the public modules in it."""
     if not path.is_file():
         stop(f"there is no {path.relative_to(ROOT)}")
     text = bare(path)
     found = []
-    for m in re.finditer(r'\bpub\s+(?!\()(?:[\w"]+\s+)*?fn\s+(\w+)', text):
+    for m in re.finditer(r'^pub\s+(?!\()(?:[\w"]+\s+)*?fn\s+(\w+)', text, re.M):
         if text.count("{", 0, m.start()) != text.count("}", 0, m.start()) or not re.match(SIGNATURE, m[0]):
             stop(f"{where}.{m[1]} is a public function within a block or of another kind, which tests/unique.py does not know")
-        if f"{where}.{m[1]}" in WITHOUT:
-            met.add(f"{where}.{m[1]}")
+        if without(f"{where}.{m[1]}"):
             continue
         found.append(Function(crate, where, m[1], text[m.start() :]))
+    found += methods_of(crate, text, where)
+    # every function that is public has been found, at the left edge or in an `impl`
+    seen = [f for f in found if not f.of or re.search(rf"\bpub\s+fn\s+{f.name}\b", text)] + [p for p in WITHOUT if p.rpartition(".")[0] == where]
+    if len(re.findall(r'\bpub\s+(?!\()(?:[\w"]+\s+)*?fn\s', text)) != len(seen):
+        stop(f"{path.relative_to(ROOT)} has a public function at a place that tests/unique.py does not know")
     if re.search(r"\bpub\s+use\b", text):
         stop(f"{path.relative_to(ROOT)} has a `pub use`, which tests/unique.py does not know")
     for m in re.finditer(r"\bpub\s+mod\s+(\w+)\s*;", text):
@@ -290,6 +365,8 @@ def arms_of(path):
 
 # ---- the lines
 
+TRAITS = traits()
+
 
 def parts():
     """What is to stand between the marks: file, mark, lines."""
@@ -314,13 +391,16 @@ def parts():
     # a law's name may join the names of others by dashes: h-one is the law h_one
     laws = {name.replace("-", "_"): name for name in re.findall(r"^pub ([\w'-]+) :", text, re.M)}
     cites = [f"use Rattle.{c}.proofs as {c}" for c in crates]
+    # the structs that the lines name
+    cites += [f"use Rattle.{f.crate}.specs.declared.{f.of}.{{{f.of}}}" for f in every if f.of and f"× {f.of}}}" in f.kind()[0]]
     title = lambda c: c.title().replace("_", "")
 
     says, shows = [], []
     for crate, functions in crates.items():
-        says += ["", f"pub record {title(crate)} : Type 0 where"] + [f.statement() for f in functions]
+        says += ["", f"pub record {title(crate)} : Type {2 if any(f.bound for f in functions) else 0} where"] + [f.statement() for f in functions]
         shows += ["", f"pub {crate} : promises.{title(crate)}", f"{crate} =", "    record {"] + [f.proof(laws) for f in functions] + ["    }"]
-    yield "specs/Promises.antt", "the crates", cites + [""]
+    traits = [f"use Rattle.{f.crate}.specs.declared.{f.bound} as {f.trait()}" for f in every if f.bound]
+    yield "specs/Promises.antt", "the crates", cites + list(dict.fromkeys(traits)) + [""]
     yield "specs/Promises.antt", "a record for each crate, a line for each public function", says + [""]
     yield "proofs/Promises.antt", "a line for each public function", shows + [""]
 
@@ -380,18 +460,18 @@ def applied(kind, variant, numbers, given):
 
 def own_calls(every, arms):
     """The commands: the functions that the arms of `engine::step` call."""
-    tellers = {"Answer": ("told", "c.met"), "Opened": ("told_opened", "c.met.tells")}
+    tellers = {"Answer": "told", "Result<Session, Refusal>": "told_opened"}
     says, shows = [], []
     for f in [f for f in every if f.place in arms]:
         if f.result not in tellers:
             f.bad("answers as no command does")
-        teller, met_by = tellers[f.result]
+        teller = tellers[f.result]
         variant, numbers, given = arms[f.place]
         at = place(f.types.index("&mut " + STATE))
         command = applied("commands", variant, numbers, given)
         named = f"c.given.{place(given.index('list'))}.now" if "list" in given else "[]"
         says.append(f"  pub {f.field()} : {call_of(f.place)} → Obeyed c.given.{at}.now {command} {named} ({teller} c.result c.exits.{at}.now)")
-        shows.append(f"      {f.field()} = λ c h. does h {command} {named} {met_by};")
+        shows.append(f"      {f.field()} = λ c h. does h {command} {named} c.met;")
     if len(says) != len(arms) or len(arms) != bare(ROOT / "crates/engine/src/lib.rt").count("Command::"):
         stop("an arm of `engine::step` does not call a public function of its own, as tests/unique.py expects")
     crates = dict.fromkeys(f.crate for f in every if f.place in arms or f.crate in ("checking", "engine", "reviews", "policyfile", "script", "program", "clibrary"))
@@ -416,11 +496,11 @@ def reviews_of(every):
     says, shows, tell, told = [], [], [], []
     for f in [f for f in every if f.crate == "reviews" or f.place == ASK]:
         buffers = [i for i, t in enumerate(f.types) if t == "&mut [u16]"]
-        if len(buffers) != 1 or f.types[0] != "&" + STATE or f.result != "Review":
+        if len(buffers) != 1 or f.types[0] != "&" + STATE or f.result != "Result<usize, Refusal>":
             f.bad("is not given a state and lent one buffer for its results")
         out = place(buffers[0])
         lent = f"c.given.{out}.now c.exits.{out}.now"
-        says.append(f"  pub {f.field()} : {call_of(f.place)} → Lent (number_of c.result.answer) c.result.count {lent}")
+        says.append(f"  pub {f.field()} : {call_of(f.place)} → Lent (number_of c.result) (given_number c.result) {lent}")
         if f.place == ASK:
             shows.append(f"      ask = λ c. {lemma('asked_any', 'Buffers')} (view c.given.0.now) c.given.1.0 c.met;")
             continue

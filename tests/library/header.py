@@ -77,7 +77,7 @@ def main():
         ("PLACES", "crates/state/src/lib.rt", r"const PLACES: usize = (\d+);"),
         ("LONGEST_ANSWER", "crates/clibrary/src/lib.rt", r"const LONGEST_ANSWER: usize = (\d+);"),
         ("LONGEST_COMMAND", "crates/clibrary/src/lib.rt", r"const LONGEST_COMMAND: usize = (\d+);"),
-        ("LONGEST_FILE", "crates/policyfile/src/lib.rt", r"let mut file = \[0u8; (\d+)\];"),
+        ("LONGEST_FILE", "crates/policyfile/src/lib.rt", r"const LONGEST_FILE: usize = (\d+);"),
     ):
         if constant("include/marruskil.h", rf"#define MARRUSKIL_{name} (\d+)") != constant(file, pattern):
             stop(f"MARRUSKIL_{name} is not what {file} has")
