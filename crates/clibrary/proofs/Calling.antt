@@ -30,6 +30,7 @@ use Rattle.state.specs.Results.{told_of}
 use Rattle.checking.specs.Answering.{told_checked}
 use Rattle.checking.specs.declared.Checked.{Checked}
 use Rattle.text.specs.Putting.{Put}
+use Rattle.policyform.specs.Promises.{Saves}
 use Rattle.decimal.specs.Decimal.{decimal, numbered}
 use Rattle.decimal.proofs.Laws.{decimal-short, numbered-short}
 use Rattle.words.specs.ScriptWords.{word_of}
@@ -39,7 +40,7 @@ use Rattle.meaning.specs.declared.Meant.{Meant}
 use Rattle.meaning.specs.declared.Meant.TheVariants.{Do, Ask}
 use Rattle.script.specs.Script.{obey, obeyed, doing, answer_text, line_feed}
 use Rattle.script.proofs.Turning.{answer-short, obey-few}
-use Rattle.clibrary.specs.Calls.{answer_line, ChecksAt, Tries, Obeys, LongestAnswer}
+use Rattle.clibrary.specs.Calls.{answer_line, ChecksAt, SavesAt, Tries, Obeys, LongestAnswer}
 
 -- ---- an answer line
 
@@ -122,3 +123,11 @@ checked-done m {x = x} before looked_before p e = rw (← p, e, as_number x.yes)
 pub checked_refused : (m : Model) {told : Told} {r : Result Checked Refusal} {refusal : Refusal} (before looked_before : ℕ) → told_checked m r ≡ told → r ≡ Err refusal → ChecksAt told before before looked_before looked_before (refusal_number refusal)
 unfolding told_of
 checked_refused m before looked_before p e = rw (← p, e) (record { answered = refl; result = refl; looked = refl })
+
+pub saved-done : {m : Model} {out after : List ℕ} {a n : ℕ} (before : ℕ) → Saves m out after a n → a ≡ 0 → SavesAt m out after before n 0
+saved-done before (inl p) z = absurd (omega (arith, p.answered))
+saved-done before (inr p) z = inr (record { fits = p.fits; answered = refl; long = p.long; stored = p.stored })
+
+pub saved-refused : {m : Model} {out after : List ℕ} {a n : ℕ} (before : ℕ) → Saves m out after a n → (a ≡ 0 → ⊥) → SavesAt m out after before before a
+saved-refused before (inl p) z = inl (record { refused = record { short = p.short; answered = p.answered; no_length = refl; untouched = p.untouched }; kept = refl })
+saved-refused before (inr p) z = absurd (z p.answered)

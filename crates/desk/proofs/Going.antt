@@ -10,6 +10,7 @@ use lib.Seq.{length-take-le}
 use Rattle.std.specs.declared.option.Option.{Option}
 use Rattle.std.specs.Io.KnownBytes.{Appends}
 use Rattle.std.proofs.Common.{Result, Ok, Err}
+use Rattle.streams.specs.Counts.{IsPrefixLen}
 use Rattle.std.specs.Prelude.{MatchResult}
 use Rattle.numbers.specs.Answers.{number_of, refusal_number}
 use Rattle.numbers.specs.declared.Refusal.{Refusal}
@@ -105,6 +106,10 @@ given file l x = x
 pub denied : (file l : List ℕ) (r : Refusal) → Loads empty file (told (Err r) l) → Loads empty file (refused (refusal_number r) empty)
 unfolding told
 denied file l r x = subst (λ (m : Model). Loads empty file (refused (refusal_number r) m)) (load-refused empty file (told (Err r) l) x (refused-not-0 r)) x
+
+-- a place in a buffer counts the bytes before it
+pub counts : (n : ℕ) (l : List ℕ) → n ≤ length l → IsPrefixLen n l
+counts n l h = (h, sym (length-take-le n l h))
 
 -- an answer with no results is a short line
 pub number_short : (n : ℕ) → length (answer_text n []) ≤ 8

@@ -27,11 +27,15 @@ lined-is m senior junior = refl
 pub ruleset inheriting = (storing, lined-is)
 
 module _ (m : Model) (senior junior : ℕ) (h : senior < 64) where
-  -- with the new line: the rule of a kind asked of every user or session
+  -- with the new line: the rule of a kind asked of every user or session, and the lines stored
   module _ (new : ℕ) (e : new ≡ with (m.juniors senior) junior) where
     pub asks_lined : (kind : Kind) (x : List ℕ) → Table 64 m.juniors x → asks_rule kind m (table_of (set x senior new)) ≡ rule_broken kind (lined m senior junior)
     unfolding lined
     asks_lined kind x t = ap (asks_rule kind m) ((table-put x senior new h t).each ∙ ap (put m.juniors senior) e) ∙ asks-lines kind m (put m.juniors senior (with (m.juniors senior) junior)) (m.line_count + 1)
+
+    pub lined_stored : (after : Model) (standing : ℕ) → standing ≡ m.line_count → after ≡ in_range 64 senior m (with_lines m (put m.juniors senior new) (standing + 1)) → after ≡ lined m senior junior
+    unfolding lined
+    lined_stored after standing n s = placed 64 senior m _ after h s ∙ ap₂ (λ (roles count : ℕ). with_lines m (put m.juniors senior roles) (count + 1)) e n
 
   -- without the line: what a sweep that sheds finds, and the lines and the active roles stored
   module _ (new : ℕ) (e : new ≡ without (m.juniors senior) junior) (x y : List ℕ) (kept : List ℕ) (lines : Table 64 m.juniors x) (holds : Table 256 m.assigned y) (sheds : ShedsAll (table_of (set x senior new)) (part y 0 256) m.sessions kept) where

@@ -1,10 +1,11 @@
 -- One turn of reading a list: what was found so far, with what the rest of the list holds, is what the whole list holds. Assumes nothing.
-use mathlib.Core.Bool.{Bool, ◌&&◌, ◌||◌, and-true, or-false, and_assoc, or_assoc}
+use mathlib.Core.Bool.{Bool, false, ◌&&◌, ◌||◌, and-true, and-false, or-false, and_assoc, or_assoc}
 use mathlib.Core.List.{List, ◌∷◌}
 use mathlib.Core.Path.{◌≡◌, ap, ◌∙◌}
 use Prim.Native.Nat.{ℕ, ◌+◌, ◌≤◌, ◌<◌, ◌^◌}
 use native.Mathlib.Numerals.{add-one}
 use lib.Dec.{leb}
+use borrow.Author.Tests.{le-leb, lt-leb}
 use lib.ListN.{length, get_or, drop, drop_of_length-le}
 use lib.Seq.{drop-cons}
 use Rattle.roleset.specs.Roles.{has, those, with}
@@ -25,10 +26,25 @@ module _ (l : List ℕ) (i : ℕ) (h : i < length l) where
   unfolding rising
   turn_rising a bound = rw (next l i h, add-one (get_or l i 0)) (and_assoc a _ _)
 
+  -- A number below the bound: not ascending, whatever follows.
+  pub turn_low : (a : Bool) (bound : ℕ) → get_or l i 0 < bound → (a && rising bound (drop i l)) ≡ false
+  unfolding rising
+  turn_low a bound p = rw (next l i h, lt-leb bound (get_or l i 0) p) (and-false a)
+
+  -- Any other: ascending if it was so far and the rest is, above it.
+  pub turn_high : (a : Bool) (bound : ℕ) → bound ≤ get_or l i 0 → (a && rising bound (drop i l)) ≡ (a && rising (get_or l i 0 + 1) (drop (i + 1) l))
+  unfolding rising
+  turn_high a bound p = rw (next l i h, le-leb bound (get_or l i 0) p, add-one (get_or l i 0))
+
   -- The number is at least n, or one of the rest is.
   pub turn_beyond : (b : Bool) (n : ℕ) → ((b || leb n (get_or l i 0)) || some_from n (drop (i + 1) l)) ≡ (b || some_from n (drop i l))
   unfolding some_from
   turn_beyond b n = rw (next l i h) (or_assoc b _ _)
+
+  -- A number within the range leaves it to the rest.
+  pub turn_within : (b : Bool) (n : ℕ) → get_or l i 0 < n → (b || some_from n (drop i l)) ≡ (b || some_from n (drop (i + 1) l))
+  unfolding some_from
+  turn_within b n p = rw (next l i h, lt-leb n (get_or l i 0) p)
 
   -- The number joins the set.
   pub turn_joins : (s : ℕ) → joining (with s (get_or l i 0)) (drop (i + 1) l) ≡ joining s (drop i l)

@@ -1,5 +1,5 @@
 -- What the tests share: of all the elements of a list or all numbers, and of some number. Assumes nothing.
-use mathlib.Core.Bool.{Bool, true, false}
+use mathlib.Core.Bool.{Bool, true, false, not}
 use mathlib.Core.List.{List}
 use mathlib.Core.Path.{◌≡◌, refl, sym, ap, subst, ◌∙◌}
 use Prim.Native.Nat.{ℕ, ◌≤◌, ◌<◌, ◌^◌}
@@ -8,7 +8,7 @@ use native.Mathlib.Omega.{arith}
 use denote.Param.Members.{Mut}
 use lib.Dec.{eqb}
 use lib.ListN.{length, get_or, get_or-eq_default}
-use borrow.Author.Tests.{eqb-true, eq-eqb}
+use borrow.Author.Tests.{eqb-true, eq-eqb, not-true, not-false}
 use Rattle.std.proofs.Common.{Option}
 use Rattle.std.specs.Bool.{MatchBool}
 use Rattle.std.specs.Fn.{Called}
@@ -31,6 +31,20 @@ use Rattle.policycheck.specs.Tests.{Tells, Inside, Backed, SetFine, SessionFine}
 -- a test that fails, of what does not hold
 pub tells-no : {b : Bool} {P : Type 0} → b ≡ false → (P → ⊥) → Tells b P
 tells-no {b} e h = record { holds = λ t. clash b t e; says = λ p. absurd (h p) }
+
+-- what asks for more than a test that fails does not hold either
+pub refuted : {b : Bool} {P Q : Type 0} → Tells b P → not b ≡ true → (Q → P) → Tells false Q
+refuted {b} t e h = tells-no refl (λ q. clash b (t.says (h q)) (not-true b e))
+
+pub passes : {b : Bool} {P : Type 0} → Tells b P → not b ≡ false → P
+passes {b = b} t e = t.holds (not-false b e)
+
+-- a place that fails, and one that passes
+pub stopped : {P : ℕ → Type 0} {b : Bool} (k : ℕ) → (P k → b ≡ true) → b ≡ false → Tells false ((j : ℕ) → P j)
+stopped {b = b} k says e = tells-no refl (λ p. clash b (says (p k)) e)
+
+pub met : (f : ℕ → Bool) {n k : ℕ} {b : Bool} → k < n → b ≡ f k → b ≡ true → true ≡ some n f
+met f {n} {k} h e taken = sym (some-intro n f k h (sym e ∙ taken))
 
 -- a test of a table that was lent
 pub of-table : {b : Bool} {n roles : ℕ} {table : ℕ → ℕ} {x : List ℕ} → Table n table x → Tells b ((k : ℕ) → Inside roles (table_of x k)) → Tells b ((k : ℕ) → Inside roles (table k))

@@ -8,8 +8,9 @@ use lib.ListN.{drop, get_or}
 use lib.Seq.{get_or-drop, drop-drop}
 use Rattle.roleset.specs.Roles.{with}
 use Rattle.model.specs.Model.{Model}
+use Rattle.model.specs.Words.{permission}
 use Rattle.text.specs.Places.{word_at, at_most, again, read_section}
-use Rattle.policyread.specs.Steps.{Reading, entries, From, Read, read_role, read_pair, read_roles, read_entry}
+use Rattle.policyread.specs.Steps.{Reading, entries, From, Read, user_added, grant_added, read_user, read_role, read_pair, read_grant, read_roles, read_entry}
 
 -- ---- a place of the bytes, and what is left from it on
 
@@ -91,3 +92,22 @@ entry_there add {m} {x = x} {z = z} {i = i} {n} {roles} v f w g list h = record 
   where
     past : (bytes : List ℕ) (at : ℕ) → From bytes at x → From bytes (at + 4) z
     past bytes at e = from_same {i = at + 2 + 2} {j = at + 4} (omega arith) (from_past 2 (from_past 2 e f) g)
+
+-- ---- one entry at a place, from the numbers that were read for it and what was stored
+
+module _ (bytes : List ℕ) (at : ℕ) where
+  pub user_was : (m after : Model) (u : ℕ) → u ≡ word_at bytes at → after ≡ user_added m u → read_user bytes (at, m) ≡ (at + 2, after)
+  unfolding read_user
+  user_was m after u p q = sym (rw (q, p))
+
+  pub role_was : (s r after : ℕ) → r ≡ word_at bytes at → after ≡ with s r → read_role bytes (at, s) ≡ (at + 2, after)
+  unfolding read_role
+  role_was s r after p q = sym (rw (q, p))
+
+  pub pair_was : (add : Model → ℕ → ℕ → Model) (m after : Model) (i r : ℕ) → i ≡ word_at bytes at → r ≡ word_at bytes (at + 2) → after ≡ add m i r → read_pair add bytes (at, m) ≡ (at + 4, after)
+  unfolding read_pair
+  pair_was add m after i r p q e = sym (rw (e, p, q))
+
+  pub grant_was : (m after : Model) (r op obj : ℕ) → r ≡ word_at bytes at → op ≡ word_at bytes (at + 2) → obj ≡ word_at bytes (at + 4) → after ≡ grant_added m (permission op obj) r → read_grant bytes (at, m) ≡ (at + 6, after)
+  unfolding read_grant
+  grant_was m after r op obj p q t e = sym (rw (e, p, q, t))

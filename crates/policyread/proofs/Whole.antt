@@ -138,6 +138,32 @@ all-counted m m1 m2 m3 lines assigned granted below held holding n1 n2 n3 h1 e1 
     let r3 : m3 ≡ with_grants m2 m2.holders granted = e3 ∙ in-range 4096 0 m2 _ (omega arith) ∙ ap (λ (t : ℕ → ℕ). with_grants m2 t granted) (put-again m2.holders 0 holding h3) in
     r3 ∙ ap (λ (x : Model). with_grants x x.holders granted) (r2 ∙ ap (λ (x : Model). with_assignments x x.assigned assigned) r1) ∙ rw (n1, n2, n3)
 
+-- A state whose sections were read one after another, from an empty one, and that was counted then, holds what is gathered.
+pub gathered-state : (bytes : List ℕ) (m0 m1 m2 m3 m4 m5 m6 m7 m8 m9 : Model) (p1 p2 p3 p4 p5 p6 p7 p8 roles : ℕ) →
+    m0 ≡ empty →
+    (p1, m1) ≡ read_section bytes 256 (read_user bytes) 0 m0 →
+    (p2, roles) ≡ read_roles bytes p1 →
+    m2 ≡ with_roles m1 roles →
+    (p3, m3) ≡ read_section bytes 512 (read_line bytes) p2 m2 →
+    (p4, m4) ≡ read_section bytes 2048 (read_assignment bytes) p3 m3 →
+    (p5, m5) ≡ read_section bytes 2048 (read_grant bytes) p4 m4 →
+    (p6, m6) ≡ read_section bytes 16 (read_set Static bytes) p5 m5 →
+    (p7, m7) ≡ read_section bytes 16 (read_set Dynamic bytes) p6 m6 →
+    (p8, m8) ≡ read_section bytes 64 (read_session bytes) p7 m7 →
+    m9 ≡ counted m8 →
+    m9 ≡ gathered bytes
+unfolding gathered users_read roles_read lines_read assigned_read grants_read ssd_read dsd_read sessions_read
+gathered-state bytes m0 m1 m2 m3 m4 m5 m6 m7 m8 m9 p1 p2 p3 p4 p5 p6 p7 p8 roles g0 g1 g2 e2 g3 g4 g5 g6 g7 g8 e9 =
+    let r1 : (p1, m1) ≡ users_read bytes = g1 ∙ ap (λ (x : Model). read_section bytes 256 (read_user bytes) 0 x) g0 in
+    let r2 : (p2, m2) ≡ roles_read bytes = ap (λ (x : Model). (p2, x)) e2 ∙ ap (λ (q : ℕ × ℕ). (q.0, with_roles m1 q.1)) g2 ∙ ap (roles_after bytes) r1 in
+    let r3 : (p3, m3) ≡ lines_read bytes = g3 ∙ ap (λ (q : ℕ × Model). read_section bytes 512 (read_line bytes) q.0 q.1) r2 in
+    let r4 : (p4, m4) ≡ assigned_read bytes = g4 ∙ ap (λ (q : ℕ × Model). read_section bytes 2048 (read_assignment bytes) q.0 q.1) r3 in
+    let r5 : (p5, m5) ≡ grants_read bytes = g5 ∙ ap (λ (q : ℕ × Model). read_section bytes 2048 (read_grant bytes) q.0 q.1) r4 in
+    let r6 : (p6, m6) ≡ ssd_read bytes = g6 ∙ ap (λ (q : ℕ × Model). read_section bytes 16 (read_set Static bytes) q.0 q.1) r5 in
+    let r7 : (p7, m7) ≡ dsd_read bytes = g7 ∙ ap (λ (q : ℕ × Model). read_section bytes 16 (read_set Dynamic bytes) q.0 q.1) r6 in
+    let r8 : (p8, m8) ≡ sessions_read bytes = g8 ∙ ap (λ (q : ℕ × Model). read_section bytes 64 (read_session bytes) q.0 q.1) r7 in
+    e9 ∙ ap (λ (q : ℕ × Model). counted q.1) r8
+
 -- a state, and what is left of the bytes past a place
 record Here (bytes file : List ℕ) (m : Model) (p : ℕ × Model) : Type 0 where
   pub left : From bytes p.0 file
@@ -149,8 +175,8 @@ here_past {read} {bytes} {y = y} {p = p} r h = record {
   is = r.is bytes p.0 h.left ∙ ap (λ (v : Model). (read bytes (p.0, v)).1) h.is;
 }
 
--- A state whose sections were read one after another, from an empty one, and that was counted then, holds what is gathered.
-pub gathered-state : (bytes f1 f2 f3 f4 f5 f6 f7 f8 : List ℕ) (m0 m1 m2 m3 m4 m5 m6 m7 m8 m9 : Model) (roles : ℕ) →
+-- The same, by what is left of the bytes before and after each section.
+pub gathered-left : (bytes f1 f2 f3 f4 f5 f6 f7 f8 : List ℕ) (m0 m1 m2 m3 m4 m5 m6 m7 m8 m9 : Model) (roles : ℕ) →
     m0 ≡ empty →
     Read (entries 256 read_user) bytes m0 f1 m1 →
     Read (entries 64 read_role) f1 0 f2 roles →
@@ -164,7 +190,7 @@ pub gathered-state : (bytes f1 f2 f3 f4 f5 f6 f7 f8 : List ℕ) (m0 m1 m2 m3 m4 
     m9 ≡ counted m8 →
     m9 ≡ gathered bytes
 unfolding gathered users_read roles_read lines_read assigned_read grants_read ssd_read dsd_read sessions_read read_roles entries
-gathered-state bytes f1 f2 f3 f4 f5 f6 f7 f8 m0 m1 m2 m3 m4 m5 m6 m7 m8 m9 roles g0 g1 g2 e2 g3 g4 g5 g6 g7 g8 e9 =
+gathered-left bytes f1 f2 f3 f4 f5 f6 f7 f8 m0 m1 m2 m3 m4 m5 m6 m7 m8 m9 roles g0 g1 g2 e2 g3 g4 g5 g6 g7 g8 e9 =
     let r1 : Here bytes f1 m1 (users_read bytes) = here_past g1 (record { left = record { is = refl }; is = g0 }) in
     let r2 : Here bytes f2 m2 (roles_read bytes) = record { left = g2.left bytes (users_read bytes).0 r1.left; is = e2 ∙ ap₂ with_roles r1.is (g2.is bytes (users_read bytes).0 r1.left) } in
     let r8 = here_past g8 (here_past g7 (here_past g6 (here_past g5 (here_past g4 (here_past g3 r2))))) in

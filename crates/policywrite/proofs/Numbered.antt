@@ -3,7 +3,8 @@
 use mathlib.Core.Bool.{Bool, true, false}
 use mathlib.Core.List.{List, [], ◌∷◌, ◌++◌, append-nil, append_assoc, map}
 use mathlib.Core.Path.{◌≡◌, refl, sym, ap, ap₂, ◌∙◌}
-use Prim.Native.Nat.{ℕ, zero, suc, ◌+◌, ◌*◌, ◌≤◌}
+use Prim.Native.Nat.{ℕ, zero, suc, ◌+◌, ◌*◌, ◌≤◌, ◌<◌}
+use native.Mathlib.Decide.{dec_lt}
 use native.Mathlib.Numerals.{add-one}
 use native.Mathlib.Omega.{arith}
 use lib.ListN.{length, length-append}
@@ -28,6 +29,16 @@ pub below-members : (test : ℕ → Bool) (n : ℕ) → below (λ k. only_if (te
 unfolding below members
 below-members test zero = refl
 below-members test (suc n) = ap (λ (l : List ℕ). l ++ only_if (test n) n) (below-members test n)
+
+-- where none from k on passes the test, the members below n are those below k
+pub members-skip : (k n : ℕ) (f : ℕ → Bool) → k ≤ n → ((j : ℕ) → k ≤ j → j < n → f j ≡ false) → members n f ≡ members k f
+unfolding members
+members-skip k zero f h none = let e : k ≡ 0 = omega arith in rw e
+members-skip k (suc n) f h none = go (dec_lt k (suc n)) (members-skip k n f)
+  where
+    go : Dec (k < suc n) → (k ≤ n → ((j : ℕ) → k ≤ j → j < n → f j ≡ false) → members n f ≡ members k f) → members (suc n) f ≡ members k f
+    go (yes p) ih = rw (none n (omega arith) (omega arith)) (append-nil (members n f) ∙ ih (omega arith) (λ j a b. none j a (omega arith)))
+    go (no p) ih = let e : k ≡ suc n = omega arith in rw e
 
 -- one number, or none
 only-from : (a b : ℕ) (t : Bool) → only_if t (a + b) ≡ map (λ r. a + r) (only_if t b)

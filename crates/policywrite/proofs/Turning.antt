@@ -31,8 +31,8 @@ module _ (rows : List ℕ) (row r p k : ℕ) (size : length rows ≡ 4096) (l : 
           rw (get_or-set_other rows row (k / 64) (with (get_or rows row 0) (p % 64)) 0 other, ne_eqb k (4096 * r + p) (λ x. other (omega arith))) (sym (or-false (has (get_or rows (k / 64) 0) (k % 64))))
 
   -- What is there joined to what is still to be marked stays the same when one role is marked and dropped.
-  pub mark_step : (rest next : ℕ) → k < 262144 → has rest r ≡ true → ((m : ℕ) → m < 64 → has next m ≡ (has rest m && not (eqb m r))) → (pair_in (table_of (set rows row (with (table_of rows row) (p % 64)))) k || granted next p k) ≡ (pair_in (table_of rows) k || granted rest p k)
-  mark_step rest next small here new = rw one_more (or_assoc (pair_in (table_of rows) k) (eqb k (4096 * r + p)) (granted next p k) ∙ ap (λ (b : Bool). pair_in (table_of rows) k || b) (rw (new (k / 4096) (omega arith)) (go (eqb k (4096 * r + p)) refl (eqb (k % 4096) p) refl)))
+  joined : (rest next : ℕ) → has rest r ≡ true → has next (k / 4096) ≡ (has rest (k / 4096) && not (eqb (k / 4096) r)) → (pair_in (table_of (set rows row (with (table_of rows row) (p % 64)))) k || granted next p k) ≡ (pair_in (table_of rows) k || granted rest p k)
+  joined rest next here new = rw one_more (or_assoc (pair_in (table_of rows) k) (eqb k (4096 * r + p)) (granted next p k) ∙ ap (λ (b : Bool). pair_in (table_of rows) k || b) (rw new (go (eqb k (4096 * r + p)) refl (eqb (k % 4096) p) refl)))
     where
       go : (a : Bool) → eqb k (4096 * r + p) ≡ a → (b : Bool) → eqb (k % 4096) p ≡ b → (eqb k (4096 * r + p) || (eqb (k % 4096) p && (has rest (k / 4096) && not (eqb (k / 4096) r)))) ≡ (eqb (k % 4096) p && has rest (k / 4096))
       go true q b s =
@@ -41,6 +41,13 @@ module _ (rows : List ℕ) (row r p k : ℕ) (size : length rows ≡ 4096) (l : 
           rw (q, eq-eqb (k % 4096) p (omega arith), role, here)
       go false q true s = rw (q, s, ne_eqb (k / 4096) r (λ x. eqb-false k (4096 * r + p) q (omega (arith, eqb-true (k % 4096) p s)))) (and-true (has rest (k / 4096)))
       go false q false s = rw (q, s)
+
+  pub mark_step : (rest next : ℕ) → has rest r ≡ true → ((m : ℕ) → has next m ≡ (has rest m && not (eqb m r))) → (pair_in (table_of (set rows row (with (table_of rows row) (p % 64)))) k || granted next p k) ≡ (pair_in (table_of rows) k || granted rest p k)
+  mark_step rest next here new = joined rest next here (new (k / 4096))
+
+  -- the same of a number of the table, where the roles below 64 are known
+  pub mark_within : (rest next : ℕ) → k < 262144 → has rest r ≡ true → ((m : ℕ) → m < 64 → has next m ≡ (has rest m && not (eqb m r))) → (pair_in (table_of (set rows row (with (table_of rows row) (p % 64)))) k || granted next p k) ≡ (pair_in (table_of rows) k || granted rest p k)
+  mark_within rest next small here new = joined rest next here (new (k / 4096) (omega arith))
 
 -- None is left to be marked.
 pub none_left : (b : Bool) (rest p k : ℕ) → rest ≡ 0 → b ≡ (b || granted rest p k)

@@ -167,6 +167,9 @@ module _ (file state line after : List ℕ) (a : Answer) (len : ℕ) (x : Answer
       again : Again file saved size
       again = saved-again file (told a state) x.loads is_zero out saved (number_of r) size room (subst (λ (n : ℕ). Saves (told a state).after out saved (number_of r) n) (ap given_number is) save)
 
+      pub saved_within : size ≤ length saved
+      saved_within = again.within
+
       pub saved_next : NextFor file count (take size saved)
       saved_next = subst (λ (n : ℕ). NextFor file n (take size saved)) (sym (line_counted count counts)) (file_next file (told a state) x.loads line after len x.put x.room is_zero (take size saved) again.front)
 

@@ -1,7 +1,7 @@
 -- How a review settles: done with the list at the front of the buffer, or refused with the buffer as it was. Assumes nothing.
 use mathlib.Core.Bool.{Bool, true, false, not}
 use mathlib.Core.List.{List, [], ◌∷◌}
-use mathlib.Core.Path.{◌≡◌, refl, ap₂, ◌∙◌}
+use mathlib.Core.Path.{◌≡◌, refl, ap, ap₂, ◌∙◌}
 use Prim.Native.Nat.{ℕ, ◌≤◌}
 use native.Mathlib.Omega.{arith}
 use lib.Dec.{ltb}
@@ -42,6 +42,12 @@ unfolding settle verdict
 lists-done list before after n h e b m = rw (le-ltb (length before) (length list) h, settle, verdict) (record { answer = refl; count = e; buffer = b })
 
 -- ---- a review, by what is refused before anything is listed
+
+-- the same review of a list that is the same unless a number is beyond its range
+pub relisted : (m : Model) (room : ℕ) (beyond missing : Bool) (l k : List ℕ) → (beyond ≡ false → l ≡ k) → review m room beyond missing l ≡ review m room beyond missing k
+unfolding settle verdict
+relisted m room true missing l k e = refl
+relisted m room false missing l k e = ap (review m room false missing) (e refl)
 
 -- The code found `far` and `found` for what is beyond its range and what exists, neither is refused, and what is listed is the list, at least where no number is beyond its range.
 pub told_listed : (m : Model) (beyond there : Bool) {far found : Bool} {list listed before after : List ℕ} {x : Result ℕ Refusal} → 0 ≡ verdict (1 when far ∷ 2 when not found ∷ []) → far ≡ beyond → found ≡ there → (beyond ≡ false → listed ≡ list) → Lists false false listed before after x → Reviewed (review m (length before) beyond (not there) list) before after x

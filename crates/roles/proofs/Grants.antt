@@ -45,6 +45,12 @@ unmoved n k m = go (ltb k n)
     go true = refl
     go false = refl
 
+-- a role that holds the permission: the store takes it out, and counts one less
+pub held : (m : Model) (p r old : ℕ) → old ≡ m.holders p → (after : Model) (roles standing : ℕ) → has old r ≡ true → roles ≡ without old r → standing ≡ m.grant_count - 1 → after ≡ in_range 4096 p m (with_grants m (put m.holders p roles) standing) → after ≡ in_range 4096 p m (ungranted m p r)
+held m p r old is after roles standing there gone counted e =
+    let one : has (m.holders p) r ≡ true = ap (λ (x : ℕ). has x r) (sym is) ∙ there in
+    e ∙ ap (in_range 4096 p m) (ap₂ (λ (x n : ℕ). with_grants m (put m.holders p x) n) (gone ∙ ap (λ (x : ℕ). without x r) is) (counted ∙ sym (ap (λ (b : Bool). m.grant_count - bit b) one)))
+
 -- a role that does not hold the permission: nothing is stored
 pub not_held : (m : Model) (p r old : ℕ) → old ≡ m.holders p → old < 2 ^ 64 → has old r ≡ false → m ≡ in_range 4096 p m (ungranted m p r)
 not_held m p r old is small absent =

@@ -212,6 +212,10 @@ total-le (suc n) c f h = omega (arith, h n (omega arith), total-le n c f (λ k l
 
 -- ---- a loop that counts up: what is known of the k below n, and of n, gives what is known of those below n + 1
 
+pub some_more : (n : ℕ) (f : ℕ → Bool) → some n f ≡ false → f n ≡ false → some (n + 1) f ≡ false
+unfolding some
+some_more n f p q = rw (add-one n, q) p
+
 pub tally-step : (n : ℕ) (f : ℕ → Bool) → tally (n + 1) f ≡ bit (f n) + tally n f
 unfolding tally
 tally-step n f = rw (add-one n)
@@ -219,6 +223,11 @@ tally-step n f = rw (add-one n)
 pub total-step : (n : ℕ) (f : ℕ → ℕ) → total (n + 1) f ≡ f n + total n f
 unfolding total
 total-step n f = rw (add-one n)
+
+-- before the first turn
+pub some-start : (f : ℕ → Bool) → some 0 f ≡ false
+unfolding some
+some-start f = refl
 
 pub total-start : (f : ℕ → ℕ) → total 0 f ≡ 0
 unfolding total
@@ -233,6 +242,9 @@ total-part (suc n) k f h = go (dec_lt k (suc n)) (total-part n k f)
     go : Dec (k < suc n) → (k ≤ n → total k f ≤ total n f) → total k f ≤ f n + total n f
     go (yes p) ih = omega (arith, ih (omega arith))
     go (no p) ih = let e : k ≡ suc n = omega arith in rw e (omega arith)
+
+pub total-more : (k n x : ℕ) (f : ℕ → ℕ) → n ≡ total k f → x ≡ f k → n + x ≡ total (k + 1) f
+total-more k n x f p q = omega (arith, total-step k f)
 
 -- where neither of two holds
 pub or-clear : (a b : Bool) → (a || b) ≡ false → (a ≡ false) × (b ≡ false)

@@ -9,7 +9,7 @@ use native.Mathlib.Nat.{mod-lt, mod-eq_of_lt, div-eq_of_lt, one-mul}
 use lib.Dec.{eqb, ltb}
 use lib.Pow.{pow_pos, pow-lt, shr-shr}
 use lib.Bits.{bit_and, bit_or, bit_xor, xor_shr, xor_step, or_lt, and_lt, xor_lt, differ}
-use lib.Count.{count_trailing_zeros, under}
+use lib.Count.{count_trailing_zeros, under, trailing_of_zero}
 use borrow.Author.Tests.{eq-eqb, ne_eqb, eqb-true, lt-ltb}
 use Rattle.roleset.specs.Bounded.{bit}
 use Rattle.roleset.specs.Roles.{has, those, with, without, union, common, minus, subset, is_empty}
@@ -166,6 +166,9 @@ trailing-lowest (suc n) s k h e = go k h e (digit s) (λ j l p. trailing-lowest 
 
 pub trailing-member : (s : ℕ) → is_empty s ≡ false → Lowest s (count_trailing_zeros 64 s)
 trailing-member s e = let m = is_empty_false s e in trailing-lowest 64 s m.0 m.1 m.2
+
+pub trailing-empty : (s : ℕ) → s < 2 ^ 64 → is_empty s ≡ true → count_trailing_zeros 64 s ≡ 64
+trailing-empty s h e = ap (count_trailing_zeros 64) (is_empty-zero s h e) ∙ trailing_of_zero 64
 
 -- ---- a number and one less have the same bits above the lowest that is 1, which one less has not
 

@@ -64,7 +64,10 @@ same {o} {n} {l} {after} w p q a = fun_ext (λ k. go k (dec_lt k q))
     go k (yes h) = part_at after p q k h ∙ w.rest (p + k) (side k h (or_cases _ _ a)) ∙ sym (part_at l p q k h)
     go k (no h) = let z : q ≤ k = omega arith in part_none after p q k z ∙ sym (part_none l p q k z)
 
--- the same of more places; and two changes, one after the other
+-- nothing changed; the same of more places; and two changes, one after the other
+pub unchanged : (l : List ℕ) (o n : ℕ) → Within o n l l
+unchanged l o n = record { long = refl; rest = λ k h. refl }
+
 pub wider : {o n : ℕ} {l after : List ℕ} → Within o n l after → (p q : ℕ) → p ≤ o → o + n ≤ p + q → Within p q l after
 wider {o} {n} {l} {after} w p q a b = record { long = w.long; rest = λ k h. w.rest k (go k h) }
   where
@@ -111,6 +114,15 @@ module _ (o n : ℕ) (l x : List ℕ) (fits : o + n ≤ length l) (long : length
   over-part =
       let back : (o + n) - o ≡ n = omega arith in
       ap table_of (rw back at (between-put_mid o n l x (o + n) (omega arith) (omega arith))) ∙ sym (whole x n long)
+
+-- ---- states that agree in every place
+
+pub part_same : (l r : List ℕ) (most : ℕ) → ((j : ℕ) → j < most → get_or l j 0 ≡ get_or r j 0) → (o n : ℕ) → o + n ≤ most → ◌≡◌ {A = ℕ → ℕ} (part l o n) (part r o n)
+part_same l r most e o n h = fun_ext (λ k. go k (dec_lt k n))
+  where
+    go : (k : ℕ) → Dec (k < n) → part l o n k ≡ part r o n k
+    go k (yes p) = part_at l o n k p ∙ e (o + k) (omega arith) ∙ sym (part_at r o n k p)
+    go k (no p) = let z : n ≤ k = omega arith in part_none l o n k z ∙ sym (part_none r o n k z)
 
 -- ---- a state that is 0 in every place
 

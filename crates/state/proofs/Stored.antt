@@ -20,7 +20,7 @@ use Rattle.model.specs.declared.Kind.TheVariants.{Static, Dynamic}
 use Rattle.state.specs.Places.{holders_at, assigned_at, juniors_at, ssd_cards_at, ssd_roles_at, dsd_cards_at, dsd_roles_at, sets_at, owners_at, active_at, users_at, roles_at, assignment_count_at, grant_count_at, line_count_at, places}
 use Rattle.state.specs.Stores.{in_range, pick_member, set_stored, with_active}
 use Rattle.state.specs.View.{part, bits, paired, set_of, session_of, view}
-use Rattle.state.proofs.Slots.{Within, same, wider, then, set-within, part_at, part-store, over-within, over-part, apart_below, apart_above, part-zero}
+use Rattle.state.proofs.Slots.{Within, same, wider, then, set-within, part_at, part-store, over-within, over-part, apart_below, apart_above, part_same, part-zero}
 
 -- ---- a place within its range, and one beyond it
 
@@ -42,6 +42,10 @@ within n k rest h = leb-false n k (or-clear (leb n k) rest h).0
 -- and what is stored there is stored
 pub placed : (n k : ℕ) (before x after : Model) → k < n → after ≡ in_range n k before x → after ≡ x
 placed n k before x after h e = e ∙ in-range n k before x h
+
+-- roles at a place of a table, and the count that goes with them
+pub placed-as : (n k : ℕ) (before after : Model) (stored : ℕ → ℕ → Model) (roles new standing count : ℕ) → roles ≡ new → standing ≡ count → k < n → after ≡ in_range n k before (stored roles standing) → after ≡ stored new count
+placed-as n k before after stored roles new standing count is counted h e = placed n k before (stored roles standing) after h e ∙ ap₂ stored is counted
 
 -- ---- the view of a state that differs within one part
 
@@ -248,6 +252,11 @@ user-stored l u there long h =
     (ap bits (part-store l users_at 4 (u / 64) x w (omega arith) ∙ ap (λ (v : ℕ). put (part l users_at 4) (u / 64) (pick_member there v (u % 64))) (sym (part_at l users_at 4 (u / 64) w))) ∙ users-put (part l users_at 4) u there)
 
 -- ---- all of a state
+
+-- two states that agree in every place mean the same
+pub all_same : (l r : List ℕ) → ((j : ℕ) → j < places → get_or l j 0 ≡ get_or r j 0) → view l ≡ view r
+unfolding view
+all_same l r e j = record { users = bits (part_same l r places e users_at 4 (omega arith) j); roles = part_same l r places e roles_at 1 (omega arith) j 0; juniors = part_same l r places e juniors_at 64 (omega arith) j; assigned = part_same l r places e assigned_at 256 (omega arith) j; holders = part_same l r places e holders_at 4096 (omega arith) j; ssd = paired set_of (part_same l r places e ssd_cards_at 16 (omega arith) j) (part_same l r places e ssd_roles_at 16 (omega arith) j); dsd = paired set_of (part_same l r places e dsd_cards_at 16 (omega arith) j) (part_same l r places e dsd_roles_at 16 (omega arith) j); sessions = paired session_of (part_same l r places e owners_at 64 (omega arith) j) (part_same l r places e active_at 64 (omega arith) j); assignment_count = part_same l r places e assignment_count_at 1 (omega arith) j 0; grant_count = part_same l r places e grant_count_at 1 (omega arith) j 0; line_count = part_same l r places e line_count_at 1 (omega arith) j 0 }
 
 -- where every number is 0, there is nothing
 pub all-zero : (l : List ℕ) → ((j : ℕ) → j < places → get_or l j 0 ≡ 0) → view l ≡ empty

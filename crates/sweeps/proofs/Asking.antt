@@ -2,8 +2,8 @@
 -- breaks it ends the sweep. One law for both. Assumes nothing.
 use mathlib.Core.Bool.{Bool, true, false, not, ◌&&◌}
 use mathlib.Core.List.{List}
-use mathlib.Core.Path.{◌≡◌, refl, sym, ap, ap₂, ◌∙◌}
-use Prim.Native.Nat.{ℕ, zero, suc, ◌<◌}
+use mathlib.Core.Path.{◌≡◌, refl, sym, ap, ap₂, subst, ◌∙◌}
+use Prim.Native.Nat.{ℕ, zero, suc, ◌+◌, ◌<◌}
 use borrow.Author.Tests.{ne_eqb}
 use lib.Dec.{eqb}
 use lib.ListN.{length}
@@ -12,7 +12,7 @@ use Rattle.separation.proofs.Somes.{any-some}
 use native.Mathlib.Omega.{arith}
 use Rattle.roleset.specs.Bounded.{some, every}
 use Rattle.roleset.specs.Roles.{has}
-use Rattle.roleset.proofs.BoundedLaws.{clash, never, every-elim, some-intro, some-none, some-ext}
+use Rattle.roleset.proofs.BoundedLaws.{clash, never, every-elim, some_more, some-intro, some-none, some-ext}
 use Rattle.roleset.proofs.Laws.{is_empty-none}
 use Rattle.hierarchy.specs.Lines.{table_of}
 use Rattle.hierarchy.specs.Walks.{reach}
@@ -40,6 +40,10 @@ unfolding static_broken dynamic_broken
 asks-lines Static m lines n = refl
 asks-lines Dynamic m lines n = refl
 
+-- what is a table of one kind is one of the kind that is that
+pub table-of : (one kind : Kind) (m : Model) (x : List ℕ) → kind ≡ one → Table (asked_of one) (own_roles one m) x → Table (asked_of kind) (own_roles kind m) x
+table-of one kind m x e t = subst (λ (k : Kind). Table (asked_of k) (own_roles k m) x) (sym e) t
+
 -- the rule of a set is broken where somebody breaks it
 pub set-broken : (kind : Kind) (m : Model) (set : RoleSet) → broken kind m set ≡ some (asked_of kind) (breaking (breaks set) m.juniors (own_roles kind m))
 unfolding broken
@@ -60,6 +64,14 @@ unfolding reach
 reach-none lines = walk_empty lines 64 0 is_empty-none
 
 module _ (rule : ℕ → Bool) (lines own : ℕ → ℕ) where
+  -- none of n breaks the rule, and neither does one more, that was walked for
+  pub passed_walk : (n held w : ℕ) → held ≡ own n → w ≡ reach lines held → rule w ≡ false → some n (breaking rule lines own) ≡ false → some (n + 1) (breaking rule lines own) ≡ false
+  passed_walk n held w h e b p = some_more n _ p (ap rule (sym (e ∙ ap (reach lines) h)) ∙ b)
+
+  -- neither does one more, with no roles, where no roles break nothing
+  pub passed_idle : (n held : ℕ) → held ≡ own n → held ≡ 0 → rule 0 ≡ false → some n (breaking rule lines own) ≡ false → some (n + 1) (breaking rule lines own) ≡ false
+  passed_idle n held h z b p = some_more n _ p (ap rule (ap (reach lines) (sym h ∙ z) ∙ reach-none lines) ∙ b)
+
   -- one breaks it
   pub asks_walk : (n k held w : ℕ) → k < n → held ≡ own k → w ≡ reach lines held → rule w ≡ true → true ≡ some n (breaking rule lines own)
   asks_walk n k held w l h e b = sym (some-intro n (breaking rule lines own) k l (ap rule (sym (e ∙ ap (reach lines) h)) ∙ b))

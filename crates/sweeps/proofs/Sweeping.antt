@@ -1,13 +1,14 @@
 -- A loop that writes an array place by place, from the first on: the places passed hold the new table, the others the old one. Assumes nothing.
 use mathlib.Core.List.{List}
 use mathlib.Core.Logic.{◌⊎◌, inl, inr}
-use mathlib.Core.Path.{◌≡◌, ◌∙◌}
+use mathlib.Core.Path.{◌≡◌, ap, ◌∙◌}
 use Prim.Native.Nat.{ℕ, ◌+◌, ◌≤◌, ◌<◌}
 use native.Mathlib.Omega.{arith}
-use lib.ListN.{length, set, length-set}
+use lib.ListN.{length, set, replicate, length-set}
 use lib.Seq.{get_or-set_same, get_or-set_other}
 use Rattle.roleset.proofs.BoundedLaws.{last-or-below}
 use Rattle.hierarchy.specs.Lines.{table_of}
+use Rattle.state.proofs.Tables.{repeat_table}
 
 module _ (old new : ℕ → ℕ) where
   -- the array l of so many places, n of which are passed
@@ -26,3 +27,7 @@ module _ (old new : ℕ → ℕ) where
       go : (k : ℕ) → (k ≡ n) ⊎ (k < n) → table_of (set l n v) k ≡ new k
       go k (inl p) = rw p (get_or-set_same l n v 0 (omega (arith, s.long)) ∙ e)
       go k (inr p) = get_or-set_other l n k v 0 (λ q. omega arith) ∙ s.done k p
+
+-- what an array of zeros holds, past its end too
+pub zeros : (n k : ℕ) → table_of (replicate n 0) k ≡ 0
+zeros n k = ap (λ (f : ℕ → ℕ). f k) (repeat_table n 0)

@@ -60,6 +60,14 @@ pub at-most : (most n : ℕ) → n ≤ most → at_most most n ≡ n
 unfolding at_most
 at-most most n h = rw (at_most, le-ltb most n h)
 
+pub at-most-le : (most n : ℕ) → at_most most n ≤ most
+unfolding at_most
+at-most-le most n = go (ltb most n) refl
+  where
+    go : (b : Bool) → ltb most n ≡ b → elim b [ true ↦ most | false ↦ n ] ≤ most
+    go true e = omega arith
+    go false e = ltb-false most n e
+
 -- Entry after entry: where a step reads the entry that stands at its place, all of them are read, and the place is past them.
 module _ {A : Type 0} (bytes : List ℕ) (put : ℕ → List ℕ) (act : A → ℕ → A) (step : ℕ × A → ℕ × A) (P : ℕ → Type 0) (one : (k at : ℕ) (a : A) (rest : List ℕ) → P k → Stands bytes at (put k) rest → step (at, a) ≡ (at + length (put k), act a k)) where
   pub again_flat : (ks : List ℕ) → Each P ks → (at : ℕ) (a : A) (rest : List ℕ) → Stands bytes at (flat put ks) rest → again step (length ks) (at, a) ≡ (at + length (flat put ks), foldl act a ks)

@@ -5,9 +5,11 @@ use mathlib.Core.Path.{◌≡◌, refl, sym, ap, ◌∙◌}
 use Prim.Native.Nat.{ℕ, suc, ◌+◌, ◌≤◌, ◌<◌}
 use native.Mathlib.Omega.{arith}
 use native.Mathlib.Decide.{dec_lt}
+use native.Mathlib.Numerals.{add-one}
 use lib.Dec.{eqb}
 use lib.ListN.{length, get_or, take, drop, drop_of_length-le, length-drop}
 use lib.Seq.{drop-cons, drop-drop}
+use borrow.Author.Tests.{eq-eqb, ne_eqb}
 use Rattle.std.specs.List.{position_or_len}
 use Rattle.std.proofs.lemmas.List.Recursion.{is_position_or_len}
 use Rattle.textlines.specs.Parts.{joined, parts_of, up_to, part_at, place_past}
@@ -77,6 +79,13 @@ parts_next stop b (x ∷ l) = one_more stop b (x ∷ l) (ap (joined b) (parts_ne
 -- ---- at a place of a text
 
 module _ (stop : ℕ) (s : List ℕ) (at : ℕ) where
+  -- at a stop byte, at another byte, and at the end
+  pub part_stops : at < length s → get_or s at 0 ≡ stop → part_at stop s at ≡ []
+  part_stops h e = rw (drop-cons s at 0 h) (at-stop stop (get_or s at 0) (drop (suc at) s) (eq-eqb (get_or s at 0) stop e))
+
+  pub part_goes_on : at < length s → (get_or s at 0 ≡ stop → ⊥) → part_at stop s at ≡ get_or s at 0 ∷ part_at stop s (at + 1)
+  part_goes_on h n = rw (drop-cons s at 0 h, add-one at) (before-stop stop (get_or s at 0) (drop (suc at) s) (ne_eqb (get_or s at 0) stop n))
+
   pub part_none : length s ≤ at → part_at stop s at ≡ []
   unfolding up_to
   part_none h = rw (drop_of_length-le s h)

@@ -1,11 +1,12 @@
 -- What holds of every word, each by one test that is computed over all of them. Assumes nothing.
 use mathlib.Core.Bool.{Bool, true, false}
-use mathlib.Core.List.{List, [], map}
+use mathlib.Core.List.{List, [], ◌∷◌, map}
 use mathlib.Core.Path.{◌≡◌, refl, sym, ap, ◌∙◌}
-use Prim.Native.Nat.{ℕ, ◌≤◌, ◌<◌}
+use Prim.Native.Nat.{ℕ, zero, suc, ◌≤◌, ◌<◌}
+use native.Mathlib.Nat.{not-suc-le-zero, le_of_suc-le-suc}
 use native.Mathlib.Omega.{arith}
 use lib.Dec.{T, eqb, ltb, leb}
-use lib.ListN.{length, get_or-eq_default}
+use lib.ListN.{length, get_or, get_or-eq_default}
 use borrow.Author.Tests.{ltb-true, ltb-false, leb-true, eqb-true}
 use Rattle.words.specs.ScriptWords.{Word, words, word_count, words_count, word_of, spelling, fitting, takes, which, place_in}
 use Rattle.words.specs.Bytes.{same}
@@ -17,6 +18,12 @@ none = record { spelling = []; numbers = 0; listed = false }
 
 pub past-last : (k : ℕ) → word_count ≤ k → word_of k ≡ none
 past-last k h = get_or-eq_default words none (rw words_count h)
+
+-- within a list it does not matter what would stand past its end
+pub get_d-within {ℓ} : {A : Type ℓ} (l : List A) (i : ℕ) (d e : A) → i < length l → get_or l i d ≡ get_or l i e
+get_d-within [] i d e h = absurd (not-suc-le-zero h)
+get_d-within (x ∷ l) zero d e h = refl
+get_d-within (x ∷ l) (suc i) d e h = get_d-within l i d e (le_of_suc-le-suc h)
 
 -- a number is that of a word, or past the last
 pub cases : (P : ℕ → Type 0) → ((k : ℕ) → k < word_count → P k) → ((k : ℕ) → word_count ≤ k → P k) → (k : ℕ) → P k
@@ -39,12 +46,19 @@ over-words f t k h = truth (f k) (at (λ k x. f k) lengths t k h)
     truth true t = refl
     truth false t = absurd t
 
--- whatever the number, its word is short
+-- whatever the number, its word is short, and takes few numbers
 pub spelling-short : (k : ℕ) → length (spelling k) < 15
 unfolding lengths spelling words
 spelling-short =
     cases (λ k. length (spelling k) < 15)
     (λ k h. ltb-true _ _ (over-words (λ k. ltb (length (spelling k)) 15) tt k h))
+    (λ k h. rw (past-last k h) (omega arith))
+
+pub numbers-few : (k : ℕ) → (word_of k).numbers < 16
+unfolding lengths words
+numbers-few =
+    cases (λ k. (word_of k).numbers < 16)
+    (λ k h. ltb-true _ _ (over-words (λ k. ltb (word_of k).numbers 16) tt k h))
     (λ k h. rw (past-last k h) (omega arith))
 
 -- Each word is found at its own number, so no two are alike.

@@ -1,10 +1,10 @@
 -- Every part is read from where the one before it ended, so that the state holds what is gathered. Assumes nothing.
-use Rattle.policyread.proofs.Whole.{gathered-state}
+use Rattle.policyread.proofs.Whole.{gathered-left}
 use Rattle.policyread.proofs.gather.Goals as goal
 
 pub returns : goal.returns
 returns c =
-    gathered-state c.args.bytes.now _ _ _ _ _ _ _ _ _ _ _ _ _ _ _ _ _ _ _
+    gathered-left c.args.bytes.now _ _ _ _ _ _ _ _ _ _ _ _ _ _ _ _ _ _ _
     c.start.ensures
     c.read_section.ensures
     c.roles.ensures

@@ -5,7 +5,7 @@ use Rattle.roleset.proofs.Laws.{has-without}
 use Rattle.roleset.proofs.Taking.{Next, next, at-end}
 use Rattle.hierarchy.specs.Lines.{table_of}
 use Rattle.policyform.specs.Encode.{pair_in}
-use Rattle.policywrite.proofs.Turning.{mark_step, none_left}
+use Rattle.policywrite.proofs.Turning.{mark_within, none_left}
 use Rattle.policywrite.proofs.mark.Goals as goal
 use Rattle.policywrite.proofs.mark.Goals.{In-Some}
 
@@ -20,7 +20,7 @@ pub loop-r-preserved : goal.loop-r-preserved
 loop-r-preserved c =
     let head = c.loop-r in
     let t = taken (goal.at.loop-r-preserved c).In-Some in
-    λ k l. rw c.with.ensures.is (mark_step head.rows _ c.in-Some.r c.args.p k (omega arith) t.small c.requires (omega arith) head.r-iterator.rest c.next.new.self.rest l t.lowest.member (λ m h. rw t.rest (has-without head.r-iterator.rest c.in-Some.r m h))) ∙ head.invariant k l
+    λ k l. rw c.with.ensures.is (mark_within head.rows _ c.in-Some.r c.args.p k (omega arith) t.small c.requires (omega arith) head.r-iterator.rest c.next.new.self.rest l t.lowest.member (λ m h. rw t.rest (has-without head.r-iterator.rest c.in-Some.r m h))) ∙ head.invariant k l
 
 pub returns : goal.returns
 returns c = λ k l. none_left (pair_in (table_of c.loop-r.rows) k) c.loop-r.r-iterator.rest _ k (at-end c.loop-r.r-iterator.fits c.in-None.ensures.steps.0) ∙ c.loop-r.invariant k l
