@@ -15,7 +15,7 @@ use Rattle.policyform.proofs.Size.{encode-size}
 use Rattle.policyread.proofs.Whole.{gathered-file, gathered-counted}
 use Rattle.policycheck.specs.Tests.{Fits}
 use Rattle.policycheck.proofs.Forming.{fits-formed, formed-fits}
-use Rattle.policyfile.proofs.Settling.{settled-done, settled-refused}
+use Rattle.policyfile.proofs.Settling.{settled-done, settled-err}
 use mathlib.Core.Bool.{not}
 use Rattle.policyfile.proofs.load.Goals as goal
 use Rattle.policyfile.proofs.load.Goals.{Else-not-is_file, then-not-formed-via-then-not-formed, then-not-formed-via-else-not-formed+then-not-is_file}
@@ -44,7 +44,7 @@ pub returns-in_err-broken : goal.returns-in_err-broken
 unfolding told
 returns-in_err-broken c =
     let passed_on : c.from_residual.result ≡ Err c.in_err-broken.field-0.0 = search rules in
-    rw passed_on (inr (record { model = _; file = file (goal.at.returns-in_err-broken c).Else-not-is_file; tells = settled-refused _ _ _ _ c.in_err-broken.ensures }))
+    rw passed_on (inr (record { model = _; file = file (goal.at.returns-in_err-broken c).Else-not-is_file; tells = settled-err _ _ _ _ c.in_err-broken.ensures }))
 
 pub returns : goal.returns
 unfolding told
