@@ -55,9 +55,11 @@ fn refuse(script: &[u8], p: Progress, buf: &mut [u8]) -> Printed
     ensures { Refuses script.now p buf.old buf.new result }
 {
     let answer = numbers::number_of(Err(Refusal::NotOfForm));
+    let mut tally = p.tally;
+    tally.bump(false);
     let progress = Progress {
         at: script.len(),
-        tally: p.tally.counted(false),
+        tally,
     };
     Printed {
         len: script::answer_text(buf, answer, &[]),

@@ -127,11 +127,13 @@ pub fn turn(script: &[u8], state: &mut [u64; PLACES], p: Progress, buf: &mut [u8
         at: p.at,
     };
     let a = answer_line(state, reader.next(b'\n'), buf);
+    let mut tally = p.tally;
+    tally.bump(a.ok);
     Turned {
         len: a.len,
         next: Progress {
             at: reader.at,
-            tally: p.tally.counted(a.ok),
+            tally,
         },
     }
 }
