@@ -1,2 +1,3 @@
 pub mod Back
+mod Padding
 mod Gathering

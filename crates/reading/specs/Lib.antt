@@ -1,2 +1,3 @@
 pub mod Form
+pub mod Padding
 pub mod Holding

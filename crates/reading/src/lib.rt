@@ -14,25 +14,31 @@ use words::Word;
 // The most numbers of a line.
 const MOST: usize = 256;
 
-// The numbers of a line, in the front of an array.
-#[derive(Drop)]
+// The numbers of a line, in the front of an array, zeros after them.
+#[derive(Clone, Copy)]
 pub struct Numbers {
     count: usize,
     numbers: [u16; MOST],
 }
 
 impl Model for Numbers {
-    ghost use Rattle.std.specs.Prelude.{◌≤◌, List, take, ℕ};
+    ghost use Rattle.std.specs.Prelude.{List, length, take, ℕ};
+    ghost use Rattle.reading.specs.Padding.{padded, Holds};
 
     ghost Value = { List ℕ };
 
     ghost view = { λ n. take n.count n.numbers };
 
-    ghost invariant = { λ n. n.count ≤ 256 };
+    ghost invariant = { λ n. Holds n.count n.numbers };
+
+    ghost inverse = { λ l. record { count = length l; numbers = padded l } };
+
+    ghost inverse_ok = { λ n h i. record { count = h.as_many i; numbers = h.is i } };
 }
 
 impl Numbers {
     // No number yet.
+    #[tactic(auto, unfolding(crate::specs::Padding::padded))]
     fn new() -> Self
         ensures { result ≡ [] }
     {
@@ -63,7 +69,7 @@ impl Numbers {
 }
 
 // A line: its word, and the numbers that follow it.
-#[derive(Drop)]
+#[derive(Clone, Copy)]
 pub struct Line {
     pub word: Word,
     pub numbers: Numbers,
