@@ -17,9 +17,9 @@ pub enum Meant {
     Ask(Question),
 }
 
-// What the word asks for, with its first three numbers.
+// What a word asks for, with its first three numbers.
 #[tactic(auto, unfolding(crate::specs::Meaning::meant, crate::specs::Meaning::meanings))]
-pub fn meaning(word: Word, a: u16, b: u16, c: u16) -> Meant
+fn of_word(word: Word, a: u16, b: u16, c: u16) -> Meant
     ensures { Some result ≡ meant (number word) a b c }
 {
     let user_a = User { number: a };
@@ -75,4 +75,12 @@ pub fn meaning(word: Word, a: u16, b: u16, c: u16) -> Meant
         Word::DsdCount => Ask(Question::SetCount(dsd, set_a)),
         Word::EndAll => Do(Command::EndAll(user_a)),
     }
+}
+
+// What the word with a number asks for. A number past the last word asks for nothing.
+pub fn meaning(word: u16, a: u16, b: u16, c: u16) -> Option<Meant>
+    ensures { result ≡ meant word a b c }
+{
+    let word = words::numbered(word)?;
+    Some(of_word(word, a, b, c))
 }

@@ -95,7 +95,7 @@ fn gives(word: Word, numbers: &[u16], text: &[u8]) -> bool
     ensures { result ≡ same (render (number word) numbers.now) text.now }
 {
     let mut buf = [0u8; 2048];
-    let next = words::put_word(&mut buf, 0, word);
+    let next = words::put_word(&mut buf, 0, words::number(word));
     let end = decimal::put_numbers(&mut buf, next, numbers);
     &buf[..end] == text
 }
@@ -109,8 +109,9 @@ pub fn read_line(text: &[u8]) -> Option<Line>
         return None;
     }
     let line = gather(text)?;
+    let word = words::number(line.word);
     let numbers = line.numbers.as_slice();
-    if words::takes(line.word, numbers.len() as u16) && gives(line.word, numbers, text) {
+    if words::takes(word, numbers.len() as u16) && gives(line.word, numbers, text) {
         Some(line)
     } else {
         None

@@ -55,6 +55,6 @@ module _ (text : List ℕ) (l : Line) (r : parse text ≡ line (number l.word) l
   enough = takes-enough (number l.word) (length l.numbers) (parsed-written text (number l.word) l.numbers r).fits
 
   -- what the text tells: what its command or question tells
-  pub obeys : (m : Model) (x : Meant) → Some x ≡ meant (number l.word) (get_or l.numbers 0 0) (get_or l.numbers 1 0) (get_or l.numbers 2 0) → obey m text ≡ doing m (Some x) (drop (word_of (number l.word)).numbers l.numbers)
+  pub obeys : (m : Model) (x : Option Meant) → x ≡ meant (number l.word) (get_or l.numbers 0 0) (get_or l.numbers 1 0) (get_or l.numbers 2 0) → obey m text ≡ doing m x (drop (word_of (number l.word)).numbers l.numbers)
   unfolding obey
   obeys m x e = ap (obeyed m) r ∙ ap (λ (o : Option Meant). doing m o (drop (word_of (number l.word)).numbers l.numbers)) (sym e)

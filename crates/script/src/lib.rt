@@ -95,10 +95,12 @@ pub fn answer_line(state: &mut [u64; PLACES], text: &[u8], buf: &mut [u8]) -> An
     let a = number_at(numbers, 0);
     let b = number_at(numbers, 1);
     let c = number_at(numbers, 2);
-    let from = words::before_list(line.word) as usize;
-    match meaning::meaning(line.word, a, b, c) {
-        Meant::Do(c) => obey_command(state, c, &numbers[from..], buf),
-        Meant::Ask(q) => ask_question(state, q, buf),
+    let word = words::number(line.word);
+    let from = words::before_list(word) as usize;
+    match meaning::meaning(word, a, b, c) {
+        Some(Meant::Do(c)) => obey_command(state, c, &numbers[from..], buf),
+        Some(Meant::Ask(q)) => ask_question(state, q, buf),
+        None => put_answer(buf, Err(Refusal::NotOfForm), &[]),
     }
 }
 

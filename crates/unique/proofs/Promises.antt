@@ -253,6 +253,8 @@ decimal =
 pub words : promises.Words
 words =
     record {
+      number = λ κs a x y e f vx vy p q. p ∙ sym q;
+      numbered = λ κs a x y e f vx vy p q. p ∙ sym q;
       which = λ κs a x y e f vx vy p q. p ∙ sym q;
       put_word = λ κs a x y e f vx vy p q. laws.put_one p q;
       before_list = λ κs a x y e f vx vy p q. p ∙ sym q;
@@ -279,7 +281,7 @@ reading =
 pub meaning : promises.Meaning
 meaning =
     record {
-      meaning = λ κs a x y e f vx vy p q. laws.some-one p q;
+      meaning = λ κs a x y e f vx vy p q. p ∙ sym q;
     }
 
 pub script : promises.Script

@@ -216,6 +216,8 @@ pub record Decimal : Type 0 where
   pub value : Unique decimal.value.Kinds.ps decimal.value.Kinds.r decimal.value.Reads.Post
 
 pub record Words : Type 0 where
+  pub number : Unique words.number.Kinds.ps words.number.Kinds.r words.number.Reads.Post
+  pub numbered : Unique words.numbered.Kinds.ps words.numbered.Kinds.r words.numbered.Reads.Post
   pub which : Unique words.which.Kinds.ps words.which.Kinds.r words.which.Reads.Post
   pub put_word : UniqueLent words.put_word.Kinds.ps words.put_word.Kinds.r words.put_word.Reads.Post (λ κs e. e.0.now)
   pub before_list : Unique words.before_list.Kinds.ps words.before_list.Kinds.r words.before_list.Reads.Post

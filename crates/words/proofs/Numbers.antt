@@ -9,10 +9,12 @@ use lib.Dec.{eqb}
 use borrow.Author.Tests.{eqb-true}
 use Rattle.std.proofs.Common.{Option, Some, None}
 use Rattle.std.specs.List.{slice_get, find}
-use Rattle.std.specs.Option.{option_map}
+use Rattle.std.specs.Option.{option_map, MatchOption}
+use Rattle.std.specs.Slice.{IsItemAt}
+use denote.Ref.{Bor}
 use Rattle.std.specs.Str.{bytes_eq}
 use Rattle.std.proofs.lemmas.List.{get_or-map, length-map}
-use Rattle.std.proofs.lemmas.Option.{slice_get_within, slice_get-get_or, none-some}
+use Rattle.std.proofs.lemmas.Option.{slice_get_within, slice_get-get_or, slice_get-map, slice_get_past, none-some}
 use lib.ListN.{length, get_or}
 use Rattle.words.specs.Bytes.{same}
 use Rattle.words.specs.ScriptWords.{Word as ScriptWord, words, word_count, words_count, word_of, place_in, which}
@@ -95,11 +97,20 @@ module _ (rows : List Row) (table : map described rows ≡ words) where
   long = sym (length-map rows described) ∙ ap length table ∙ words_count
 
   -- the row at the number of a word is that of the word
-  pub row-within : (w : Word) → number w < length rows
-  row-within w = rw long (number_known w)
+  pub row-is : (k : ℕ) (d : Row) → k < length rows → described (get_or rows k d) ≡ word_of k
+  row-is k d h = sym (get_or-map described rows k d none h) ∙ ap (λ (l : List ScriptWord). get_or l k none) table
 
-  pub row-is : (w : Word) (d : Row) → described (get_or rows (number w) d) ≡ word_of (number w)
-  row-is w d = sym (get_or-map described rows (number w) d none (row-within w)) ∙ ap (λ (l : List ScriptWord). get_or l (number w) none) table
+  -- what is looked up at a number: its row, or nothing past the last
+  pub row-told : (k : ℕ) (x : Option (Bor Row)) → IsItemAt rows k x → MatchOption x (word_count ≤ k) (λ r. described r.now ≡ word_of k)
+  row-told k None h = omega (arith, long, h.3)
+  row-told k (Some r) h = ap described (h.3.1 r.now) ∙ row-is k r.now h.3.0
+
+  pub row-word : (k : ℕ) (x : Option (Bor Row)) → IsItemAt rows k x → map (λ (r : Row). r.0) rows ≡ in_order → option_map (λ (r : Bor Row). r.now.0) x ≡ named k
+  row-word k None h o = let past : length in_order ≤ k = omega (arith, long, h.3) in sym (slice_get_past in_order k past)
+  row-word k (Some r) h o =
+      ap (λ (r : Row). Some r.0) (h.3.1 r.now)
+      ∙ sym (ap (option_map (λ (r : Row). r.0)) (slice_get-get_or rows k r.now h.3.0))
+      ∙ sym (slice_get-map (λ (r : Row). r.0) rows k) ∙ ap (λ (l : List Word). slice_get l k) o
 
 -- the first row with the letters of a text is that of the word that it is
 first : (text : List ℕ) (rows : List Row) → option_map (λ (r : Row). r.0) (find (λ (r : Row). bytes_eq text r.1.now) rows) ≡ slice_get (map (λ (r : Row). r.0) rows) (place_in (map described rows) text)

@@ -1,10 +1,11 @@
 // The words of a script: which word a text is, a word put into a buffer, and how many numbers each takes.
 #![tactic(auto)]
 
-ghost use Rattle.std.specs.Prelude.{◌≡◌, map};
+ghost use Rattle.std.specs.Prelude.{◌≡◌, ◌≤◌, map, MatchOption};
+ghost use Rattle.std.specs.Option.{option_map};
 ghost use Rattle.text.specs.Putting.{Put};
 ghost use Rattle.words.specs.Rows.{described, in_order, named, number};
-ghost use Rattle.words.specs.ScriptWords.{spelling, takes, which, word_of, words};
+ghost use Rattle.words.specs.ScriptWords.{spelling, takes, which, word_count, word_of, words};
 
 use Follows::{Exactly, ThenRoles};
 
@@ -119,18 +120,26 @@ fn rows() -> &'static [Row]
 }
 
 // The number of a word: its place in the table.
-fn number(word: Word) -> usize
+pub fn number(word: Word) -> u16
     ensures { result ≡ number word }
 {
-    word as usize
+    word as u16
 }
 
-// The row of a word.
-fn row_of(word: Word) -> &'static Row
-    ensures { described result.now ≡ word_of (number word) }
+// Kept (1): what is promised of a number of a word, here and of `meaning`, holds of any number: one that takes a `Word` would ask more of the caller.
+// The row at a number. There is none past the last word.
+fn row_of(k: u16) -> Option<&'static Row>
+    ensures row { MatchOption result (word_count ≤ k) (λ row. described row.now ≡ word_of k) }
+    ensures word { option_map (λ row. row.now.0) result ≡ named k }
 {
-    let rows = rows();
-    &rows[number(word)]
+    rows().get(usize::from(k))
+}
+
+// The word with a number, if it is that of one.
+pub fn numbered(k: u16) -> Option<Word>
+    ensures { result ≡ named k }
+{
+    row_of(k).map(|row| row.0)
 }
 
 // The word that the text is, if it is one.
@@ -140,29 +149,35 @@ pub fn which(text: &[u8]) -> Option<Word>
     rows().iter().find(|row| text == row.1).map(|row| row.0)
 }
 
-// Puts a word.
-pub fn put_word(buf: &mut [u8], at: usize, word: Word) -> usize
-    ensures { Put buf.old at (spelling (number word)) buf.new result }
+// Puts the word with a number; of no word, no bytes.
+pub fn put_word(buf: &mut [u8], at: usize, k: u16) -> usize
+    ensures { Put buf.old at (spelling k) buf.new result }
 {
-    let Row(_, letters, _) = row_of(word);
+    let Some(Row(_, letters, _)) = row_of(k) else {
+        return at;
+    };
     text::put_text(buf, at, letters)
 }
 
 // How many numbers stand before the list of roles.
-pub fn before_list(word: Word) -> u16
-    ensures { result ≡ (word_of (number word)).numbers }
+pub fn before_list(k: u16) -> u16
+    ensures { result ≡ (word_of k).numbers }
 {
-    let Row(_, _, follows) = row_of(word);
+    let Some(Row(_, _, follows)) = row_of(k) else {
+        return 0;
+    };
     match follows {
         Exactly(count) | ThenRoles(count) => *count,
     }
 }
 
 // May the word be followed by so many numbers?
-pub fn takes(word: Word, n: u16) -> bool
-    ensures { result ≡ takes (number word) n }
+pub fn takes(k: u16, n: u16) -> bool
+    ensures { result ≡ takes k n }
 {
-    let Row(_, _, follows) = row_of(word);
+    let Some(Row(_, _, follows)) = row_of(k) else {
+        return n == 0;
+    };
     match follows {
         Exactly(count) => n == *count,
         ThenRoles(count) => *count <= n,

@@ -20,7 +20,7 @@ use Rattle.reading.proofs.gives.Goals.{After-put_numbers-end}
 -- what stands in the buffer: the line, at its front
 put : (c : After-put_numbers-end) → Put (replicate 2048 0) 0 (render (number c.args.word) c.args.numbers.now) c.put_numbers-end.new.buf c.put_numbers-end.result
 unfolding render
-put c = put_then c.put_word-next.ensures c.put_numbers-end.ensures
+put c = put_then (rw c.number.ensures at c.put_word-next.ensures) c.put_numbers-end.ensures
 
 room : (c : After-put_numbers-end) → length (render (number c.args.word) c.args.numbers.now) ≤ length {A = ℕ} (replicate 2048 0)
 unfolding render

@@ -15,7 +15,7 @@ pub returns-then-gives : goal.returns-then-gives
 returns-then-gives c =
     let g : Gathered c.args.text.now c.in_ok-line.line = gathered-is _ _ (sym c.gather.ensures ∙ c.in_ok-line.was) in
     let same_numbers = c.as_slice-numbers.ensures in
-    sym (line-read _ _ g c.if-long.false (rw same_numbers at (sym c.takes.ensures) ∙ c.if-takes.true) (rw same_numbers at (sym c.gives.ensures) ∙ c.if-gives.true))
+    sym (line-read _ _ g c.if-long.false (rw (same_numbers, c.number-word.ensures) at (sym c.takes.ensures) ∙ c.if-takes.true) (rw same_numbers at (sym c.gives.ensures) ∙ c.if-gives.true))
 
 pub returns-else-takes : goal.returns-else-takes
 returns-else-takes c =
@@ -23,5 +23,5 @@ returns-else-takes c =
     let same_numbers = c.as_slice-numbers.ensures in
     elim c.else-takes.branch [
       | else-takes-via-then-takes+else-gives w ↦ sym (line-differs _ _ g (rw same_numbers at (sym w.gives.ensures) ∙ w.if-gives.false))
-      | else-takes-via-else-takes w ↦ sym (line-misshapen _ _ g (rw same_numbers at (sym c.takes.ensures) ∙ w.if-takes.false))
+      | else-takes-via-else-takes w ↦ sym (line-misshapen _ _ g (rw (same_numbers, c.number-word.ensures) at (sym c.takes.ensures) ∙ w.if-takes.false))
     ]
