@@ -59,10 +59,19 @@ fn assignees(state: &[u64; PLACES]) -> bool
 fn tables_fine(state: &[u64; PLACES]) -> bool
     ensures { Tells result (TablesFine (view state.now)) }
 {
-    let lines = within(state, juniors(state));
-    let given = within(state, assigned(state));
-    let held = within(state, holders(state));
-    lines && given && held && seniors(state) && assignees(state)
+    if !seniors(state) {
+        return false;
+    }
+    if !within(state, juniors(state)) {
+        return false;
+    }
+    if !assignees(state) {
+        return false;
+    }
+    if !within(state, assigned(state)) {
+        return false;
+    }
+    within(state, holders(state))
 }
 
 // Kept (2): of a set and of a session other things are asked; one function would take them as closures and share an `if`.
