@@ -126,9 +126,22 @@ pub fn size(s: u64) -> u64
     }
 }
 
-// Are n roles or more in s? The lowest are taken away until n are, or none is left: a rule asks for two or three, so that it need not know how many there are.
+// Has s one role at most?
+fn few(s: u64) -> bool
+    ensures { result ≡ true → count s ≤ 1 }
+{
+    match lowest(s) {
+        None => true,
+        Some(r) => without(s, r) == 0,
+    }
+}
+
+// Are n roles or more in s? A rule asks for two or three, and most often there is one at most, which is seen at once. Else the lowest are passed over until n have come, or none is left: how many there are is not counted.
 pub fn at_least(s: u64, n: u64) -> bool
     ensures { result ≡ leb n (count s) }
 {
-    members(s).take(n as usize).count() == n as usize
+    if 1 < n && few(s) {
+        return false;
+    }
+    n == 0 || members(s).nth(n as usize - 1).is_some()
 }
