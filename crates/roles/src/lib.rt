@@ -96,20 +96,19 @@ pub fn norole(state: &mut [u64; PLACES], r: Role) -> Answer
         return Err(Refusal::StandsInSet);
     }
     let at = r.number as usize;
-    let mut juniors = juniors_table(state);
-    let above = sweeps::strip(&mut juniors, r);
-    let below = roleset::count(juniors[at]) as u64;
-    juniors[at] = 0;
-    let lines = Left {
-        table: juniors,
-        gone: above + below,
+    let mut lines = Left {
+        table: juniors_table(state),
+        gone: 0,
     };
-    let mut assigned = assigned_table(state);
-    let held = sweeps::strip(&mut assigned, r);
-    let assignments = Left {
-        table: assigned,
-        gone: held,
+    let above = sweeps::strip(&mut lines.table, r);
+    let below = roleset::count(lines.table[at]) as u64;
+    lines.table[at] = 0;
+    lines.gone = above + below;
+    let mut assignments = Left {
+        table: assigned_table(state),
+        gone: 0,
     };
+    assignments.gone = sweeps::strip(&mut assignments.table, r);
     let kept = sweeps::shed(&lines.table, &assignments.table, state);
     put_without(state, r, &lines, &assignments);
     put_all_active(state, &kept);
