@@ -40,7 +40,13 @@ fn meet(roles: u64, set: u64) -> bool
 fn count(table: &[u64], roles: u64) -> usize
     ensures { result ≡ length (meeting roles table.now) }
 {
-    table.iter().filter(|set| meet(roles, **set)).count()
+    let mut n = 0;
+    for set in table {
+        if meet(roles, *set) {
+            n += 1;
+        }
+    }
+    n
 }
 
 // Lists the places of the table that have one of the roles. It counts before it writes, since a refusal leaves the buffer as it was; 15.
